@@ -1,0 +1,17 @@
+pub mod CivilLemmas
+mod IdExamples
+pub mod IdLemmas
+mod JsonBack
+mod JsonExamples
+mod JsonKept
+mod JsonLevels
+mod JsonReading
+mod JsonSame
+mod JsonTurns
+pub mod LineLemmas
+mod MomentExamples
+pub mod MomentTextLemmas
+mod NameExamples
+mod OutsideExamples
+pub mod OutsideLemmas
+mod JsonFirst

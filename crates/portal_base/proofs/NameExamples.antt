@@ -1,0 +1,39 @@
+-- Texts that are names of at most a hundred characters, and the faults of others.
+use Rattle.std.proofs.Common.{◌≡◌, ◌∷◌, [], Some, None, refl}
+use Rattle.std.specs.Prelude.{codes}
+use Rattle.std.specs.Str.{chars}
+use Rattle.portal_base.specs.declared.name.NameFault.TheVariants.{Length, Character, Reserved}
+use Rattle.portal_base.specs.Name.{name_fault}
+
+one_letter : name_fault (codes "a") 100 ≡ Some Length
+unfolding chars
+one_letter = refl
+
+two_letters : name_fault (codes "ab") 100 ≡ None
+unfolding chars
+two_letters = refl
+
+-- One character of two bytes: é.
+one_character : name_fault (195 ∷ 169 ∷ []) 100 ≡ Some Length
+unfolding chars
+one_character = refl
+
+capital : name_fault (codes "Ab") 100 ≡ Some Character
+unfolding chars
+capital = refl
+
+new : name_fault (codes "new") 100 ≡ Some Reserved
+unfolding chars
+new = refl
+
+harvested : name_fault (codes "hv-x") 100 ≡ Some Reserved
+unfolding chars
+harvested = refl
+
+id : name_fault (codes "00000000-0000-0000-0000-000000000001") 100 ≡ Some Reserved
+unfolding chars
+id = refl
+
+too_long : name_fault (codes "trees") 4 ≡ Some Length
+unfolding chars
+too_long = refl

@@ -1,0 +1,26 @@
+use Rattle.std.proofs.Common.{◌≡◌, ◌∙◌, ◌++◌, refl, ap, subst, take, length, arith, Some, None}
+use Rattle.std.specs.Prelude.{position, ◌==◌}
+use Rattle.std.proofs.lemmas.List.{drop_all}
+use Rattle.portal_base.specs.Drafts.{KeepsRaw}
+use Rattle.portal_base.proofs.LineLemmas.{TakesPiece-at, HasNoFeed-all}
+use Rattle.portal_base.proofs.lines.Draft.take_from.Goals as goal
+
+pub returns-in_ok-add-in-Some : goal.returns-in_ok-add-in-Some
+returns-in_ok-add-in-Some c =
+    let found : position (λ b. b == 10) c.args.window.now ≡ Some c.in-Some.place = grind arith in
+    let piece = TakesPiece-at c.args.window.now c.in-Some.place found in (
+      take c.in-Some.place c.args.window.now,
+      (piece.0, rw c.skip.ensures piece.1),
+      λ raw keeps.
+          let same : take c.in-Some.place c.bytes-bytes.result.now ≡ take c.in-Some.place c.args.window.now = ap (take c.in-Some.place) c.bytes-bytes.ensures in
+          subst (λ v. KeepsRaw c.args.longest (raw ++ v) c.add.new.self.kept.items c.add.new.self.is_over) same (c.in_ok-add-in-Some.ensures raw keeps),
+    )
+
+pub returns-in_ok-add-in-None : goal.returns-in_ok-add-in-None
+returns-in_ok-add-in-None c =
+    let found : position (λ b. b == 10) c.args.window.now ≡ None = grind arith in (
+      c.args.window.now,
+      (HasNoFeed-all c.args.window.now found, refl, c.skip-in-None.ensures ∙ drop_all (length c.bytes-bytes.result.now) c.args.window.now (omega (arith, ap length c.bytes-bytes.ensures))),
+      λ raw keeps.
+          subst (λ v. KeepsRaw c.args.longest (raw ++ v) c.add-in-None.new.self.kept.items c.add-in-None.new.self.is_over) c.bytes-bytes.ensures (c.in_ok-add-in-None.ensures raw keeps),
+    )

@@ -1,0 +1,15 @@
+use Rattle.std.proofs.Common.{◌≡◌, ◌+◌, ◌-◌, ◌≤◌}
+use Rattle.portal_base.proofs.LineLemmas.{UnderWay}
+use Rattle.portal_base.proofs.lines.LineReader.next.Given as goal
+
+-- part of a line came
+abbrev pub invariant-loop-self : goal.invariant-loop-self
+invariant-loop-self g l = record {
+  under_way : UnderWay l.fn.self.held (g.S.Source.to_come l.fn.source) l.fn.self.given l.fn.self.longest l.self-inside.window (g.S.Source.to_come l.source) l.self-inside.given l.self-inside.draft.kept.items l.self-inside.draft.is_over;
+  longest : l.self-inside.longest ≡ l.fn.self.longest;
+  most : l.self-inside.most ≡ l.fn.self.most;
+  counts : g.S.Source.faults l.fn.source ≤ g.S.Source.faults l.source;
+}
+
+abbrev pub decreases-loop-self : goal.decreases-loop-self
+decreases-loop-self g l = l.self-inside.most + 1 - l.self-inside.given

@@ -1,0 +1,89 @@
+//! A clock and a drawer of numbers that only count their calls.
+ghost use Rattle.std.specs.Prelude.{◌≡◌};
+ghost use Rattle.portal_base.specs.Counted.{script_moment, next_count};
+
+use crate::moment::Moment;
+use crate::nonce::Nonce;
+use crate::outside::{Clock, Nonces};
+use std::marker::Model;
+
+/// 2024-01-01T00:00:00, in seconds since 1970-01-01T00:00:00.
+const SCRIPT_START: i64 = 1_704_067_200;
+
+/// How many seconds there are from the start to the last moment.
+const SCRIPT_LENGTH: u64 = 251_698_233_599;
+
+/// A clock that answers 2024-01-01T00:00:00, and one second more at each call, up to the last moment of all. A contract
+/// sees it as the number of calls so far. At the last number of a `u64` it stays, and tells no more what it gave.
+#[derive(Drop)]
+pub struct ScriptClock {
+    calls: u64,
+}
+
+impl Model for ScriptClock {
+    ghost use Rattle.std.specs.Prelude.{ℕ};
+
+    ghost Value = { ℕ };
+
+    ghost view = { λ c. c.calls };
+}
+
+impl ScriptClock {
+    pub fn new() -> ScriptClock
+        ensures { result ≡ 0 }
+    {
+        ScriptClock { calls: 0 }
+    }
+}
+
+impl Clock for ScriptClock {
+    ghost use Rattle.portal_base.specs.Counted.{script_moments, told_below_last};
+
+    ghost given = { told_below_last script_moments };
+
+    fn now(&mut self) -> Moment
+        ensures moment { result ≡ script_moment self.old }
+        ensures calls { self.new ≡ next_count self.old }
+    {
+        let elapsed = self.calls.min(SCRIPT_LENGTH);
+        self.calls = self.calls.saturating_add(1);
+        Moment::from_seconds(SCRIPT_START + elapsed as i64).unwrap()
+    }
+}
+
+/// What draws 1, 2, 3 and so on, up to the last number of a `u64`. A contract sees it as the number drawn last. At the
+/// last number it stays, and tells no more what it gave.
+#[derive(Drop)]
+pub struct CountNonces {
+    last: u64,
+}
+
+impl Model for CountNonces {
+    ghost use Rattle.std.specs.Prelude.{ℕ};
+
+    ghost Value = { ℕ };
+
+    ghost view = { λ c. c.last };
+}
+
+impl CountNonces {
+    pub fn new() -> CountNonces
+        ensures { result ≡ 0 }
+    {
+        CountNonces { last: 0 }
+    }
+}
+
+impl Nonces for CountNonces {
+    ghost use Rattle.portal_base.specs.Counted.{numbers_to, told_below_last};
+
+    ghost given = { told_below_last numbers_to };
+
+    fn next(&mut self) -> Nonce
+        ensures number { result.0 ≡ self.new }
+        ensures last { self.new ≡ next_count self.old }
+    {
+        self.last = self.last.saturating_add(1);
+        Nonce(u128::from(self.last))
+    }
+}

@@ -1,0 +1,21 @@
+//! What every layer of the portal stands on: texts, lists, names, moments, JSON, and the outside as traits.
+#![tactic(auto)]
+
+pub mod caller;
+pub mod copy;
+pub mod counted;
+#[cfg(test)]
+mod device_tests;
+pub mod json_value;
+pub mod lines;
+pub mod members;
+pub mod memory;
+pub mod moment;
+pub mod name;
+pub mod nonce;
+pub mod outside;
+pub mod seq;
+pub mod std_adapters;
+pub mod text;
+pub mod value_laws;
+pub mod write;

@@ -1,0 +1,301 @@
+//! Lines of a source of bytes, each of bounded length.
+ghost use Rattle.std.specs.Prelude.{◌≡◌, ◌↔◌, ◌<◌, ◌≤◌, ◌+◌, ◌≢◌, ◌==◌, ℕ, List, [], ◌++◌, ◌∷◌, length, drop, position, false, Ok, Err, IfOk, OnOk, OnErr};
+ghost use Rattle.std.specs.Str.Lines.{strip_carriage_return};
+ghost use Rattle.portal_base.specs.Outside.{Gives, Rose, IsAtEnd};
+ghost use Rattle.portal_base.specs.Lines.{TakesLine, SkipsLine, FindsEnd, Receives, bytes_left};
+ghost use Rattle.portal_base.specs.Drafts.{KeepsRaw, TakesPiece};
+
+use crate::outside::{Failed, Source};
+use std::alloc::{AllocError, Global};
+use std::marker::Model;
+
+/// How many bytes a reader of lines asks of its source at once.
+const WINDOW: usize = 65_536;
+
+/// What the next line is.
+#[derive(Clone, Copy, Debug, PartialEq, Eq)]
+pub enum NextLine {
+    /// A line, which the reader holds.
+    Line,
+    /// A line of more than the most bytes, which is not kept.
+    TooLong,
+    /// No line is left.
+    End,
+}
+
+/// Why the next line can't be told.
+#[derive(Clone, Copy, Debug, PartialEq, Eq)]
+pub enum LineFault {
+    /// The source failed.
+    Failed,
+    /// The source gave more bytes than it may.
+    TooMuch,
+    OutOfMemory,
+}
+
+impl From<Failed> for LineFault {
+    ghost use Rattle.std.specs.Prelude.{◌≡◌};
+    ghost use Rattle.portal_base.specs.declared.lines.LineFault.TheVariants.{Failed as failed};
+
+    ghost from_gives = { λ _ fault. fault ≡ failed };
+
+    fn from(_failed: Failed) -> LineFault {
+        LineFault::Failed
+    }
+}
+
+impl From<AllocError> for LineFault {
+    ghost use Rattle.std.specs.Prelude.{◌≡◌};
+    ghost use Rattle.portal_base.specs.declared.lines.LineFault.TheVariants.{OutOfMemory};
+
+    ghost from_gives = { λ _ fault. fault ≡ OutOfMemory };
+
+    fn from(_error: AllocError) -> LineFault {
+        LineFault::OutOfMemory
+    }
+}
+
+/// The bytes that a source gave and that are still to be used, in a buffer of fixed size.
+#[derive(Drop)]
+struct Window {
+    buffer: Vec<u8>,
+    start: usize,
+    end: usize,
+}
+
+impl Model for Window {
+    ghost use Rattle.std.specs.Prelude.{◌≡◌, ◌≤◌, ℕ, List, length, slice_range};
+
+    ghost Value = { List ℕ };
+
+    ghost view = { λ w. slice_range w.buffer.items w.start w.end };
+
+    ghost invariant = { λ w. (w.start ≤ w.end) × (w.end ≤ 65536) × (length w.buffer.items ≡ 65536) };
+}
+
+impl Window {
+    fn new(alloc: Global) -> Result<Window, AllocError>
+        ensures { IfOk result (λ window. window ≡ []) }
+    {
+        let buffer = vec![in alloc; 0; WINDOW]?;
+        Ok(Window {
+            buffer,
+            start: 0,
+            end: 0,
+        })
+    }
+
+    fn bytes(&self) -> &[u8]
+        ensures { result.now ≡ self.now }
+    {
+        &self.buffer[self.start..self.end]
+    }
+
+    fn skip(&mut self, count: usize)
+        requires { count ≤ length self.old }
+        ensures { self.new ≡ drop count self.old }
+    {
+        self.start += count;
+    }
+
+    // Reads the next bytes in place of those that were held, and says how many.
+    fn fill<S: Source>(&mut self, source: &mut S) -> Result<usize, Failed>
+        ensures count { IfOk result (λ count. count ≡ length self.new) }
+        ensures bytes { OnOk result (Gives (S.to_come source.old) self.new (S.to_come source.new)) }
+        ensures end { result ≡ Ok 0 → IsAtEnd (S.to_come source.old) }
+        ensures empty { OnErr result (self.new ≡ []) }
+        ensures kept { OnErr result (S.to_come source.new ≡ S.to_come source.old) }
+        ensures failed { OnErr result (Rose (S.faults source.old) (S.faults source.new)) }
+        ensures counts { S.faults source.old ≤ S.faults source.new }
+    {
+        self.start = 0;
+        self.end = 0;
+        let count = source.read(self.buffer.as_mut_slice())?;
+        self.end = count;
+        Ok(count)
+    }
+}
+
+// The place of the first line feed.
+fn find_feed(bytes: &[u8]) -> Option<usize>
+    ensures { result ≡ position (λ b. b == 10) bytes.now }
+{
+    bytes.iter().position(|byte| *byte == b'\n')
+}
+
+/// The bytes of a line before its line feed, as far as they came: all of them, or none where they are more than can
+/// make a line of the most bytes.
+#[derive(Drop)]
+struct Draft {
+    kept: Vec<u8>,
+    is_over: bool,
+}
+
+impl Draft {
+    // Starts a line.
+    fn clear(&mut self)
+        ensures kept { self.new.kept.items ≡ [] }
+        ensures over { self.new.is_over ≡ false }
+    {
+        self.kept.clear();
+        self.is_over = false;
+    }
+
+    // Adds a piece where the line may still be one of at most `longest` bytes and a carriage return.
+    fn add(&mut self, longest: usize, piece: &[u8]) -> Result<(), AllocError>
+        ensures { OnOk result ((raw : List ℕ) → KeepsRaw longest raw self.old.kept.items self.old.is_over →
+            KeepsRaw longest (raw ++ piece.now) self.new.kept.items self.new.is_over) }
+    {
+        if self.is_over {
+            return Ok(());
+        }
+        if self.kept.len() as u128 + piece.len() as u128 > longest as u128 + 1 {
+            self.is_over = true;
+            return Ok(());
+        }
+        self.kept.extend_from_slice(piece)
+    }
+
+    // Moves bytes from the front of the window up to the first line feed, which is dropped, and says whether there
+    // was one.
+    fn take_from(&mut self, longest: usize, window: &mut Window) -> Result<bool, AllocError>
+        ensures { IfOk result (λ found. (piece : List ℕ) × TakesPiece found window.old piece window.new
+            × ((raw : List ℕ) → KeepsRaw longest raw self.old.kept.items self.old.is_over →
+            KeepsRaw longest (raw ++ piece) self.new.kept.items self.new.is_over)) }
+    {
+        let bytes = window.bytes();
+        match find_feed(bytes) {
+            Some(place) => {
+                self.add(longest, &bytes[..place])?;
+                window.skip(place + 1);
+                Ok(true)
+            }
+            None => {
+                self.add(longest, bytes)?;
+                let count = bytes.len();
+                window.skip(count);
+                Ok(false)
+            }
+        }
+    }
+
+    // Drops a carriage return at the end.
+    fn strip(&mut self)
+        ensures kept { self.new.kept.items ≡ strip_carriage_return self.old.kept.items }
+        ensures over { self.new.is_over ≡ self.old.is_over }
+    {
+        if self.kept.last() == Some(&b'\r') {
+            self.kept.pop();
+        }
+    }
+
+    // What the line is, once it has come whole.
+    fn measure(&self, longest: usize) -> NextLine
+        ensures line { result ≡ NextLine.Line → (self.now.is_over ≡ false) × (length self.now.kept.items ≤ longest) }
+        ensures long { result ≡ NextLine.TooLong → self.now.is_over ≡ false → longest < length self.now.kept.items }
+        ensures some { result ≢ NextLine.End }
+    {
+        if self.is_over || self.kept.len() > longest {
+            NextLine::TooLong
+        } else {
+            NextLine::Line
+        }
+    }
+
+    // What the line is, where the source ended in place of its line feed.
+    fn measure_last(&self, longest: usize) -> NextLine
+        ensures end { result ≡ NextLine.End ↔ ((self.now.is_over ≡ false) × (self.now.kept.items ≡ [])) }
+        ensures line { result ≡ NextLine.Line → (self.now.is_over ≡ false) × (length self.now.kept.items ≤ longest) }
+        ensures long { result ≡ NextLine.TooLong → self.now.is_over ≡ false → longest < length self.now.kept.items }
+    {
+        if !self.is_over && self.kept.is_empty() {
+            NextLine::End
+        } else {
+            self.measure(longest)
+        }
+    }
+}
+
+/// Reads lines. A line feed ends a line, one carriage return before it is no part of the line, and the last line may
+/// lack its line feed.
+#[derive(Drop)]
+pub struct LineReader {
+    window: Window,
+    draft: Draft,
+    given: u128,
+    longest: usize,
+    most: u64,
+}
+
+impl Model for LineReader {
+    ghost use Rattle.portal_base.specs.Lines.{Reading};
+
+    ghost Value = { Reading };
+
+    ghost view = { λ r. record { held = r.window; line = r.draft.kept.items; given = r.given; longest = r.longest; most = r.most } };
+}
+
+impl LineReader {
+    /// A reader that has read nothing. `longest` is the most bytes of a line without its end, and `most` the most
+    /// bytes that the source may give in all.
+    pub fn new(alloc: Global, longest: usize, most: u64) -> Result<LineReader, AllocError>
+        ensures { IfOk result (λ reader. reader ≡ record { held = []; line = []; given = 0; longest = longest; most = most }) }
+    {
+        let window = Window::new(alloc)?;
+        Ok(LineReader {
+            window,
+            draft: Draft {
+                kept: Vec::new(alloc),
+                is_over: false,
+            },
+            given: 0,
+            longest,
+            most,
+        })
+    }
+
+    /// The current line, after `Line`.
+    pub fn line(&self) -> &[u8]
+        ensures { result.now ≡ self.now.line }
+    {
+        self.draft.kept.as_slice()
+    }
+
+    /// Reads on to the end of the next line. Of a line at most `longest` + 1 bytes are kept.
+    pub fn next<S: Source>(&mut self, source: &mut S) -> Result<NextLine, LineFault>
+        ensures longest { self.new.longest ≡ self.old.longest }
+        ensures most { self.new.most ≡ self.old.most }
+        ensures counts { S.faults source.old ≤ S.faults source.new }
+
+        ensures line { result ≡ Ok NextLine.Line →
+            TakesLine self.old (S.to_come source.old) self.new.line self.new (S.to_come source.new) }
+        ensures short { result ≡ Ok NextLine.Line → length self.new.line ≤ self.new.longest }
+        ensures long { result ≡ Ok NextLine.TooLong →
+            SkipsLine self.old (S.to_come source.old) self.new (S.to_come source.new) }
+        ensures end { result ≡ Ok NextLine.End →
+            FindsEnd self.old (S.to_come source.old) self.new (S.to_come source.new) }
+        ensures falls { IfOk result (λ next. next ≢ NextLine.End → bytes_left self.new < bytes_left self.old) }
+
+        ensures received { OnErr result
+            (Receives self.old (S.to_come source.old) self.new (S.to_come source.new)) }
+        ensures failed { result ≡ Err LineFault.Failed → Rose (S.faults source.old) (S.faults source.new) }
+        ensures much { (result ≡ Err LineFault.TooMuch) ↔ (self.new.most < self.new.given) }
+        ensures within { OnOk result (self.new.given ≤ self.new.most) }
+    {
+        self.draft.clear();
+        loop {
+            if self.given > u128::from(self.most) {
+                return Err(LineFault::TooMuch);
+            }
+            if self.draft.take_from(self.longest, &mut self.window)? {
+                self.draft.strip();
+                return Ok(self.draft.measure(self.longest));
+            }
+            let count = self.window.fill(source)?;
+            if count == 0 {
+                return Ok(self.draft.measure_last(self.longest));
+            }
+            self.given += count as u128;
+        }
+    }
+}

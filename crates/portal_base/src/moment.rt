@@ -1,0 +1,83 @@
+//! Moments of the calendar, in whole seconds of UTC.
+ghost use Rattle.std.specs.Prelude.{◌≡◌, ◌↔◌, IsSome, IfSome, IfOk};
+ghost use Rattle.jiff.specs.Words.{civil_seconds};
+ghost use Rattle.portal_base.specs.Moment.{IsMoment};
+ghost use Rattle.portal_base.specs.MomentText.{IsMomentText, moment_text};
+
+use crate::text::Text;
+use jiff::SignedDuration;
+use jiff::civil::{DateTime, Time, date};
+use std::alloc::{AllocError, Global};
+use std::marker::Model;
+
+/// 0000-01-01T00:00:00.
+const FIRST_SECOND: i64 = -62_167_219_200;
+
+/// 9999-12-31T23:59:59.
+const LAST_SECOND: i64 = 253_402_300_799;
+
+/// A moment in whole seconds, from 0000-01-01T00:00:00 to 9999-12-31T23:59:59 UTC. A contract sees it as the
+/// number of seconds since 1970-01-01T00:00:00, on the calendar of ISO 8601 without leap seconds.
+#[derive(Clone, Copy, PartialEq, Eq, PartialOrd, Ord)]
+pub struct Moment {
+    seconds: i64,
+}
+
+impl Model for Moment {
+    ghost use Rattle.std.specs.Prelude.{ℤ};
+    ghost use Rattle.portal_base.specs.Moment.{IsMoment};
+
+    ghost Value = { ℤ };
+
+    ghost view = { λ m. m.seconds };
+
+    ghost invariant = { λ m. IsMoment m.seconds };
+
+    ghost inverse = { λ z. record { seconds = z } };
+}
+
+impl Moment {
+    /// The moment that many seconds after 1970-01-01T00:00:00, if it is in a year from 0000 to 9999.
+    pub fn from_seconds(seconds: i64) -> Option<Moment>
+        ensures within { IsSome result ↔ IsMoment seconds }
+        ensures same { IfSome result (λ moment. moment ≡ seconds) }
+    {
+        if seconds >= FIRST_SECOND && seconds <= LAST_SECOND {
+            Some(Moment { seconds })
+        } else {
+            None
+        }
+    }
+
+    /// Seconds since 1970-01-01T00:00:00.
+    pub fn seconds(&self) -> i64
+        ensures { result ≡ self.now }
+    {
+        self.seconds
+    }
+
+    /// The moment as `YYYY-MM-DDThh:mm:ss` (ISO 8601, section 5.4.2.1), in UTC without a sign for it.
+    pub fn text(&self, alloc: Global) -> Result<Text, AllocError>
+        ensures text { IfOk result (λ text. text ≡ moment_text self.now) }
+        ensures civil { IfOk result (λ text. IsMomentText self.now text) }
+    {
+        let civil = civil_of(*self);
+        let string = format!(in alloc; "{civil}")?;
+        Ok(Text::from(string))
+    }
+}
+
+/// The date and time of day of the moment.
+fn civil_of(moment: Moment) -> DateTime
+    ensures within { IsMoment moment }
+    ensures second { civil_seconds result ≡ moment }
+    ensures whole { result.time.subsec_nanosecond ≡ 0 }
+{
+    let start = date(1970, 1, 1).to_datetime(Time::midnight());
+    start
+        .checked_add(SignedDuration::from_secs(moment.seconds))
+        .unwrap()
+}
+
+#[cfg(test)]
+mod tests;
