@@ -1,0 +1,5 @@
+mod Examples
+pub mod Inserted
+pub mod PeopleLemmas
+pub mod Sorted
+pub mod Unique

@@ -1,0 +1,10 @@
+use Rattle.std.proofs.Common.{◌≡◌, length}
+use Rattle.org_roles.specs.Distinct.{have_distinct_pairs}
+use Rattle.org_roles.proofs.people.pairs_are_distinct.Given as goal
+
+-- The pairs are distinct where those of the rest are.
+abbrev pub invariant-loop-first : goal.invariant-loop-first
+invariant-loop-first l = have_distinct_pairs l.roles ≡ have_distinct_pairs l.rest
+
+abbrev pub decreases-loop-first : goal.decreases-loop-first
+decreases-loop-first l = length l.rest

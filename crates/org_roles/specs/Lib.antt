@@ -1,0 +1,5 @@
+pub mod Ascending
+pub mod Distinct
+pub mod Order
+pub mod Peopled
+pub mod Rights

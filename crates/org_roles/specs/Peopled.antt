@@ -1,0 +1,47 @@
+-- The people of a portal: its users, its organizations and who has which role where.
+use Rattle.std.specs.Prelude.{ℕ, Bool, false, ◌&&◌, List, Option}
+use Rattle.std.specs.List.{list_any, find}
+use Rattle.std.specs.Option.{option_map}
+use Rattle.std.specs.Str.{bytes_eq}
+use Rattle.portal_base.specs.declared.caller.Caller.{Caller}
+use Rattle.portal_base.specs.declared.caller.Caller.TheVariants.{Anonymous, Named}
+use Rattle.org_roles.specs.declared.role.Role.{Role}
+use Rattle.org_roles.specs.declared.entry.User.{User}
+use Rattle.org_roles.specs.declared.entry.Org.{Org}
+use Rattle.org_roles.specs.declared.entry.Membership.{Membership}
+use Rattle.org_roles.specs.Ascending.{IsAscending}
+use Rattle.org_roles.specs.Distinct.{is_name_among}
+use Rattle.org_roles.specs.Order.{user_cmp, org_cmp, membership_cmp}
+
+-- the users by name, the organizations by name, and the roles by organization and user
+pub record Peopled : Type 0 where
+  pub users : List User
+  pub orgs : List Org
+  pub roles : List Membership
+
+-- Each list ascends: no name and no pair stands twice.
+pub record IsPeopled (p : Peopled) : Type 0 where
+  pub users : IsAscending user_cmp p.users
+  pub orgs : IsAscending org_cmp p.orgs
+  pub roles : IsAscending membership_cmp p.roles
+
+-- whether there is a user of that name
+abbrev pub is_user_in : Peopled → List ℕ → Bool
+is_user_in p name = is_name_among p.users name
+
+-- the organization of that name
+abbrev pub org_in : Peopled → List ℕ → Option Org
+org_in p name = find (λ o. bytes_eq o.name name) p.orgs
+
+-- the membership of that user in that organization
+abbrev pub membership_in : Peopled → List ℕ → List ℕ → Option Membership
+membership_in p org user = find (λ m. bytes_eq m.org org && bytes_eq m.user user) p.roles
+
+-- the role of that user in that organization
+abbrev pub role_in : Peopled → List ℕ → List ℕ → Option Role
+role_in p org user = option_map (λ m. m.role) (membership_in p org user)
+
+-- whether the caller is a user who is a sysadmin
+abbrev pub is_sysadmin_in : Peopled → Caller → Bool
+is_sysadmin_in p Anonymous = false
+is_sysadmin_in p (Named name) = list_any (λ u. bytes_eq u.name name && u.sysadmin) p.users

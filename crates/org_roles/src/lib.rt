@@ -1,0 +1,8 @@
+//! Users, organizations and the roles that users have in organizations, and what each role may do.
+#![tactic(auto)]
+
+pub mod entry;
+pub mod people;
+pub mod role;
+#[cfg(test)]
+mod tests;
