@@ -1,0 +1,37 @@
+-- The outcome of a creation that nothing hinders.
+use Rattle.std.proofs.Common.{◌≡◌, List, true, false, Option, Some, subst, sym}
+use Rattle.portal_base.specs.declared.json_value.Json.{Json}
+use Rattle.org_roles.specs.Peopled.{Peopled}
+use Rattle.packages.specs.declared.package.Package.{Package}
+use Rattle.portal_cli.specs.Answer.{may_create, created_package, answer_to_create}
+use Rattle.portal_cli.specs.Decided.{outcome_of}
+use Rattle.portal_cli.specs.Dictionary.{package_dictionary}
+use Rattle.portal_cli.specs.Request.{Creation}
+use Rattle.portal_cli.specs.State.{state_of, has_name, has_id}
+use Rattle.portal_cli.specs.Step.{settled}
+use Rattle.portal_cli.specs.declared.call.Call.{Call}
+use Rattle.portal_cli.specs.declared.decide.Decision.TheVariants.{Planned}
+
+-- the outcome of the plan for a dataset is the step's
+abbrev IsOutcome : Call → Option Creation → Peopled → List Package → Json → Package → Type 0
+IsOutcome call said people datasets json dataset =
+    outcome_of (Planned (record { dataset = dataset; shown = json })) (state_of people datasets)
+    ≡ settled (answer_to_create call said (state_of people datasets)) (state_of people datasets)
+
+-- nothing in use hinders the dataset
+abbrev Goes : Call → Option Creation → Peopled → List Package → Package → Type 0
+Goes call said people datasets dataset =
+    (json : Json) → json ≡ package_dictionary people dataset → has_name dataset.name datasets ≡ false → has_id dataset.id datasets ≡ false
+    → IsOutcome call said people datasets json dataset
+
+goes_as_said : (call : Call) (seen : Creation) (people : Peopled) (datasets : List Package)
+    → may_create people call.caller seen.org ≡ true → Goes call (Some seen) people datasets (created_package call seen)
+goes_as_said call seen people datasets may json told unnamed unknown = rw (may, unnamed, unknown, told)
+
+pub planned-outcome : (call : Call) (said : Option Creation) (seen : Creation) (people : Peopled) (datasets : List Package) (dataset : Package) (json : Json)
+    → Some seen ≡ said → may_create people call.caller seen.org ≡ true → dataset ≡ created_package call seen
+    → json ≡ package_dictionary people dataset → has_name dataset.name datasets ≡ false → has_id dataset.id datasets ≡ false
+    → IsOutcome call said people datasets json dataset
+planned-outcome call said seen people datasets dataset json is may made told unnamed unknown =
+    subst (λ (s : Option Creation). IsOutcome call s people datasets json dataset) is
+    (subst (λ (d : Package). Goes call (Some seen) people datasets d) (sym made) (goes_as_said call seen people datasets may) json told unnamed unknown)

@@ -1,0 +1,5 @@
+mod Deciding
+mod Examples
+pub mod Playing
+mod Replaying
+pub mod Working

@@ -1,0 +1,25 @@
+-- The members that were added, one after another, are the dictionary's.
+use Rattle.std.proofs.Common.{append_assoc}
+use Rattle.std.proofs.lemmas.Result.{IfOk-equal}
+use Rattle.portal_cli.proofs.dictionary.describe.Goals as goal
+
+pub returns : goal.returns
+returns c =
+    IfOk-equal _ _ _ _ c.add_text-7.ensures.ok
+    (rw (
+      c.in_ok-add_text-6.ensures.ok,
+      c.in_ok-add_moment-2.ensures,
+      c.in_ok-add_moment.ensures,
+      c.in_ok-add_text-5.ensures.ok,
+      c.in_ok-add_text-4.ensures.ok,
+      c.in_ok-add_text-3.ensures.ok,
+      c.in_ok-add_text-2.ensures.ok,
+      c.in_ok-add_text.ensures.ok,
+      c.as_str.ensures,
+      c.as_str-2.ensures,
+      c.as_str-3.ensures,
+      c.as_str-4.ensures,
+      c.as_str-5.ensures,
+      c.as_str-6.ensures,
+      c.as_str-7.ensures,
+    ) (simp append_assoc))

@@ -1,0 +1,17 @@
+pub mod Action
+pub mod Answer
+pub mod Decided
+pub mod Dictionary
+pub mod Opened
+pub mod Played
+pub mod Reply
+pub mod Request
+pub mod Run
+pub mod Script
+pub mod Seen
+pub mod State
+pub mod Stated
+pub mod Step
+pub mod Stopped
+pub mod Transcript
+pub mod View

@@ -1,0 +1,107 @@
+-- What a run of the program does: the words that it takes, its statuses, and what passes its devices.
+use Rattle.std.specs.Prelude.{◌≡◌, ℕ, ℤ, ◌+◌, ◌^◌, ◌<◌, ◌≤◌, List, [], ◌∷◌, ◌++◌, Bool, false, length, codes, Option, Some, IfSome}
+use Rattle.std.specs.Option.{IsSomeAnd}
+use Rattle.std.specs.Str.{bytes_eq}
+use Rattle.portal_base.specs.Outside.{Takes}
+use Rattle.portal_cli.specs.Script.{script_lines}
+use Rattle.portal_cli.specs.State.{State}
+use Rattle.portal_cli.specs.Transcript.{Standing, written_for}
+use Rattle.portal_cli.specs.declared.run.Status.{Status}
+use Rattle.portal_cli.specs.declared.run.Status.TheVariants.{Done, Words, ReadFault, WriteFault, OutOfMemory, DataFault}
+
+-- the words are the one word `play`
+abbrev pub is_play : List (List ℕ) → Bool
+is_play [] = false
+is_play (word ∷ []) = bytes_eq word (codes "play")
+is_play (word ∷ other ∷ more) = false
+
+-- the exit status of the process
+abbrev pub status_code : Status → ℕ
+status_code Done = 0
+status_code Words = 2
+status_code ReadFault = 3
+status_code WriteFault = 4
+status_code OutOfMemory = 6
+status_code (DataFault text) = 9
+
+-- the run ended before the end of its input
+abbrev pub IsCut : Status → Type 0
+IsCut Done = ⊥
+IsCut Words = ⊥
+IsCut ReadFault = Unit {0}
+IsCut WriteFault = Unit {0}
+IsCut OutOfMemory = Unit {0}
+IsCut (DataFault text) = Unit {0}
+
+-- the most bytes that input may give
+abbrev pub most_input : ℕ
+most_input = 2 ^ 40
+
+-- part stands at the beginning of whole
+abbrev pub Begins : List ℕ → List ℕ → Type 0
+Begins part whole = (rest : List ℕ) × (part ++ rest ≡ whole)
+
+-- These were given, in order, after those that were given before. What stopped telling claims nothing.
+abbrev pub DrawsAll : {X : Type 0} → Option (List X) → List X → Option (List X) → Type 0
+DrawsAll old xs new = IfSome new (λ all. IsSomeAnd old (λ before. all ≡ before ++ xs))
+
+abbrev pub standing : State → List ℤ → List ℕ → Standing
+standing state moments nonces = record { state = state; moments = moments; nonces = nonces }
+
+-- what is written for the lines of a script from a state, with these moments and numbers
+abbrev pub transcript_of : State → List ℕ → List ℤ → List ℕ → List ℕ
+transcript_of state script moments nonces = written_for (standing state moments nonces) (script_lines script)
+
+-- What is told of the devices before or after a call: the bytes that input has still to give, those that output took,
+-- the moments and the numbers that were given.
+pub record Devices : Type 0 where
+  pub to_come : Option (List ℕ)
+  pub taken : Option (List ℕ)
+  pub moments : Option (List ℤ)
+  pub nonces : Option (List ℕ)
+
+-- what is told of output, the clock and the numbers
+pub record Outlet : Type 0 where
+  pub taken : Option (List ℕ)
+  pub moments : Option (List ℤ)
+  pub nonces : Option (List ℕ)
+
+abbrev pub outlet : Option (List ℕ) → Option (List ℤ) → Option (List ℕ) → Outlet
+outlet taken moments nonces = record { taken = taken; moments = moments; nonces = nonces }
+
+abbrev pub devices : Option (List ℕ) → Option (List ℕ) → Option (List ℤ) → Option (List ℕ) → Devices
+devices to_come taken moments nonces = record { to_come = to_come; taken = taken; moments = moments; nonces = nonces }
+
+abbrev pub outlet_of : Devices → Outlet
+outlet_of d = outlet d.taken d.moments d.nonces
+
+-- What passed the devices in a run on an input that tells: the bytes that were read of the whole and those that were
+-- left, the bytes written, and the moments and numbers drawn.
+pub record Passed (whole : List ℕ) (old new : Devices) : Type 0 where
+  pub read : List ℕ
+  pub rest : List ℕ
+  pub written : List ℕ
+  pub moments : List ℤ
+  pub nonces : List ℕ
+  pub input : new.to_come ≡ Some rest
+  pub splits : whole ≡ read ++ rest
+  pub output : Takes old.taken written new.taken
+  pub clock : DrawsAll old.moments moments new.moments
+  pub numbers : DrawsAll old.nonces nonces new.nonces
+
+-- Input was read to its end, of at most 2^40 bytes, and output took the transcript of it.
+pub record PlaysAll (state : State) (whole : List ℕ) (old new : Devices) : Type 0 where
+  pub passed : Passed whole old new
+  pub at_end : passed.rest ≡ []
+  pub small : length whole ≤ most_input
+  pub transcript : passed.written ≡ transcript_of state whole passed.moments passed.nonces
+
+-- Output took the beginning of the transcript of what was read, whatever would have been drawn later.
+pub record PlaysPart (state : State) (whole : List ℕ) (old new : Devices) : Type 0 where
+  pub passed : Passed whole old new
+  pub transcript : (later : List ℤ) (others : List ℕ) →
+      Begins passed.written (transcript_of state passed.read (passed.moments ++ later) (passed.nonces ++ others))
+
+-- Input gave more than 2^40 bytes of the whole: what it still has to give is that much shorter.
+abbrev pub GaveTooMuch : List ℕ → Option (List ℕ) → Type 0
+GaveTooMuch whole left = (rest : List ℕ) × (left ≡ Some rest) × (most_input + length rest < length whole)

@@ -1,0 +1,28 @@
+-- Why work on a line, and a run, may stop.
+use Rattle.portal_base.specs.declared.lines.LineFault.{LineFault}
+use Rattle.portal_base.specs.declared.lines.LineFault.TheVariants.{Failed as source_failed, TooMuch as too_much, OutOfMemory as no_memory}
+use Rattle.std.specs.Prelude.{◌≡◌, ◌⊎◌, codes}
+use Rattle.portal_cli.specs.declared.run.Status.{Status}
+use Rattle.portal_cli.specs.declared.run.Status.TheVariants as ended
+use Rattle.portal_cli.specs.declared.play.Stop.{Stop}
+use Rattle.portal_cli.specs.declared.play.Stop.TheVariants.{ReadFault, WriteFault, TooMuch, OutOfMemory}
+
+-- output failed, or memory was wanting
+abbrev pub IsOfLine : Stop → Type 0
+IsOfLine ReadFault = ⊥
+IsOfLine WriteFault = Unit {0}
+IsOfLine TooMuch = ⊥
+IsOfLine OutOfMemory = Unit {0}
+
+-- what a fault of the reader of lines stops a run with
+abbrev pub stop_for : LineFault → Stop
+stop_for source_failed = ReadFault
+stop_for too_much = TooMuch
+stop_for no_memory = OutOfMemory
+
+-- The status that tells why a run stopped. The text of the last one may find no memory.
+abbrev pub StatusOf : Stop → Status → Type 0
+StatusOf ReadFault status = status ≡ ended.ReadFault
+StatusOf WriteFault status = status ≡ ended.WriteFault
+StatusOf OutOfMemory status = status ≡ ended.OutOfMemory
+StatusOf TooMuch status = (status ≡ ended.OutOfMemory) ⊎ (status ≡ ended.DataFault (codes "input too long"))

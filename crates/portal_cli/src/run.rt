@@ -1,0 +1,103 @@
+//! The program's call: a script is read from input, worked line by line, and its transcript is written to output.
+ghost use Rattle.std.specs.Prelude.{◌≡◌, ◌↔◌, ℕ, List, Some, false, map, string_bytes, codes};
+ghost use Rattle.portal_base.specs.Outside.{Rose};
+ghost use Rattle.portal_cli.specs.Run.{is_play, status_code, devices, PlaysAll, PlaysPart, GaveTooMuch, IsCut};
+ghost use Rattle.portal_cli.specs.Stated.{stated_state};
+ghost use Rattle.portal_cli.specs.Stopped.{StatusOf};
+
+use crate::play::{Stop, play};
+use portal_base::outside::{Clock, Nonces, Sink, Source};
+use portal_base::text::Text;
+use std::alloc::Global;
+
+/// How a run ended. Each is the process's exit status by `code`.
+#[derive(Drop)]
+pub enum Status {
+    /// 0: input was read to its end.
+    Done,
+    /// 2: the words are none that the program takes.
+    Words,
+    /// 3: input failed.
+    ReadFault,
+    /// 4: output failed.
+    WriteFault,
+    /// 6: want of memory.
+    OutOfMemory,
+    /// 9: input gave more than 2^40 bytes. The text says so.
+    DataFault(Text),
+}
+
+impl Status {
+    /// The process's exit status.
+    pub fn code(&self) -> u8
+        ensures { result ≡ status_code self.now }
+    {
+        match self {
+            Status::Done => 0,
+            Status::Words => 2,
+            Status::ReadFault => 3,
+            Status::WriteFault => 4,
+            Status::OutOfMemory => 6,
+            Status::DataFault(_) => 9,
+        }
+    }
+}
+
+fn are_play(words: &[String]) -> bool
+    ensures { result ≡ is_play (map string_bytes words.now) }
+{
+    words.len() == 1 && words[0].as_str() == "play"
+}
+
+fn status_of(alloc: Global, stop: Stop) -> Status
+    ensures { StatusOf stop result }
+{
+    match stop {
+        Stop::ReadFault => Status::ReadFault,
+        Stop::WriteFault => Status::WriteFault,
+        Stop::OutOfMemory => Status::OutOfMemory,
+        Stop::TooMuch => match Text::from_str(alloc, "input too long") {
+            Ok(text) => Status::DataFault(text),
+            Err(_refused) => Status::OutOfMemory,
+        },
+    }
+}
+
+/// Plays the script on `input` and writes its transcript to `output`, where the words, those after the program's
+/// name, are the one word `play`. Of the input it holds one line and what was read at once, 65,536 bytes at most.
+pub fn run<S: Source, O: Sink, C: Clock, N: Nonces>(
+    alloc: Global,
+    words: &[String],
+    input: &mut S,
+    output: &mut O,
+    clock: &mut C,
+    nonces: &mut N,
+) -> Status
+    // Status 2 comes exactly where the words are others, and then nothing is read or written.
+    ensures words { (result ≡ Status.Words) ↔ (is_play (map string_bytes words.now) ≡ false) }
+    ensures untouched { result ≡ Status.Words → (input.new ≡ input.old) × (output.new ≡ output.old)
+        × (clock.new ≡ clock.old) × (nonces.new ≡ nonces.old) }
+
+    // Status 0: where input tells, it was read to its end, and output took the transcript from the stated portal.
+    ensures done { result ≡ Status.Done → (whole : List ℕ) → S.to_come input.old ≡ Some whole → PlaysAll stated_state whole
+        (devices (S.to_come input.old) (O.taken output.old) (C.given clock.old) (N.given nonces.old))
+        (devices (S.to_come input.new) (O.taken output.new) (C.given clock.new) (N.given nonces.new)) }
+    // Statuses 3, 4, 6 and 9: output took the beginning of the transcript of what was read.
+    ensures cut { IsCut result → (whole : List ℕ) → S.to_come input.old ≡ Some whole → PlaysPart stated_state whole
+        (devices (S.to_come input.old) (O.taken output.old) (C.given clock.old) (N.given nonces.old))
+        (devices (S.to_come input.new) (O.taken output.new) (C.given clock.new) (N.given nonces.new)) }
+
+    ensures read_fault { result ≡ Status.ReadFault → Rose (S.faults input.old) (S.faults input.new) }
+    ensures write_fault { result ≡ Status.WriteFault → Rose (O.faults output.old) (O.faults output.new) }
+    ensures too_much { status_code result ≡ 9 →
+        (whole : List ℕ) → S.to_come input.old ≡ Some whole → GaveTooMuch whole (S.to_come input.new) }
+    ensures text { (text : List ℕ) → result ≡ Status.DataFault text → text ≡ codes "input too long" }
+{
+    if !are_play(words) {
+        return Status::Words;
+    }
+    match play(alloc, input, output, clock, nonces) {
+        Ok(()) => Status::Done,
+        Err(stop) => status_of(alloc, stop),
+    }
+}
