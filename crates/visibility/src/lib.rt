@@ -1,0 +1,8 @@
+//! Who sees a dataset, who may edit it, and the class of a dataset.
+#![tactic(auto)]
+
+pub mod class;
+pub mod laws;
+pub mod sight;
+#[cfg(test)]
+mod tests;

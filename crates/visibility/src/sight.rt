@@ -1,0 +1,67 @@
+//! Who sees a dataset and who may edit it. Nothing here takes memory.
+ghost use Rattle.std.specs.Prelude.{◌≡◌};
+ghost use Rattle.visibility.specs.Visibility.{caller_role, is_harvested, is_maker, may_edit_in, sees_in, sees_private_in};
+
+use org_roles::people::People;
+use org_roles::role::{Role, rights_of};
+use packages::package::{Package, State};
+use portal_base::caller::Caller;
+use portal_base::text::Text;
+
+/// The caller's role in the organization. Nobody has one.
+pub fn role_of_caller(people: &People, caller: &Caller, org: &Text) -> Option<Role>
+    ensures { result ≡ caller_role people.now caller.now org.now }
+{
+    match caller {
+        Caller::Anonymous => None,
+        Caller::Named(user) => people.role_of(org, user),
+    }
+}
+
+/// Whether the caller may edit the dataset: it isn't harvested, and the caller is a sysadmin, or an editor or admin of
+/// its organization.
+pub fn may_edit(people: &People, caller: &Caller, dataset: &Package) -> bool
+    ensures { result ≡ may_edit_in people.now caller.now dataset.now }
+{
+    !is_harvested(dataset)
+        && (people.is_sysadmin(caller)
+            || rights_of(role_of_caller(people, caller, &dataset.owner_org)).edit)
+}
+
+/// Whether the caller sees the dataset. A sysadmin sees all of them. Everybody sees an active dataset that is public, and
+/// who has a role in its organization one that is private. A draft is seen by who made it and by who may edit it, and a
+/// deleted dataset by who may edit it.
+pub fn sees(people: &People, caller: &Caller, dataset: &Package) -> bool
+    ensures { result ≡ sees_in people.now caller.now dataset.now }
+{
+    people.is_sysadmin(caller)
+        || match dataset.state {
+            State::Draft => is_maker(caller, dataset) || may_edit(people, caller, dataset),
+            State::Active => !dataset.private || sees_private(people, caller, dataset),
+            State::Deleted => may_edit(people, caller, dataset),
+        }
+}
+
+/// Whether the dataset came from a source.
+fn is_harvested(dataset: &Package) -> bool
+    ensures { result ≡ is_harvested dataset.now }
+{
+    !dataset.source.is_empty()
+}
+
+/// Whether the caller made the dataset.
+fn is_maker(caller: &Caller, dataset: &Package) -> bool
+    ensures { result ≡ is_maker caller.now dataset.now }
+{
+    match caller {
+        Caller::Anonymous => false,
+        Caller::Named(name) => *name == dataset.creator,
+    }
+}
+
+/// Whether the caller's role shows the private datasets of this one's organization.
+fn sees_private(people: &People, caller: &Caller, dataset: &Package) -> bool
+    ensures { result ≡ sees_private_in people.now caller.now dataset.now }
+{
+    rights_of(role_of_caller(people, caller, &dataset.owner_org)).see_private
+}
