@@ -1,15 +1,19 @@
--- The outcome of a creation that nothing hinders.
-use Rattle.std.proofs.Common.{◌≡◌, List, true, false, Option, Some, subst, sym}
+-- The outcomes of a dataset that is shown and of a creation that nothing hinders.
+use Rattle.std.proofs.Common.{◌≡◌, ℕ, List, true, false, Option, Some, subst, sym, refl}
+use Rattle.std.specs.Prelude.{◌&&◌, find}
+use Rattle.portal_base.specs.declared.caller.Caller.{Caller}
 use Rattle.portal_base.specs.declared.json_value.Json.{Json}
 use Rattle.org_roles.specs.Peopled.{Peopled}
 use Rattle.packages.specs.declared.package.Package.{Package}
 use Rattle.portal_cli.specs.Answer.{may_create, created_package, answer_to_create}
-use Rattle.portal_cli.specs.Decided.{outcome_of}
+use Rattle.visibility.specs.Visibility.{sees_in}
+use Rattle.portal_cli.specs.Decided.{outcome_of, answer_to_show_in}
 use Rattle.portal_cli.specs.Dictionary.{package_dictionary}
 use Rattle.portal_cli.specs.Request.{Creation}
-use Rattle.portal_cli.specs.State.{state_of, has_name, has_id}
-use Rattle.portal_cli.specs.Step.{settled}
+use Rattle.portal_cli.specs.State.{state_of, is_named, has_name, has_id}
+use Rattle.portal_cli.specs.Step.{unchanged, settled}
 use Rattle.portal_cli.specs.declared.call.Call.{Call}
+use Rattle.portal_cli.specs.declared.call.Reply.TheVariants.{Shown}
 use Rattle.portal_cli.specs.declared.decide.Decision.TheVariants.{Planned}
 
 -- the outcome of the plan for a dataset is the step's
@@ -35,3 +39,9 @@ pub planned-outcome : (call : Call) (said : Option Creation) (seen : Creation) (
 planned-outcome call said seen people datasets dataset json is may made told unnamed unknown =
     subst (λ (s : Option Creation). IsOutcome call s people datasets json dataset) is
     (subst (λ (d : Package). Goes call (Some seen) people datasets d) (sym made) (goes_as_said call seen people datasets may) json told unnamed unknown)
+
+-- the dataset that is found is shown
+pub shown-outcome : (said : Option (List ℕ)) (key : List ℕ) (caller : Caller) (people : Peopled) (datasets : List Package) (dataset : Package) (json : Json)
+    → Some key ≡ said → Some dataset ≡ find (λ (d : Package). is_named key d && sees_in people caller d) datasets → json ≡ package_dictionary people dataset
+    → unchanged (Shown json) (state_of people datasets) ≡ settled (answer_to_show_in said caller (state_of people datasets)) (state_of people datasets)
+shown-outcome said key caller people datasets dataset json is found told = rw (← is, ← found, told) refl

@@ -1,11 +1,23 @@
 -- The definitions on worked examples.
-use Rattle.std.proofs.Common.{◌≡◌, ℕ, List, [], ◌∷◌, true, false, Some, refl}
-use Rattle.std.specs.Prelude.{codes}
+use Rattle.std.proofs.Common.{None, ◌≡◌, ℕ, Bool, List, [], ◌∷◌, true, false, Some, refl}
+use Rattle.std.specs.Prelude.{codes, map, pos}
+use Rattle.portal_base.specs.declared.caller.Caller.{Caller}
 use Rattle.portal_base.specs.declared.caller.Caller.TheVariants.{Anonymous, Named}
-use Rattle.portal_cli.specs.Answer.{may_create, title_or_name}
+use Rattle.org_roles.specs.declared.entry.User.{User}
+use Rattle.org_roles.specs.declared.entry.Membership.{Membership}
+use Rattle.packages.specs.declared.package.Package.{Package}
+use Rattle.packages.specs.Package.{fresh_package}
+use Rattle.portal_cli.specs.Answer.{may_create, title_or_name, answer_to_create}
+use Rattle.portal_cli.specs.Request.{Creation}
+use Rattle.portal_cli.specs.Step.{settled}
+use Rattle.portal_cli.specs.declared.call.Call.{Call}
+use Rattle.portal_cli.specs.declared.call.Refusal.TheVariants.{NameInUse}
+use Rattle.portal_cli.specs.declared.call.Reply.TheVariants.{Refused}
 use Rattle.portal_cli.specs.Run.{is_play}
 use Rattle.portal_cli.specs.Script.{script_lines, known_caller}
+use Rattle.portal_cli.specs.State.{State}
 use Rattle.portal_cli.specs.Stated.{stated_state}
+use Rattle.portal_cli.specs.View.{view_of}
 
 -- a carriage return before a line feed is no part of the line, empty lines are left out, and the last line keeps what it has
 lines_of_a_script : script_lines (codes "a\r\n\n\r\nb\r") ≡ codes "a" ∷ codes "b\r" ∷ []
@@ -38,3 +50,61 @@ stranger_is_nobody = refl
 
 empty_title_is_the_name : title_or_name (Some []) (codes "air") ≡ codes "air"
 empty_title_is_the_name = refl
+
+-- the stated portal with one private dataset of ann's
+abbrev quiet : Package
+quiet = record (fresh_package [] (codes "quiet") [] (codes "city") (codes "ann") (pos 0)) { private = true }
+
+abbrev with_quiet : State
+with_quiet = record stated_state { datasets = quiet ∷ [] }
+
+bob_sees_quiet : (view_of (Named (codes "bob")) with_quiet).datasets ≡ quiet ∷ []
+bob_sees_quiet = refl
+
+root_sees_quiet : (view_of (Named (codes "root")) with_quiet).datasets ≡ quiet ∷ []
+root_sees_quiet = refl
+
+dan_sees_nothing : (view_of (Named (codes "dan")) with_quiet).datasets ≡ []
+dan_sees_nothing = refl
+
+nobody_sees_nothing : (view_of Anonymous with_quiet).datasets ≡ []
+nobody_sees_nothing = refl
+
+-- whose roles the caller sees
+abbrev roles_seen : Caller → List (List ℕ)
+roles_seen caller = map (λ (m : Membership). m.user) (view_of caller with_quiet).people.roles
+
+cyn_sees_all_roles : roles_seen (Named (codes "cyn")) ≡ codes "ann" ∷ codes "bob" ∷ codes "cyn" ∷ []
+cyn_sees_all_roles = refl
+
+ann_sees_her_role : roles_seen (Named (codes "ann")) ≡ codes "ann" ∷ []
+ann_sees_her_role = refl
+
+dan_sees_no_role : roles_seen (Named (codes "dan")) ≡ []
+dan_sees_no_role = refl
+
+-- who the caller sees to be a sysadmin, of ann, bob, cyn, dan and root
+abbrev flags_seen : Caller → List Bool
+flags_seen caller = map (λ (u : User). u.sysadmin) (view_of caller with_quiet).people.users
+
+root_sees_the_own_flag : flags_seen (Named (codes "root")) ≡ false ∷ false ∷ false ∷ false ∷ true ∷ []
+root_sees_the_own_flag = refl
+
+ann_sees_no_flag : flags_seen (Named (codes "ann")) ≡ false ∷ false ∷ false ∷ false ∷ false ∷ []
+ann_sees_no_flag = refl
+
+-- the stated portal with a private dataset of an organization in which ann has no role
+abbrev with_hidden : State
+with_hidden = record stated_state { datasets = record quiet { owner_org = codes "lake" } ∷ [] }
+
+hidden_from_ann : (view_of (Named (codes "ann")) with_hidden).datasets ≡ []
+hidden_from_ann = refl
+
+abbrev quiet_again : Creation
+quiet_again = record { name = codes "quiet"; org = codes "city"; private = false; title = None }
+
+-- ann may create, and is told of the name that she doesn't see
+hidden_name_in_use : (call : Call)
+    → (settled (answer_to_create (record call { caller = Named (codes "ann") }) (Some quiet_again) (view_of (Named (codes "ann")) with_hidden)) with_hidden).reply
+    ≡ Refused (NameInUse (codes "name"))
+hidden_name_in_use call = refl

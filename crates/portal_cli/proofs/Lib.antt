@@ -2,4 +2,5 @@ mod Deciding
 mod Examples
 pub mod Playing
 mod Replaying
+pub mod Viewing
 pub mod Working

@@ -8,6 +8,7 @@ use Rattle.org_roles.specs.Peopled.{Peopled, role_in, is_sysadmin_in}
 use Rattle.org_roles.specs.Rights.{rights_for}
 use Rattle.org_roles.specs.declared.role.Role.{Role}
 use Rattle.packages.specs.Package.{fresh_package}
+use Rattle.visibility.specs.Visibility.{caller_role}
 use Rattle.packages.specs.declared.package.Package.{Package}
 use Rattle.portal_cli.specs.declared.request.Action.{Action}
 use Rattle.portal_cli.specs.declared.request.Action.TheVariants.{PackageCreate, PackageShow}
@@ -30,11 +31,6 @@ pub data Answer : Type 0 where
   refused : Refusal → Answer
   accepted : Json → Change → Answer
 
--- the caller's role in the organization
-abbrev pub caller_role : Peopled → Caller → List ℕ → Option Role
-caller_role people Anonymous org = None
-caller_role people (Named user) org = role_in people org user
-
 -- a sysadmin, and an editor or admin of the organization, may make datasets there
 abbrev pub may_create : Peopled → Caller → List ℕ → Bool
 may_create people caller org = is_sysadmin_in people caller || (rights_for (caller_role people caller org)).edit
@@ -53,7 +49,8 @@ title_or_name (Some (b ∷ bs)) name = b ∷ bs
 -- the dataset that the call makes
 abbrev pub created_package : Call → Creation → Package
 created_package call creation =
-    fresh_package (id_text call.nonce.0) creation.name (title_or_name creation.title creation.name) creation.org (caller_name call.caller) call.moment
+    let fresh = fresh_package (id_text call.nonce.0) creation.name (title_or_name creation.title creation.name) creation.org (caller_name call.caller) call.moment in
+    record fresh { private = creation.private }
 
 abbrev pub answer_to_create : Call → Option Creation → State → Answer
 answer_to_create call None view = refused NotBuilt

@@ -47,14 +47,16 @@ text_at key json = option_and_then text_of (member_of key json)
 abbrev pub only_if : {X : Type 0} → Bool → X → Option X
 only_if b x = if b then Some x else None
 
--- what a body says of a dataset to be made: its name, its organization, and its title where one is given
+-- what a body says of a dataset to be made: its name, its organization, its title where one is given, and whether it
+-- is private
 pub record Creation : Type 0 where
   pub name : List ℕ
   pub org : List ℕ
+  pub private : Bool
   pub title : Option (List ℕ)
 
 abbrev pub creation_keys : List (List ℕ)
-creation_keys = codes "name" ∷ codes "owner_org" ∷ codes "title" ∷ []
+creation_keys = codes "name" ∷ codes "owner_org" ∷ codes "private" ∷ codes "title" ∷ []
 
 -- the one organization in which datasets are made so far
 abbrev pub home_org : List ℕ
@@ -80,11 +82,33 @@ creation_title_of (Some json) = option_map Some (title_of json)
 abbrev pub creation_title : Json → Option (Option (List ℕ))
 creation_title body = creation_title_of (member_of (codes "title") body)
 
+-- a truth value, and none for any other value
+abbrev pub truth_step : Json-F Json → Option Bool
+truth_step Json-F.Null = None
+truth_step (Json-F.Truth b) = Some b
+truth_step (Json-F.Whole z) = None
+truth_step (Json-F.Text t) = None
+truth_step (Json-F.List js) = None
+truth_step (Json-F.Map members) = None
+
+-- whether the dataset is private: not where the key is absent, and none where the value is no truth value
+abbrev pub creation_private_of : Option Json → Option Bool
+creation_private_of None = Some false
+creation_private_of (Some json) = truth_step (out-Json json)
+
+abbrev pub creation_private : Json → Option Bool
+creation_private body = creation_private_of (member_of (codes "private") body)
+
+-- the parts of a creation, where each is there
+abbrev pub creation_with : Option (List ℕ) → Option (List ℕ) → Option Bool → Option (Option (List ℕ)) → Option Creation
+creation_with name org private title =
+    option_and_then (λ n. option_and_then (λ o. option_and_then (λ p. option_map (λ t. record { name = n; org = o; private = p; title = t }) title) private) org) name
+
 -- the body of a `package_create`, where it has the built form
 abbrev pub creation_of : Json → Option Creation
 creation_of body =
     if has_only (is_among creation_keys) body
-    then option_and_then (λ name. option_and_then (λ org. option_map (λ title. record { name = name; org = org; title = title }) (creation_title body)) (creation_org body)) (creation_name body)
+    then creation_with (creation_name body) (creation_org body) (creation_private body) (creation_title body)
     else None
 
 -- the id or name in the body of a `package_show`, where it has the built form

@@ -7,7 +7,7 @@ use Rattle.portal_cli.specs.declared.script.ScriptCall.{ScriptCall}
 
 -- what a creation that borrows from its body says
 abbrev pub creation_seen : Creation → said.Creation
-creation_seen c = record { name = c.name.now; org = c.org.now; title = option_copied c.title }
+creation_seen c = record { name = c.name.now; org = c.org.now; private = c.private; title = option_copied c.title }
 
 -- the call that a line asks for
 abbrev pub asked : ScriptCall → script.ScriptCall

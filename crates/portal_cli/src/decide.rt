@@ -1,12 +1,13 @@
 //! What a call is answered, and what it would change. It reads the portal and changes nothing.
-ghost use Rattle.std.specs.Prelude.{◌≡◌, ◌<◌, ◌≤◌, IfOk, OnOk, find, vec_len, vec_capacity, length};
+ghost use Rattle.std.specs.Prelude.{◌≡◌, ◌<◌, ◌≤◌, ◌&&◌, IfOk, OnOk, find, vec_len, vec_capacity, length};
 ghost use Rattle.std.specs.List.{prefix_len};
 ghost use Rattle.std.specs.Option.{option_copied};
 ghost use Rattle.std.specs.Ordering.{is_lt};
-ghost use Rattle.portal_cli.specs.Answer.{caller_role, may_create, caller_name, title_or_name, created_package, answer_to_create, answer_to_show};
+ghost use Rattle.visibility.specs.Visibility.{sees_in};
+ghost use Rattle.portal_cli.specs.Answer.{may_create, caller_name, title_or_name, created_package, answer_to_create};
 ghost use Rattle.portal_cli.specs.State.{state_of, has_name, has_id, is_named, dataset_cmp, with_dataset};
 ghost use Rattle.portal_cli.specs.Step.{settled, call_step};
-ghost use Rattle.portal_cli.specs.Decided.{outcome_of};
+ghost use Rattle.portal_cli.specs.Decided.{outcome_of, answer_to_show_in};
 ghost use Rattle.portal_cli.specs.Request.{creation_of, shown_of};
 ghost use Rattle.portal_cli.specs.Seen.{creation_seen};
 
@@ -14,7 +15,7 @@ use crate::call::{Call, Kind, Refusal, Reply, Right};
 use crate::dictionary::package_json;
 use crate::request::{Action, Creation, creation_in, shown_in};
 use org_roles::people::People;
-use org_roles::role::{Role, rights_of};
+use org_roles::role::rights_of;
 use packages::package::Package;
 use portal_base::caller::Caller;
 use portal_base::copy::TryClone;
@@ -22,6 +23,7 @@ use portal_base::json_value::Json;
 use portal_base::nonce::id_of;
 use portal_base::text::Text;
 use std::alloc::{AllocError, Global};
+use visibility::sight::{role_of_caller, sees};
 
 /// A change that was decided, with the value that tells of it.
 #[derive(Drop)]
@@ -66,12 +68,12 @@ fn decide_show(
     call: &Call,
 ) -> Result<Decision, AllocError>
     ensures { IfOk result (λ decision. outcome_of decision (state_of people.now datasets.now)
-        ≡ settled (answer_to_show (shown_of call.now.request.body) (state_of people.now datasets.now)) (state_of people.now datasets.now)) }
+        ≡ settled (answer_to_show_in (shown_of call.now.request.body) call.now.caller (state_of people.now datasets.now)) (state_of people.now datasets.now)) }
 {
     let Some(key) = shown_in(&call.request.body) else {
         return Ok(refused(Refusal::NotBuilt));
     };
-    let Some(dataset) = dataset_named(datasets, key.as_str()) else {
+    let Some(dataset) = dataset_seen(people, &call.caller, datasets, key.as_str()) else {
         return Ok(refused(Refusal::NotFound(Kind::Dataset)));
     };
     let json = package_json(alloc, people, dataset)?;
@@ -104,11 +106,23 @@ fn decide_create(
     Ok(Decision::Planned(Plan { dataset, shown }))
 }
 
-/// The dataset of that id or name.
-fn dataset_named<'a>(datasets: &'a [Package], key: &str) -> Option<&'a Package>
-    ensures { option_copied result ≡ find (is_named key.now) datasets.now }
+/// Whether the dataset has this id or this name.
+fn is_named(dataset: &Package, key: &str) -> bool
+    ensures { result ≡ is_named key.now dataset.now }
 {
-    datasets.iter().find(|dataset| dataset.id.as_str() == key || dataset.name.as_str() == key)
+    dataset.id.as_str() == key || dataset.name.as_str() == key
+}
+
+/// The dataset of that id or name, where the caller sees it. Sight is asked of the datasets of that name alone.
+fn dataset_seen<'a>(
+    people: &People,
+    caller: &Caller,
+    datasets: &'a [Package],
+    key: &str,
+) -> Option<&'a Package>
+    ensures { option_copied result ≡ find (λ d. is_named key.now d && sees_in people.now caller.now d) datasets.now }
+{
+    datasets.iter().find(|dataset| is_named(dataset, key) && sees(people, caller, dataset))
 }
 
 fn name_in_use(datasets: &[Package], name: &Text) -> bool
@@ -125,15 +139,6 @@ fn id_in_use(datasets: &[Package], id: &Text) -> bool
     datasets
         .iter()
         .any(|dataset| dataset.id.as_str() == id.as_str())
-}
-
-fn role_of_caller(people: &People, caller: &Caller, org: &Text) -> Option<Role>
-    ensures { result ≡ caller_role people.now caller.now org.now }
-{
-    match caller {
-        Caller::Anonymous => None,
-        Caller::Named(user) => people.role_of(org, user),
-    }
 }
 
 /// Whether the caller may make datasets in the organization. It takes no memory.
@@ -170,7 +175,9 @@ fn new_package(alloc: Global, call: &Call, creation: &Creation<'_>) -> Result<Pa
     let title = chosen_title(creation.title, creation.name).try_clone(alloc)?;
     let org = creation.org.try_clone(alloc)?;
     let creator = name_of_caller(alloc, &call.caller)?;
-    Ok(Package::fresh(alloc, id, name, title, org, creator, call.moment))
+    let mut dataset = Package::fresh(alloc, id, name, title, org, creator, call.moment);
+    dataset.private = creation.private;
+    Ok(dataset)
 }
 
 /// Makes room for one more dataset.

@@ -4,7 +4,7 @@ ghost use Rattle.std.specs.List.{list_all, list_any};
 ghost use Rattle.std.specs.Option.{option_copied};
 ghost use Rattle.std.specs.Str.{bytes_eq};
 ghost use Rattle.portal_base.specs.Json.{member_of};
-ghost use Rattle.portal_cli.specs.Request.{has_only, text_of, text_at, shown_of, creation_of, creation_name, creation_org, title_of, creation_title, is_built};
+ghost use Rattle.portal_cli.specs.Request.{has_only, text_of, text_at, shown_of, creation_of, creation_name, creation_org, title_of, creation_title, creation_private, is_built};
 ghost use Rattle.portal_cli.specs.Action.{action_name, action_named};
 ghost use Rattle.portal_cli.specs.Seen.{creation_seen};
 
@@ -32,6 +32,7 @@ pub struct Request {
 pub struct Creation<'a> {
     pub name: &'a Text,
     pub org: &'a Text,
+    pub private: bool,
     pub title: Option<&'a Text>,
 }
 
@@ -169,15 +170,37 @@ fn given_title(body: &Json) -> Option<Option<&Text>>
     }
 }
 
+/// Whether a body says that the dataset is private: it doesn't where the key is absent, and `None` where the value is no
+/// truth value.
+fn private_in(body: &Json) -> Option<bool>
+    ensures { result ≡ creation_private body.now }
+{
+    match body.get("private") {
+        None => Some(false),
+        Some(Json::Truth(private)) => Some(*private),
+        Some(_) => None,
+    }
+}
+
 /// What the body of a `package_create` says, where the body is built.
 pub fn creation_in(body: &Json) -> Option<Creation<'_>>
     ensures { option_map creation_seen result ≡ creation_of body.now }
 {
-    if !has_only_keys(body, &["name", "owner_org", "title"]) {
+    if !has_only_keys(body, &["name", "owner_org", "private", "title"]) {
         return None;
     }
-    match (name_in(body), org_in(body), given_title(body)) {
-        (Some(name), Some(org), Some(title)) => Some(Creation { name, org, title }),
+    match (
+        name_in(body),
+        org_in(body),
+        private_in(body),
+        given_title(body),
+    ) {
+        (Some(name), Some(org), Some(private), Some(title)) => Some(Creation {
+            name,
+            org,
+            private,
+            title,
+        }),
         _ => None,
     }
 }

@@ -36,6 +36,13 @@ const NOT_FOUND: &str =
 const OUT_OF_MEMORY: &str =
     "507 {\"error\":{\"__type\":\"Memory Error\",\"message\":\"Want of memory\"},\"help\":\"\",\"success\":false}\n";
 
+const CREATE_QUIET: &str =
+    "{\"action\":\"package_create\",\"as\":\"ann\",\"body\":{\"name\":\"quiet\",\"owner_org\":\"city\",\"private\":true}}\n";
+
+/// What is told of the dataset that `CREATE_QUIET` makes.
+const QUIET: &str =
+    "{\"author\":\"\",\"creator_user_id\":\"ann\",\"id\":\"00000000-0000-0000-0000-000000000001\",\"license_id\":\"\",\"maintainer\":\"\",\"metadata_created\":\"2024-01-01T00:00:00\",\"metadata_modified\":\"2024-01-01T00:00:00\",\"name\":\"quiet\",\"notes\":\"\",\"num_resources\":0,\"num_tags\":0,\"organization\":{\"id\":\"city\",\"name\":\"city\",\"title\":\"City\"},\"owner_org\":\"city\",\"private\":true,\"resources\":[],\"state\":\"active\",\"tags\":[],\"title\":\"quiet\",\"type\":\"dataset\",\"url\":\"\",\"version\":\"\"}";
+
 const CREATE: &str =
     "{\"action\":\"package_create\",\"as\":\"ann\",\"body\":{\"name\":\"air-quality\",\"owner_org\":\"city\",\"title\":\"Air quality\"}}\n";
 
@@ -122,6 +129,97 @@ fn calls_are_refused(rt: HostRuntime) -> Result<(), Fail> {
     Ok(())
 }
 
+/// The line of a call that is answered with what is told of `quiet`.
+fn told_of_quiet(alloc: Global, action: &str) -> Result<String, Fail> {
+    Ok(format!(in alloc;
+        "200 {{\"help\":\"/api/3/action/help_show?name={action}\",\"result\":{QUIET},\"success\":true}}\n"
+    )?)
+}
+
+/// The line of a `package_show` by this caller, whom no text names where the text is empty.
+fn show_as(alloc: Global, caller: &str, id: &str) -> Result<String, Fail> {
+    if caller.is_empty() {
+        return Ok(format!(in alloc;
+            "{{\"action\":\"package_show\",\"body\":{{\"id\":\"{id}\"}}}}\n"
+        )?);
+    }
+    Ok(format!(in alloc;
+        "{{\"action\":\"package_show\",\"as\":\"{caller}\",\"body\":{{\"id\":\"{id}\"}}}}\n"
+    )?)
+}
+
+/// What is written where `quiet` is made and this caller then asks for this id or name.
+fn shown_after_quiet(alloc: Global, caller: &str, id: &str) -> Result<String, Fail> {
+    let line = show_as(alloc, caller, id)?;
+    let script = both(alloc, CREATE_QUIET, line.as_str())?;
+    let play = play_over(alloc, script.as_str(), "play", &[], &[], 10_000)?;
+    Ok(play.written)
+}
+
+#[test]
+fn a_private_dataset_is_shown_to_those_inside(rt: HostRuntime) -> Result<(), Fail> {
+    let alloc = rt.alloc();
+    let created = told_of_quiet(alloc, "package_create")?;
+    let shown = told_of_quiet(alloc, "package_show")?;
+    let wanted = both(alloc, created.as_str(), shown.as_str())?;
+    let table = [
+        ("ann", "quiet"),
+        ("bob", "quiet"),
+        ("cyn", "quiet"),
+        ("root", "quiet"),
+        ("bob", "00000000-0000-0000-0000-000000000001"),
+    ];
+    for (caller, id) in table {
+        let written = shown_after_quiet(alloc, caller, id)?;
+        assert_eq!(rt; written.as_str(), wanted.as_str(), "at {caller} {id}");
+    }
+    Ok(())
+}
+
+#[test]
+fn a_private_dataset_is_hidden_from_those_outside(rt: HostRuntime) -> Result<(), Fail> {
+    let alloc = rt.alloc();
+    let created = told_of_quiet(alloc, "package_create")?;
+    let wanted = both(alloc, created.as_str(), NOT_FOUND)?;
+    let table = [
+        ("", "quiet"),
+        ("", "nothing-here"),
+        ("", "00000000-0000-0000-0000-000000000001"),
+        ("dan", "quiet"),
+        ("dan", "nothing-here"),
+        ("dan", "00000000-0000-0000-0000-000000000001"),
+        ("zoe", "quiet"),
+        ("ann", "nothing-here"),
+    ];
+    for (caller, id) in table {
+        let written = shown_after_quiet(alloc, caller, id)?;
+        assert_eq!(rt; written.as_str(), wanted.as_str(), "at {caller} {id}");
+    }
+    Ok(())
+}
+
+#[test]
+fn a_hidden_name_is_told_only_where_all_else_accepts(rt: HostRuntime) -> Result<(), Fail> {
+    let alloc = rt.alloc();
+    let created = told_of_quiet(alloc, "package_create")?;
+    let table = [
+        ("ann", NAME_IN_USE),
+        ("root", NAME_IN_USE),
+        ("bob", FORBIDDEN),
+        ("dan", FORBIDDEN),
+    ];
+    for (caller, answer) in table {
+        let again = format!(in alloc;
+            "{{\"action\":\"package_create\",\"as\":\"{caller}\",\"body\":{{\"name\":\"quiet\",\"owner_org\":\"city\"}}}}\n"
+        )?;
+        let script = both(alloc, CREATE_QUIET, again.as_str())?;
+        let wanted = both(alloc, created.as_str(), answer)?;
+        let play = play_over(alloc, script.as_str(), "play", &[], &[], 10_000)?;
+        assert_eq!(rt; play.written.as_str(), wanted.as_str(), "at {caller}");
+    }
+    Ok(())
+}
+
 #[test]
 fn what_is_not_built_draws_nothing(rt: HostRuntime) -> Result<(), Fail> {
     let alloc = rt.alloc();
@@ -132,7 +230,9 @@ fn what_is_not_built_draws_nothing(rt: HostRuntime) -> Result<(), Fail> {
         "{\"action\":\"package_show\",\"body\":{\"id\":\"x\",\"y\":1}}\n",
         "{\"action\":\"package_create\",\"as\":\"ann\",\"body\":{\"name\":\"new\",\"owner_org\":\"city\"}}\n",
         "{\"action\":\"package_create\",\"as\":\"ann\",\"body\":{\"name\":\"n1\",\"owner_org\":\"parks\"}}\n",
-        "{\"action\":\"package_create\",\"as\":\"ann\",\"body\":{\"name\":\"n1\",\"owner_org\":\"city\",\"private\":true}}\n",
+        "{\"action\":\"package_create\",\"as\":\"ann\",\"body\":{\"name\":\"n1\",\"owner_org\":\"city\",\"private\":null}}\n",
+        "{\"action\":\"package_create\",\"as\":\"ann\",\"body\":{\"name\":\"n1\",\"owner_org\":\"city\",\"private\":1}}\n",
+        "{\"action\":\"package_create\",\"as\":\"ann\",\"body\":{\"name\":\"n1\",\"owner_org\":\"city\",\"private\":\"true\"}}\n",
         "[1]\n",
         " \n",
     ];
