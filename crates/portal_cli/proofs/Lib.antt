@@ -1,5 +1,6 @@
 mod Deciding
 mod Examples
+pub mod Isolating
 pub mod Playing
 mod Replaying
 pub mod Viewing

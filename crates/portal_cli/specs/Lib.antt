@@ -2,6 +2,7 @@ pub mod Action
 pub mod Answer
 pub mod Decided
 pub mod Dictionary
+pub mod Isolation
 pub mod Opened
 pub mod Played
 pub mod Reply
