@@ -1,0 +1,4 @@
+pub mod DocumentLemmas
+pub mod Behind
+pub mod QuotedLemmas
+pub mod NameLemmas

@@ -1,0 +1,73 @@
+-- Documents of RDF 1.1 N-Triples, sections 2 and 7: bytes that are cut into lines, each UTF-8 and of the grammar.
+use Rattle.std.specs.Prelude.{◌≡◌, ℕ, ◌+◌, ◌==◌, if◌then◌else◌, Bool, false, ◌||◌, ◌&&◌, List, [], ◌∷◌, ◌++◌, length, drop, Option, Some, None, IsSome, ⊤}
+use Rattle.std.specs.Str.{is_utf8, chars}
+use Rattle.ntriples.specs.declared.fault.NtFault.{NtFault}
+use Rattle.ntriples.specs.declared.fault.NtFault.TheVariants.{Line, OutOfMemory}
+use Rattle.ntriples.specs.declared.term.Triple.{Triple}
+use Rattle.ntriples.specs.Reading.{◌>>=◌}
+use Rattle.ntriples.specs.Grammar.{line}
+
+-- EOL: a carriage return and a line feed, or one of them
+abbrev pub is_line_end : ℕ → Bool
+is_line_end b = (b == 10) || (b == 13)
+
+abbrev pub begins_with_feed : List ℕ → Bool
+begins_with_feed [] = false
+begins_with_feed (b ∷ bs) = b == 10
+
+abbrev pub onto_first : ℕ → List (List ℕ) → List (List ℕ)
+onto_first b [] = (b ∷ []) ∷ []
+onto_first b (l ∷ ls) = (b ∷ l) ∷ ls
+
+-- The lines without their ends; the last is what follows the last line end, and may be empty. The line feed behind
+-- a carriage return ends no line of its own.
+unfoldable pub lines : List ℕ → List (List ℕ)
+lines [] = [] ∷ []
+lines (b ∷ bs) =
+    if is_line_end b then [] ∷ (if (b == 13) && begins_with_feed bs then drop 1 (lines bs) else lines bs)
+    else onto_first b (lines bs)
+
+-- what a line stands for: a triple or none, where it is UTF-8 and of the grammar
+unfoldable pub line_of : List ℕ → Option (Option Triple)
+line_of bytes = if is_utf8 bytes then line (chars bytes) else None
+
+abbrev pub given : Option Triple → List Triple
+given None = []
+given (Some t) = t ∷ []
+
+-- the triples of the lines in order, where each is a line
+unfoldable pub triples_of : List (List ℕ) → Option (List Triple)
+triples_of [] = Some []
+triples_of (l ∷ ls) = do
+  t ← line_of l
+  ts ← triples_of ls
+  Some (given t ++ ts)
+
+-- the bytes are a document of these triples
+abbrev pub IsDocument : List ℕ → List Triple → Type 0
+IsDocument bytes ts = triples_of (lines bytes) ≡ Some ts
+
+-- the lines before the line of this number, counted from 1, are lines of the grammar, and that one isn't
+pub record IsFirstBadLine (bytes : List ℕ) (number : ℕ) : Type 0 where
+  pub before : List (List ℕ)
+  pub bad : List ℕ
+  pub behind : List (List ℕ)
+  pub cut : lines bytes ≡ before ++ bad ∷ behind
+  pub good : IsSome (triples_of before)
+  pub malformed : line_of bad ≡ None
+  pub counted : number ≡ length before + 1
+
+-- why bytes are not read
+abbrev pub IsFault : List ℕ → NtFault → Type 0
+IsFault bytes (Line number) = IsFirstBadLine bytes number
+IsFault bytes OutOfMemory = ⊤
+
+-- what follows the first line
+abbrev pub lines_after : Option (List ℕ) → List (List ℕ)
+lines_after None = []
+lines_after (Some rest) = lines rest
+
+-- what follows a line end, from it on, or nothing at the end of the bytes
+abbrev pub after_end : List ℕ → Option (List ℕ)
+after_end [] = None
+after_end (b ∷ bs) = if (b == 13) && begins_with_feed bs then Some (drop 1 bs) else Some bs

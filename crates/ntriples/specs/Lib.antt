@@ -1,0 +1,5 @@
+pub mod Characters
+pub mod Document
+pub mod Grammar
+pub mod Reading
+pub mod Written

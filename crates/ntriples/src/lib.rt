@@ -1,0 +1,19 @@
+//! RDF 1.1 N-Triples, read and written exactly by the grammar.
+#![tactic(auto)]
+
+mod characters;
+mod document;
+mod fault;
+mod names;
+mod quoted;
+mod term;
+mod terms;
+#[cfg(test)]
+mod tests;
+mod text;
+mod writing;
+
+pub use document::read;
+pub use fault::NtFault;
+pub use term::{Term, Triple};
+pub use writing::write;

@@ -1,0 +1,135 @@
+//! Terms, triples and whole lines.
+ghost use Rattle.std.specs.Prelude.{◌≡◌};
+ghost use Rattle.std.specs.Str.{chars};
+ghost use Rattle.ntriples.specs.Reading.{Gives, character, skip_blanks};
+ghost use Rattle.ntriples.specs.Grammar.{datatype, literal_suffix, literal, subject, object, triple, is_end, triple_alone, line, quoted, xsd_string, rdf_lang_string};
+
+use crate::fault::Refusal;
+use crate::names::{blank_node_label, langtag};
+use crate::quoted::{QuoteKind, iriref, quoted};
+use crate::term::{Term, Triple};
+use crate::text::{after, first, skip_blanks, split_first};
+use portal_base::text::Text;
+use std::alloc::Global;
+
+/// The datatype of a literal with neither a datatype nor a language.
+pub(crate) const XSD_STRING: &str = "http://www.w3.org/2001/XMLSchema#string";
+
+/// The datatype of a literal with a language.
+pub(crate) const RDF_LANG_STRING: &str = "http://www.w3.org/1999/02/22-rdf-syntax-ns#langString";
+
+// The datatype of a literal behind its first `^`.
+#[tactic(auto, unfolding(crate::specs::Grammar::datatype))]
+fn datatype(alloc: Global, text: &str) -> Result<(Text, &str), Refusal>
+    ensures { Gives (λ x. (x.0, chars x.1.now)) result (datatype (chars text.now)) }
+{
+    let rest = after(text, '^')?;
+    iriref(alloc, rest)
+}
+
+// What may follow a literal's closing quote.
+#[tactic(auto, unfolding(crate::specs::Grammar::literal_suffix))]
+fn literal_suffix(alloc: Global, lexical: Text, text: &str) -> Result<(Term, &str), Refusal>
+    ensures { Gives (λ x. (x.0, chars x.1.now)) result (literal_suffix lexical (chars text.now)) }
+{
+    match split_first(text) {
+        Some(('@', rest)) => {
+            let (tag, rest) = langtag(alloc, rest)?;
+            let lang_string = Text::from_str(alloc, RDF_LANG_STRING)?;
+            Ok((Term::Literal(lexical, lang_string, Some(tag)), rest))
+        }
+        Some(('^', rest)) => {
+            let (datatype, rest) = datatype(alloc, rest)?;
+            Ok((Term::Literal(lexical, datatype, None), rest))
+        }
+        _ => {
+            let string = Text::from_str(alloc, XSD_STRING)?;
+            Ok((Term::Literal(lexical, string, None), text))
+        }
+    }
+}
+
+#[tactic(auto, unfolding(crate::specs::Grammar::literal))]
+fn literal(alloc: Global, text: &str) -> Result<(Term, &str), Refusal>
+    ensures { Gives (λ x. (x.0, chars x.1.now)) result (literal (chars text.now)) }
+{
+    let rest = after(text, '"')?;
+    let (lexical, rest) = quoted(alloc, QuoteKind::Literal, rest)?;
+    literal_suffix(alloc, lexical, rest)
+}
+
+#[tactic(auto, unfolding(crate::specs::Grammar::subject))]
+fn subject(alloc: Global, text: &str) -> Result<(Term, &str), Refusal>
+    ensures { Gives (λ x. (x.0, chars x.1.now)) result (subject (chars text.now)) }
+{
+    let (character, _) = first(text)?;
+    if character == '_' {
+        let (label, rest) = blank_node_label(alloc, text)?;
+        Ok((Term::Blank(label), rest))
+    } else {
+        let (iri, rest) = iriref(alloc, text)?;
+        Ok((Term::Iri(iri), rest))
+    }
+}
+
+#[tactic(auto, unfolding(crate::specs::Grammar::object))]
+fn object(alloc: Global, text: &str) -> Result<(Term, &str), Refusal>
+    ensures { Gives (λ x. (x.0, chars x.1.now)) result (object (chars text.now)) }
+{
+    let (character, _) = first(text)?;
+    if character == '"' {
+        literal(alloc, text)
+    } else {
+        subject(alloc, text)
+    }
+}
+
+#[tactic(auto, unfolding(crate::specs::Grammar::triple))]
+fn triple(alloc: Global, text: &str) -> Result<(Triple, &str), Refusal>
+    ensures { Gives (λ x. (x.0, chars x.1.now)) result (triple (chars text.now)) }
+{
+    let (subject, rest) = subject(alloc, text)?;
+    let (predicate, rest) = iriref(alloc, skip_blanks(rest))?;
+    let (object, rest) = object(alloc, skip_blanks(rest))?;
+    let rest = after(skip_blanks(rest), '.')?;
+    let triple = Triple {
+        subject,
+        predicate,
+        object,
+    };
+    Ok((triple, rest))
+}
+
+// Whether the text is empty, or a comment.
+fn is_end(text: &str) -> bool
+    ensures { result ≡ is_end (chars text.now) }
+{
+    match split_first(text) {
+        Some((character, _)) => character == '#',
+        None => true,
+    }
+}
+
+#[tactic(auto, unfolding(crate::specs::Grammar::triple_alone))]
+fn triple_alone(alloc: Global, text: &str) -> Result<Triple, Refusal>
+    ensures { Gives (λ t. t) result (triple_alone (chars text.now)) }
+{
+    let (triple, rest) = triple(alloc, text)?;
+    if is_end(skip_blanks(rest)) {
+        Ok(triple)
+    } else {
+        Err(Refusal::Malformed)
+    }
+}
+
+/// The triple of a whole line, if it has one.
+#[tactic(auto, unfolding(crate::specs::Grammar::line))]
+pub(crate) fn line(alloc: Global, text: &str) -> Result<Option<Triple>, Refusal>
+    ensures { Gives (λ t. t) result (line (chars text.now)) }
+{
+    let text = skip_blanks(text);
+    if is_end(text) {
+        return Ok(None);
+    }
+    Ok(Some(triple_alone(alloc, text)?))
+}
