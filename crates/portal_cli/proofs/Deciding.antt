@@ -1,9 +1,9 @@
 -- The outcomes of a dataset that is shown and of a creation that nothing hinders.
 use Rattle.std.proofs.Common.{◌≡◌, ℕ, List, true, false, Option, Some, subst, sym, refl}
-use Rattle.std.specs.Prelude.{◌&&◌, find}
+use Rattle.std.specs.Prelude.{◌&&◌, is_some, find}
 use Rattle.portal_base.specs.declared.caller.Caller.{Caller}
 use Rattle.portal_base.specs.declared.json_value.Json.{Json}
-use Rattle.org_roles.specs.Peopled.{Peopled}
+use Rattle.org_roles.specs.Peopled.{Peopled, org_in}
 use Rattle.packages.specs.declared.package.Package.{Package}
 use Rattle.portal_cli.specs.Answer.{may_create, created_package, answer_to_create}
 use Rattle.visibility.specs.Visibility.{sees_in}
@@ -29,16 +29,16 @@ Goes call said people datasets dataset =
     → IsOutcome call said people datasets json dataset
 
 goes_as_said : (call : Call) (seen : Creation) (people : Peopled) (datasets : List Package)
-    → may_create people call.caller seen.org ≡ true → Goes call (Some seen) people datasets (created_package call seen)
-goes_as_said call seen people datasets may json told unnamed unknown = rw (may, unnamed, unknown, told)
+    → may_create people call.caller seen.org ≡ true → is_some (org_in people seen.org) ≡ true → Goes call (Some seen) people datasets (created_package call seen)
+goes_as_said call seen people datasets may there json told unnamed unknown = rw (may, there, unnamed, unknown, told)
 
 pub planned-outcome : (call : Call) (said : Option Creation) (seen : Creation) (people : Peopled) (datasets : List Package) (dataset : Package) (json : Json)
-    → Some seen ≡ said → may_create people call.caller seen.org ≡ true → dataset ≡ created_package call seen
+    → Some seen ≡ said → may_create people call.caller seen.org ≡ true → is_some (org_in people seen.org) ≡ true → dataset ≡ created_package call seen
     → json ≡ package_dictionary people dataset → has_name dataset.name datasets ≡ false → has_id dataset.id datasets ≡ false
     → IsOutcome call said people datasets json dataset
-planned-outcome call said seen people datasets dataset json is may made told unnamed unknown =
+planned-outcome call said seen people datasets dataset json is may there made told unnamed unknown =
     subst (λ (s : Option Creation). IsOutcome call s people datasets json dataset) is
-    (subst (λ (d : Package). Goes call (Some seen) people datasets d) (sym made) (goes_as_said call seen people datasets may) json told unnamed unknown)
+    (subst (λ (d : Package). Goes call (Some seen) people datasets d) (sym made) (goes_as_said call seen people datasets may there) json told unnamed unknown)
 
 -- the dataset that is found is shown
 pub shown-outcome : (said : Option (List ℕ)) (key : List ℕ) (caller : Caller) (people : Peopled) (datasets : List Package) (dataset : Package) (json : Json)

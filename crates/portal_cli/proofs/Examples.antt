@@ -1,22 +1,25 @@
 -- The definitions on worked examples.
-use Rattle.std.proofs.Common.{None, ◌≡◌, ℕ, Bool, List, [], ◌∷◌, true, false, Some, refl}
+use Rattle.std.proofs.Common.{None, ◌≡◌, ℕ, Bool, List, [], ◌∷◌, true, false, Some, refl, ap, arith}
 use Rattle.std.specs.Prelude.{codes, map, pos}
 use Rattle.portal_base.specs.declared.caller.Caller.{Caller}
 use Rattle.portal_base.specs.declared.caller.Caller.TheVariants.{Anonymous, Named}
 use Rattle.org_roles.specs.declared.entry.User.{User}
 use Rattle.org_roles.specs.declared.entry.Membership.{Membership}
+use Rattle.org_roles.specs.declared.role.Role.TheVariants.{Editor}
 use Rattle.packages.specs.declared.package.Package.{Package}
 use Rattle.packages.specs.Package.{fresh_package}
 use Rattle.portal_cli.specs.Answer.{may_create, title_or_name, answer_to_create}
 use Rattle.portal_cli.specs.Request.{Creation}
+use Rattle.portal_cli.specs.Hidden.{is_caller, IsHiddenBetween}
 use Rattle.portal_cli.specs.Step.{settled}
+use Rattle.portal_cli.specs.Valid.{IsValid}
 use Rattle.portal_cli.specs.declared.call.Call.{Call}
 use Rattle.portal_cli.specs.declared.call.Refusal.TheVariants.{NameInUse}
 use Rattle.portal_cli.specs.declared.call.Reply.TheVariants.{Refused}
 use Rattle.portal_cli.specs.Run.{is_play}
 use Rattle.portal_cli.specs.Script.{script_lines, known_caller}
 use Rattle.portal_cli.specs.State.{State}
-use Rattle.portal_cli.specs.Stated.{stated_state}
+use Rattle.portal_cli.specs.Stated.{a_user, city_role, stated_state}
 use Rattle.portal_cli.specs.View.{view_of}
 
 -- a carriage return before a line feed is no part of the line, empty lines are left out, and the last line keeps what it has
@@ -108,3 +111,37 @@ hidden_name_in_use : (call : Call)
     → (settled (answer_to_create (record call { caller = Named (codes "ann") }) (Some quiet_again) (view_of (Named (codes "ann")) with_hidden)) with_hidden).reply
     ≡ Refused (NameInUse (codes "name"))
 hidden_name_in_use call = refl
+
+-- a call is its caller's, and no other's
+ann_is_ann : is_caller (Named (codes "ann")) (Named (codes "ann")) ≡ true
+ann_is_ann = refl
+
+ann_is_not_bob : is_caller (Named (codes "ann")) (Named (codes "bob")) ≡ false
+ann_is_not_bob = refl
+
+ann_is_somebody : is_caller (Named (codes "ann")) Anonymous ≡ false
+ann_is_somebody = refl
+
+-- a second dataset of the same name
+abbrev quiet_twice : State
+quiet_twice = record stated_state { datasets = quiet ∷ record quiet { id = codes "1" } ∷ [] }
+
+-- two datasets of one name are in no valid state
+one_name_is_not_valid : IsValid quiet_twice → ⊥
+one_name_is_not_valid valid =
+    let same : quiet ≡ record quiet { id = codes "1" } =
+    valid.names quiet (record quiet { id = codes "1" }) (0, omega arith, refl) (1, omega arith, refl) refl in
+    let ids : quiet.id ≡ codes "1" = ap (λ (d : Package). d.id) same in
+    absurd (cc)
+
+-- that the dataset comes is not hidden from bob, who sees it
+quiet_is_not_hidden_from_bob : IsHiddenBetween (Named (codes "bob")) stated_state with_quiet → ⊥
+quiet_is_not_hidden_from_bob hidden = let stood = hidden.datasets.stood quiet (0, omega arith, refl) refl in absurd (omega arith)
+
+-- the loss of a role is not hidden from whoever had it
+role_lost_is_not_hidden : IsHiddenBetween (Named (codes "ann")) stated_state (record stated_state { people = record stated_state.people { roles = [] } }) → ⊥
+role_lost_is_not_hidden hidden = let stays = hidden.roles.stays (city_role (codes "ann") Editor) (0, omega arith, refl) refl in absurd (omega arith)
+
+-- and a new user is hidden from nobody
+user_is_not_hidden : IsHiddenBetween Anonymous (record stated_state { people = record stated_state.people { users = [] } }) stated_state → ⊥
+user_is_not_hidden hidden = let stood = hidden.users.stood (a_user (codes "ann") false) (0, omega arith, refl) refl in absurd (omega arith)

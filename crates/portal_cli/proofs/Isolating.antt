@@ -1,12 +1,11 @@
 -- Equal views are answered alike, and what is accepted leaves equal views.
-use Rattle.std.proofs.Common.{◌≡◌, ℕ, Bool, true, false, cond, List, [], ◌∷◌, refl, sym, ap, ◌∙◌, subst}
+use Rattle.std.proofs.Common.{◌≡◌, Bool, true, false, cond, List, [], ◌∷◌, refl, sym, ap, ◌∙◌, subst}
 use Rattle.std.specs.Prelude.{filter, codes}
 use Rattle.std.specs.Cmp.{IsTotalOrder}
 use Rattle.std.specs.Ordering.{is_lt}
 use Rattle.std.specs.declared.cmp.Ordering.{Ordering}
 use Rattle.std.specs.declared.cmp.Ordering.TheVariants.{Less, Equal, Greater}
 use Rattle.std.proofs.lemmas.Cmp.{on_total, nat_list_cmp_total}
-use Rattle.std.proofs.lemmas.List.Elements.{filter_agree}
 use Rattle.portal_base.specs.declared.caller.Caller.{Caller}
 use Rattle.portal_base.specs.declared.json_value.Json.{Json}
 use Rattle.org_roles.specs.Ascending.{IsAscending, IsBelowAll, inserted}
@@ -15,7 +14,7 @@ use Rattle.packages.specs.declared.package.Package.{Package}
 use Rattle.visibility.specs.Visibility.{sees_in}
 use Rattle.portal_cli.specs.Answer.{Answer, shown, refused, accepted, create_dataset, answer_to}
 use Rattle.portal_cli.specs.Isolation.{tells_of_use}
-use Rattle.portal_cli.specs.State.{State, dataset_cmp, with_dataset, has_name, has_id}
+use Rattle.portal_cli.specs.State.{State, dataset_cmp, has_name, has_id}
 use Rattle.portal_cli.specs.Step.{Outcome, unchanged, changed, settled, call_step}
 use Rattle.portal_cli.specs.View.{people_seen, view_of}
 use Rattle.portal_cli.specs.declared.call.Call.{Call}
@@ -77,7 +76,7 @@ filter-inserted cmp o q x (y ∷ ys) up = by (is_lt (cmp y x)) refl (q y) refl (
 -- ---- replies
 
 -- the outcome of a creation, by whether its name and its id are in use
-abbrev outcome_when : Json → Package → State → Bool → Bool → Outcome
+abbrev pub outcome_when : Json → Package → State → Bool → Bool → Outcome
 outcome_when json dataset state named known =
     cond named (unchanged (Refused (NameInUse (codes "name"))) state)
     (cond known (unchanged (Refused (NameInUse (codes "id"))) state)
@@ -103,7 +102,7 @@ settled-state json dataset state made = by (has_name dataset.name state.datasets
     by false true m = absurd (cc)
     by false false m = refl
 
-settled_alike : (answer : Answer) (s t : State) → tells_of_use (settled answer s).reply ≡ false → tells_of_use (settled answer t).reply ≡ false
+pub settled_alike : (answer : Answer) (s t : State) → tells_of_use (settled answer s).reply ≡ false → tells_of_use (settled answer t).reply ≡ false
     → (settled answer s).reply ≡ (settled answer t).reply
 settled_alike (shown json) s t first second = refl
 settled_alike (refused refusal) s t first second = refl
@@ -120,7 +119,7 @@ replies_alike s t call same first second =
 
 -- ---- views
 
-dataset_cmp_total : IsTotalOrder dataset_cmp
+pub dataset_cmp_total : IsTotalOrder dataset_cmp
 dataset_cmp_total = on_total (λ (d : Package). d.id) nat_list_cmp_total
 
 -- equal views of the people give equal sight
@@ -141,7 +140,7 @@ changed_alike caller s t dataset up_s up_t same =
       people,
     ) refl
 
-settled_views : (answer : Answer) (caller : Caller) (s t : State) → IsAscending dataset_cmp s.datasets → IsAscending dataset_cmp t.datasets
+pub settled_views : (answer : Answer) (caller : Caller) (s t : State) → IsAscending dataset_cmp s.datasets → IsAscending dataset_cmp t.datasets
     → view_of caller s ≡ view_of caller t → (settled answer s).is_accepted ≡ true → (settled answer t).is_accepted ≡ true
     → view_of caller (settled answer s).state ≡ view_of caller (settled answer t).state
 settled_views (shown json) caller s t up_s up_t same first second = absurd (cc)

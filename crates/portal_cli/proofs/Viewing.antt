@@ -1,6 +1,6 @@
 -- What a view keeps of the state: the caller's own flag, roles and sight.
 use Rattle.std.proofs.Common.{◌≡◌, ℕ, Bool, true, false, ◌&&◌, ◌||◌, cond, List, [], ◌∷◌, map, Option, Some, None, refl, sym, ap, ◌∙◌}
-use Rattle.std.specs.Prelude.{filter, find}
+use Rattle.std.specs.Prelude.{filter, find, is_some}
 use Rattle.std.specs.List.{list_any}
 use Rattle.std.specs.Option.{option_map}
 use Rattle.std.specs.Str.{bytes_eq}
@@ -8,17 +8,18 @@ use Rattle.std.proofs.lemmas.Slice.Eq.{bytes_eq-Decides}
 use Rattle.std.proofs.lemmas.List.Elements.{filter_agree}
 use Rattle.portal_base.specs.declared.caller.Caller.{Caller}
 use Rattle.portal_base.specs.declared.caller.Caller.TheVariants.{Anonymous, Named}
-use Rattle.org_roles.specs.Peopled.{Peopled, role_in, is_sysadmin_in}
-use Rattle.org_roles.specs.Rights.{rights_for}
+use Rattle.org_roles.specs.Peopled.{Peopled, org_in, is_sysadmin_in}
 use Rattle.org_roles.specs.declared.entry.Membership.{Membership}
 use Rattle.org_roles.specs.declared.entry.User.{User}
 use Rattle.packages.specs.declared.package.Package.{Package}
 use Rattle.visibility.specs.Visibility.{caller_role, sees_in}
 use Rattle.visibility.proofs.VisibilityLemmas.{sees_in-own}
-use Rattle.portal_cli.specs.Answer.{may_create, answer_to_create, answer_to_show, shown_package}
+use Rattle.portal_cli.specs.Answer.{Answer, refused, may_create, created_package, answer_to_creation, answer_to_create, answer_to_show, shown_package}
 use Rattle.portal_cli.specs.Decided.{answer_to_show_in}
 use Rattle.portal_cli.specs.Request.{Creation}
 use Rattle.portal_cli.specs.declared.call.Call.{Call}
+use Rattle.portal_cli.specs.declared.call.Refusal.TheVariants.{NotAuthorized}
+use Rattle.portal_cli.specs.declared.call.Right.TheVariants.{CreateDataset}
 use Rattle.portal_cli.specs.State.{State, is_named}
 use Rattle.portal_cli.specs.View.{is_called, user_seen, administers, is_role_seen, people_seen, view_of}
 
@@ -42,7 +43,7 @@ find_agree p q same [] = refl
 find_agree p q same (x ∷ xs) = rw (same x, find_agree p q same xs) refl
 
 -- what passes a test that keeps it is found among those kept
-find-kept : {X : Type 0} (p q : X → Bool) → ((x : X) → (p x && q x) ≡ p x) → (xs : List X) → find p (filter q xs) ≡ find p xs
+pub find-kept : {X : Type 0} (p q : X → Bool) → ((x : X) → (p x && q x) ≡ p x) → (xs : List X) → find p (filter q xs) ≡ find p xs
 find-kept p q kept xs = find-filter p q xs ∙ find_agree (λ x. p x && q x) p kept xs
 
 -- what was kept is kept again
@@ -61,7 +62,7 @@ filter-again p q same xs = filter_agree p q same (filter q xs) ∙ filter-twice 
 -- ---- the caller's own name
 
 -- whoever has a name is called so
-called_by_name : (name user : List ℕ) → (bytes_eq name user && bytes_eq user name) ≡ bytes_eq name user
+pub called_by_name : (name user : List ℕ) → (bytes_eq name user && bytes_eq user name) ≡ bytes_eq name user
 called_by_name name user = by (bytes_eq name user) refl
   where
     by : (b : Bool) → bytes_eq name user ≡ b → (b && bytes_eq user name) ≡ b
@@ -112,11 +113,20 @@ caller_role-seen (Named user) people org =
 may_create-seen : (caller : Caller) (people : Peopled) (org : List ℕ) → may_create (people_seen caller people) caller org ≡ may_create people caller org
 may_create-seen caller people org = rw (is_sysadmin_in-seen caller people, caller_role-seen caller people org) refl
 
+-- all organizations are seen
+answer_to_creation-seen : (stands : Bool) (caller : Caller) (people : Peopled) (dataset : Package)
+    → answer_to_creation stands (people_seen caller people) dataset ≡ answer_to_creation stands people dataset
+answer_to_creation-seen true caller people dataset = refl
+answer_to_creation-seen false caller people dataset = refl
+
 -- a creation is answered on the view as on the state
 pub answer_to_create-seen : (call : Call) (said : Option Creation) (state : State)
     → answer_to_create call said (view_of call.caller state) ≡ answer_to_create call said state
 answer_to_create-seen call None state = refl
-answer_to_create-seen call (Some creation) state = rw (may_create-seen call.caller state.people creation.org) refl
+answer_to_create-seen call (Some creation) state =
+    rw (may_create-seen call.caller state.people creation.org)
+    (ap (λ (a : Answer). cond (may_create state.people call.caller creation.org) a (refused (NotAuthorized CreateDataset)))
+    (answer_to_creation-seen (is_some (org_in state.people creation.org)) call.caller state.people (created_package call creation)))
 
 shown_package-seen : (caller : Caller) (people : Peopled) (found : Option Package) → shown_package (people_seen caller people) found ≡ shown_package people found
 shown_package-seen caller people None = refl

@@ -1,12 +1,11 @@
 -- The answer to a call: a function of the call and of what its caller sees.
-use Rattle.std.specs.Prelude.{ℕ, List, [], ◌∷◌, Bool, ◌||◌, Option, Some, None, find, if◌then◌else◌}
+use Rattle.std.specs.Prelude.{ℕ, List, [], ◌∷◌, Bool, true, false, ◌||◌, Option, Some, None, is_some, find, if◌then◌else◌}
 use Rattle.portal_base.specs.Id.{id_text}
 use Rattle.portal_base.specs.declared.caller.Caller.{Caller}
 use Rattle.portal_base.specs.declared.caller.Caller.TheVariants.{Anonymous, Named}
 use Rattle.portal_base.specs.declared.json_value.Json.{Json}
-use Rattle.org_roles.specs.Peopled.{Peopled, role_in, is_sysadmin_in}
+use Rattle.org_roles.specs.Peopled.{Peopled, is_sysadmin_in, org_in}
 use Rattle.org_roles.specs.Rights.{rights_for}
-use Rattle.org_roles.specs.declared.role.Role.{Role}
 use Rattle.packages.specs.Package.{fresh_package}
 use Rattle.visibility.specs.Visibility.{caller_role}
 use Rattle.packages.specs.declared.package.Package.{Package}
@@ -52,11 +51,16 @@ created_package call creation =
     let fresh = fresh_package (id_text call.nonce.0) creation.name (title_or_name creation.title creation.name) creation.org (caller_name call.caller) call.moment in
     record fresh { private = creation.private }
 
+-- the dataset is made where its organization stands
+abbrev pub answer_to_creation : Bool → Peopled → Package → Answer
+answer_to_creation true people dataset = accepted (package_dictionary people dataset) (create_dataset dataset)
+answer_to_creation false people dataset = refused NotBuilt
+
 abbrev pub answer_to_create : Call → Option Creation → State → Answer
 answer_to_create call None view = refused NotBuilt
 answer_to_create call (Some creation) view =
     if may_create view.people call.caller creation.org
-    then accepted (package_dictionary view.people (created_package call creation)) (create_dataset (created_package call creation))
+    then answer_to_creation (is_some (org_in view.people creation.org)) view.people (created_package call creation)
     else refused (NotAuthorized CreateDataset)
 
 abbrev pub shown_package : Peopled → Option Package → Answer

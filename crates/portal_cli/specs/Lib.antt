@@ -2,6 +2,8 @@ pub mod Action
 pub mod Answer
 pub mod Decided
 pub mod Dictionary
+pub mod Hidden
+pub mod History
 pub mod Isolation
 pub mod Opened
 pub mod Played
@@ -15,4 +17,5 @@ pub mod Stated
 pub mod Step
 pub mod Stopped
 pub mod Transcript
+pub mod Valid
 pub mod View

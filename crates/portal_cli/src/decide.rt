@@ -1,8 +1,9 @@
 //! What a call is answered, and what it would change. It reads the portal and changes nothing.
-ghost use Rattle.std.specs.Prelude.{◌≡◌, ◌<◌, ◌≤◌, ◌&&◌, IfOk, OnOk, find, vec_len, vec_capacity, length};
+ghost use Rattle.std.specs.Prelude.{◌≡◌, ◌<◌, ◌≤◌, ◌&&◌, IfOk, OnOk, is_some, find, vec_len, vec_capacity, length};
 ghost use Rattle.std.specs.List.{prefix_len};
 ghost use Rattle.std.specs.Option.{option_copied};
 ghost use Rattle.std.specs.Ordering.{is_lt};
+ghost use Rattle.org_roles.specs.Peopled.{org_in};
 ghost use Rattle.visibility.specs.Visibility.{sees_in};
 ghost use Rattle.portal_cli.specs.Answer.{may_create, caller_name, title_or_name, created_package, answer_to_create};
 ghost use Rattle.portal_cli.specs.State.{state_of, has_name, has_id, is_named, dataset_cmp, with_dataset};
@@ -95,6 +96,9 @@ fn decide_create(
     if !may_create(people, &call.caller, creation.org) {
         return Ok(refused(Refusal::NotAuthorized(Right::CreateDataset)));
     }
+    if !stands(people, creation.org) {
+        return Ok(refused(Refusal::NotBuilt));
+    }
     let dataset = new_package(alloc, call, &creation)?;
     if name_in_use(datasets, &dataset.name) {
         return Ok(refused(Refusal::NameInUse(Text::from_str(alloc, "name")?)));
@@ -146,6 +150,13 @@ fn may_create(people: &People, caller: &Caller, org: &Text) -> bool
     ensures { result ≡ may_create people.now caller.now org.now }
 {
     people.is_sysadmin(caller) || rights_of(role_of_caller(people, caller, org)).edit
+}
+
+/// Whether the organization is there.
+fn stands(people: &People, org: &Text) -> bool
+    ensures { result ≡ is_some (org_in people.now org.now) }
+{
+    people.org(org).is_some()
 }
 
 fn name_of_caller(alloc: Global, caller: &Caller) -> Result<Text, AllocError>

@@ -1,9 +1,11 @@
 //! Scripts played over devices in memory, and what the statuses come from.
 use crate::call::{Call, Event, Kind, Refusal, Reply};
+use crate::portal::{Opening, Portal};
 use crate::reply::{line_of_reply, status_of, text_of_reply};
 use crate::request::{Action, Request};
 use crate::run::run;
 use crate::stated::stated_portal;
+use org_roles::entry::User;
 use portal_base::caller::Caller;
 use portal_base::counted::{CountNonces, ScriptClock};
 use portal_base::json_value::Json;
@@ -343,6 +345,24 @@ fn a_name_and_then_an_id_in_use_are_told(rt: HostRuntime) -> Result<(), Fail> {
         let text = text_of_reply(alloc, Action::PackageCreate, reply)?;
         assert!(rt; text.as_str().contains(part), "at {name} {number}");
     }
+    Ok(())
+}
+
+#[test]
+fn a_creation_wants_its_organization(rt: HostRuntime) -> Result<(), Fail> {
+    let alloc = rt.alloc();
+    let root = User {
+        name: Text::from_str(alloc, "cyn")?,
+        sysadmin: true,
+    };
+    let opening = Opening {
+        users: Seq::from(vec![in alloc; root]?),
+        orgs: Seq::new(alloc),
+        roles: Seq::new(alloc),
+    };
+    let mut portal = Portal::open(alloc, &opening)?;
+    let reply = portal.act(&creation(alloc, "first", 1)?);
+    assert_eq!(rt; status_of(&reply), 501);
     Ok(())
 }
 
