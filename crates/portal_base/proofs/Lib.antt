@@ -1,4 +1,5 @@
 pub mod CivilLemmas
+pub mod FormLemmas
 mod IdExamples
 pub mod IdLemmas
 mod JsonBack
@@ -14,4 +15,6 @@ pub mod MomentTextLemmas
 mod NameExamples
 mod OutsideExamples
 pub mod OutsideLemmas
+pub mod ReadingBack
+pub mod ReadingLemmas
 mod JsonFirst

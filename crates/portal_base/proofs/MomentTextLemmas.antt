@@ -17,7 +17,7 @@ use Rattle.portal_base.specs.Moment.{IsMoment, first_moment}
 use Rattle.portal_base.specs.MomentText.{IsMomentText, two_digits, four_digits, count_off, year_of_day, month_of_day, day_text, clock_text, calendar_seconds, moment_text}
 
 -- The days of so many units from a first one on.
-unfoldable total : (ℕ → ℕ) → ℕ → ℕ → ℕ
+unfoldable pub total : (ℕ → ℕ) → ℕ → ℕ → ℕ
 total days_in first zero = 0
 total days_in first (suc more) = days_in first + total days_in (suc first) more
 
@@ -41,7 +41,7 @@ count_off-total days_in (suc most) first (suc units) rest days h lt e =
     rw past (count_off-total days_in most (suc first) units rest (days - days_in first) (omega arith) (rw next lt) left ∙ ap (λ unit. (unit, rest)) next)
 
 -- The days of so many years lie between their first days.
-total-years : (first years : ℕ) → total (λ year. days_in_year (pos year)) first years + day_count (pos first) 1 1 ≡ day_count (pos (first + years)) 1 1
+pub total-years : (first years : ℕ) → total (λ year. days_in_year (pos year)) first years + day_count (pos first) 1 1 ≡ day_count (pos (first + years)) 1 1
 unfolding total
 total-years first zero = let none : first + 0 ≡ first = omega arith in rw none (omega arith)
 total-years first (suc years) =
@@ -49,7 +49,7 @@ total-years first (suc years) =
     omega (arith, rw next at (total-years (suc first) years), day_count-next_year (pos first) (pos (suc first)) (omega (arith, signed_arith)) (omega (arith, signed_arith)))
 
 -- The days of so many months are those that the calendar counts.
-total-months : (year : ℤ) (before months : ℕ) → total (days_in_month year) (suc before) months + days_of_months year before ≡ days_of_months year (before + months)
+pub total-months : (year : ℤ) (before months : ℕ) → total (days_in_month year) (suc before) months + days_of_months year before ≡ days_of_months year (before + months)
 unfolding total
 total-months year before zero = let none : before + 0 ≡ before = omega arith in rw none (omega arith)
 total-months year before (suc months) =
@@ -58,7 +58,7 @@ total-months year before (suc months) =
     let here = rw back at (days_of_months_more year (suc before) (omega arith)) in
     omega (arith, rw next at (total-months year (suc before) months), here)
 
-day_count-year_zero : day_count (pos 0) 1 1 ≡ 3652425
+pub day_count-year_zero : day_count (pos 0) 1 1 ≡ 3652425
 day_count-year_zero = day_count-early (pos 0) 9999 1 1 refl (omega arith) (omega arith) (omega arith)
 
 -- The year of a date's day is its year, after which its place in the year is left.
@@ -79,11 +79,11 @@ month_of_day-date n m d date =
     count_off-total (days_in_month (pos n)) 11 1 (m - 1) (d - 1) (day_of_year (pos n) m d - 1) (omega (arith, date.1.1)) (rw same (omega (arith, date.2.0, date.2.1))) (omega (arith, rw before at months, days_of_months-zero (pos n), date.2.0)) ∙ ap (λ month. (month, d - 1)) same
 
 -- A date and time of day from the year 0000 on, as the numbers in its text.
-abbrev parts_text : ℕ → ℕ → ℕ → ℕ → ℕ → ℕ → List ℕ
+abbrev pub parts_text : ℕ → ℕ → ℕ → ℕ → ℕ → ℕ → List ℕ
 parts_text year month day hour minute second =
     four_digits year ++ codes "-" ++ two_digits month ++ codes "-" ++ two_digits day ++ codes "T" ++ two_digits hour ++ codes ":" ++ two_digits minute ++ codes ":" ++ two_digits second
 
-iso_datetime_text-parts : (at : DateTime) (n : ℕ) → at.date.year ≡ pos n → at.time.subsec_nanosecond ≡ 0 → iso_datetime_text at ≡ parts_text n at.date.month at.date.day at.time.hour at.time.minute at.time.second
+pub iso_datetime_text-parts : (at : DateTime) (n : ℕ) → at.date.year ≡ pos n → at.time.subsec_nanosecond ≡ 0 → iso_datetime_text at ≡ parts_text n at.date.month at.date.day at.time.hour at.time.minute at.time.second
 iso_datetime_text-parts at n year whole = rw (year, whole) refl
 
 -- The text of a day is that of its date.
@@ -100,12 +100,12 @@ clock_text-parts h m s second minute_in second_in e =
     let last : second % 60 ≡ s = omega arith in
     rw (hour, minute, last) refl
 
-civil_seconds-parts : (at : DateTime) → civil_seconds at ≡ epoch_day at.date *ℤ pos 86400 +ℤ pos (time_seconds at.time)
+pub civil_seconds-parts : (at : DateTime) → civil_seconds at ≡ epoch_day at.date *ℤ pos 86400 +ℤ pos (time_seconds at.time)
 unfolding civil_seconds
 civil_seconds-parts at = refl
 
 -- No moment is in a year before 0000.
-moment_year : (at : DateTime) → IsMoment (civil_seconds at) → pos 0 ≤ℤ at.date.year
+pub moment_year : (at : DateTime) → IsMoment (civil_seconds at) → pos 0 ≤ℤ at.date.year
 moment_year at h =
     by_lt_z at.date.year (pos 0)
     (λ lt. absurd (omega (arith, signed_arith, civil_seconds-parts at, days_from_civil-day_count at.date.year at.date.month at.date.day, day_count-lt_year at.date.year at.date.month at.date.day (pos 0) 1 1 (civil at.date) (omega arith) lt, day_count-year_zero)))

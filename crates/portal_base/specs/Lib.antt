@@ -6,6 +6,7 @@ pub mod Id
 pub mod Lines
 pub mod Memory
 pub mod Moment
+pub mod MomentReading
 pub mod MomentText
 pub mod Name
 pub mod Outside

@@ -1,7 +1,9 @@
 //! Laws of ids and moments: functions with an empty body, whose contracts are the laws.
-ghost use Rattle.std.specs.Prelude.{◌≡◌, ℕ, ℤ, List};
+ghost use Rattle.std.specs.Prelude.{◌≡◌, ℕ, ℤ, List, Some};
 ghost use Rattle.portal_base.specs.Id.{id_text};
-ghost use Rattle.portal_base.specs.MomentText.{IsMomentText};
+ghost use Rattle.portal_base.specs.Moment.{IsMoment};
+ghost use Rattle.portal_base.specs.MomentReading.{moment_reading};
+ghost use Rattle.portal_base.specs.MomentText.{IsMomentText, moment_text};
 
 /// Two numbers that have one id are one number.
 pub fn ids_tell_numbers_apart(first: u128, second: u128)
@@ -12,4 +14,15 @@ pub fn ids_tell_numbers_apart(first: u128, second: u128)
 pub fn moments_have_one_text()
     ensures { (seconds : ℤ) (first second : List ℕ) →
         IsMomentText seconds first → IsMomentText seconds second → first ≡ second }
+{}
+
+/// The text of a moment is read as that moment.
+pub fn texts_of_moments_are_read_back()
+    ensures { (seconds : ℤ) → IsMoment seconds → moment_reading (moment_text seconds) ≡ Some seconds }
+{}
+
+/// A text that is read as a moment is the text of that moment, so that no text has two moments.
+pub fn only_texts_of_moments_are_read()
+    ensures { (seconds : ℤ) (text : List ℕ) →
+        moment_reading text ≡ Some seconds → IsMoment seconds × (text ≡ moment_text seconds) }
 {}
