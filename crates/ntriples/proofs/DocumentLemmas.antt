@@ -22,7 +22,7 @@ and_right : (x y : Bool) → (x && y) ≡ true → y ≡ true
 and_right true y e = e
 and_right false y e = absurd cc
 
-feed_line : (bs : List ℕ) → lines (10 ∷ bs) ≡ [] ∷ lines bs
+pub feed_line : (bs : List ℕ) → lines (10 ∷ bs) ≡ [] ∷ lines bs
 unfolding lines
 feed_line bs = refl
 
@@ -35,11 +35,11 @@ lines_end : (b : ℕ) (bs : List ℕ) → is_line_end b ≡ true → lines (b �
 unfolding lines
 lines_end b bs e = rw e (ap (λ (ls : List (List ℕ)). [] ∷ ls) (lines_behind ((b == 13) && begins_with_feed bs) bs (λ h. and_right (b == 13) (begins_with_feed bs) h)))
 
-lines_inside : (b : ℕ) (bs : List ℕ) → is_line_end b ≡ false → lines (b ∷ bs) ≡ onto_first b (lines bs)
+pub lines_inside : (b : ℕ) (bs : List ℕ) → is_line_end b ≡ false → lines (b ∷ bs) ≡ onto_first b (lines bs)
 unfolding lines
 lines_inside b bs e = rw e refl
 
-lines_none : lines [] ≡ [] ∷ []
+pub lines_none : lines [] ≡ [] ∷ []
 unfolding lines
 lines_none = refl
 
@@ -126,7 +126,7 @@ pub record UnderWay (bytes rest : List ℕ) (triples : List Triple) (ended : ℕ
   pub counted : length before ≡ ended
   pub fits : ended + length rest ≤ length bytes
 
-none_yet : triples_of [] ≡ Some []
+pub none_yet : triples_of [] ≡ Some []
 unfolding triples_of
 none_yet = refl
 

@@ -2,3 +2,10 @@ pub mod DocumentLemmas
 pub mod Behind
 pub mod QuotedLemmas
 pub mod NameLemmas
+pub mod Encoded
+pub mod ReadAgain
+pub mod Readings
+pub mod Again
+pub mod NamesAgain
+pub mod TermsAgain
+pub mod DocumentAgain

@@ -89,7 +89,7 @@ subtags_skip zero cs = refl
 subtags_skip (suc skip) [] = refl
 subtags_skip (suc skip) (c ∷ cs) = subtags_skip skip cs
 
-subtags_cons : (cs : List ℕ) (x : List ℕ × List ℕ) → tag_part Alphanumerics cs ≡ Some x → subtags_from 0 (45 ∷ cs) ≡ with_front (45 ∷ x.0) (subtags_from 0 x.1)
+pub subtags_cons : (cs : List ℕ) (x : List ℕ × List ℕ) → tag_part Alphanumerics cs ≡ Some x → subtags_from 0 (45 ∷ cs) ≡ with_front (45 ∷ x.0) (subtags_from 0 x.1)
 unfolding subtags_from
 subtags_cons cs x e =
     rw e (ap (with_front (45 ∷ x.0)) (subtags_skip (length cs - length x.1) cs ∙ ap (subtags_from 0) (ends_drop cs x.1 (ends_at cs (tag_part Alphanumerics cs) x (tag_part_ends Alphanumerics cs) e))))
@@ -150,7 +150,7 @@ subtags_shorter front now cs new rest e given =
 
 -- ---- labels
 
-dot_label : (cs : List ℕ) → label_rest (46 ∷ cs) ≡ dotted cs (label_rest cs)
+pub dot_label : (cs : List ℕ) → label_rest (46 ∷ cs) ≡ dotted cs (label_rest cs)
 unfolding label_rest is_pn_chars is_pn_chars_u is_pn_chars_base
 dot_label cs = refl
 
@@ -158,7 +158,7 @@ dot_run : (cs : List ℕ) → run Dots (46 ∷ cs) ≡ onto (46 ∷ []) (run Dot
 unfolding run encode_utf8
 dot_run cs = refl
 
-other_label : (c : ℕ) (cs : List ℕ) → nat_eq c 46 ≡ false → label_rest (c ∷ cs) ≡ cond (is_pn_chars c) (onto (encode_utf8 c) (label_rest cs)) ([], c ∷ cs)
+pub other_label : (c : ℕ) (cs : List ℕ) → nat_eq c 46 ≡ false → label_rest (c ∷ cs) ≡ cond (is_pn_chars c) (onto (encode_utf8 c) (label_rest cs)) ([], c ∷ cs)
 unfolding label_rest
 other_label c cs e = rw e refl
 
@@ -176,7 +176,7 @@ label_none_by false c cs e before h =
     let other : is_pn_chars c ≡ false = subst (λ (r : List ℕ × List ℕ). begins_in Label r.1 ≡ false) (run_none Dots (c ∷ cs) e) h in
     other_label c cs e ∙ rw other refl
 
-label_nil : label_rest [] ≡ ([], [])
+pub label_nil : label_rest [] ≡ ([], [])
 unfolding label_rest
 label_nil = refl
 

@@ -46,7 +46,7 @@ quoted_cons kind c cs (None, rest) e = rw e refl
 quoted_cons kind c cs (Some d, rest) e =
     rw e (ap (with_front (encode_utf8 d)) (quoted_skip kind (length cs - length rest) cs ∙ ap (quoted_from kind 0) (ends_drop cs rest (ends_at cs (quoted_character kind (c ∷ cs)) (Some d, rest) (quoted_character_ends kind c cs) e))))
 
-quoted_at : (kind : QuoteKind) (cs : List ℕ) (x : Option ℕ × List ℕ) → quoted_character kind cs ≡ Some x → quoted kind cs ≡ goes_on kind x
+pub quoted_at : (kind : QuoteKind) (cs : List ℕ) (x : Option ℕ × List ℕ) → quoted_character kind cs ≡ Some x → quoted kind cs ≡ goes_on kind x
 quoted_at kind [] x e = absurd (unfold quoted_character in cc)
 quoted_at kind (c ∷ cs) x e = quoted_cons kind c cs x e
 

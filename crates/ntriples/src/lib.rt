@@ -4,6 +4,7 @@
 mod characters;
 mod document;
 mod fault;
+pub mod laws;
 mod names;
 mod quoted;
 mod term;
