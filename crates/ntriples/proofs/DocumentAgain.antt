@@ -1,5 +1,5 @@
 -- What is written of triples that can be read is a document of them.
-use Rattle.std.proofs.Common.{◌≡◌, ℕ, Bool, true, false, cond, ◌&&◌, ◌||◌, not, nat_eq, ◌==◌, List, [], ◌∷◌, ◌++◌, Option, Some, None, refl, sym, ap, ap₂, ◌∙◌, subst, arith, append_assoc, codes, chars, IsUtf8, All}
+use Rattle.std.proofs.Common.{◌≡◌, ℕ, Bool, true, false, cond, ◌&&◌, ◌||◌, not, nat_eq, ◌==◌, List, [], ◌∷◌, ◌++◌, Option, Some, None, Result, Ok, Err, IfOk, refl, sym, ap, ap₂, ◌∙◌, subst, arith, append_assoc, codes, chars, IsUtf8, All}
 use Rattle.std.proofs.lemmas.Bool.{and_parts, and_from, not-true}
 use Rattle.std.proofs.lemmas.Str.{encode_ascii, encodes-append, chars-encodes, scalars-chars, IsUtf8-from_is_utf8}
 use Rattle.std.proofs.lemmas.List.Elements.{recursion_from_All}
@@ -190,3 +190,7 @@ all_again (value ∷ values) h =
 
 pub reads_back : (values : List Triple) → All CanBeRead values → IsDocument (document_text values) values
 reads_back values h = all_again values (recursion_from_All CanBeRead values h)
+
+pub written_back : {V E : Type 0} (items : V → List ℕ) (written : Result V E) (values : List Triple) → IfOk written (λ out. items out ≡ document_text values) → All CanBeRead values → IfOk written (λ out. IsDocument (items out) values)
+written_back items (Ok out) values e h = ap (λ (b : List ℕ). triples_of (lines b)) e ∙ reads_back values h
+written_back items (Err fault) values e h = tt

@@ -1,6 +1,7 @@
 //! Writing triples.
 ghost use Rattle.std.specs.Prelude.{◌≡◌, ◌<◌, ◌++◌, List, All, OnOk, IfOk};
 ghost use Rattle.std.specs.List.{flat_map};
+ghost use Rattle.ntriples.specs.Document.{IsDocument};
 ghost use Rattle.ntriples.specs.Written.{upper_digit, code_escape, iri_byte, literal_byte, iri_text, quoted_text, typed_text, suffix_text, term_text, triple_text, document_text, CanBeRead};
 
 use crate::characters::is_iri_character;
@@ -142,10 +143,8 @@ fn push_triple(out: &mut Vec<u8>, triple: &Triple) -> Result<(), AllocError>
     out.extend_from_slice(b" .\n")
 }
 
-/// Writes each triple on a line of RDF 1.1 N-Triples: one space between the terms and before the full stop, and a
-/// line feed behind it. The datatype of strings is not written.
-pub fn write(alloc: Global, triples: &Seq<Triple>) -> Result<Vec<u8>, AllocError>
-    requires { All CanBeRead triples.now }
+// The text of triples.
+fn text_of(alloc: Global, triples: &Seq<Triple>) -> Result<Vec<u8>, AllocError>
     ensures { IfOk result (λ out. out.items ≡ document_text triples.now) }
 {
     let mut out = Vec::new(alloc);
@@ -153,4 +152,14 @@ pub fn write(alloc: Global, triples: &Seq<Triple>) -> Result<Vec<u8>, AllocError
         push_triple(&mut out, triple)?;
     }
     Ok(out)
+}
+
+/// Writes each triple on a line of RDF 1.1 N-Triples: one space between the terms and before the full stop, and a
+/// line feed behind it. The datatype of strings is not written. What is written reads back as the same triples.
+pub fn write(alloc: Global, triples: &Seq<Triple>) -> Result<Vec<u8>, AllocError>
+    requires { All CanBeRead triples.now }
+    ensures text { IfOk result (λ out. out.items ≡ document_text triples.now) }
+    ensures back { IfOk result (λ out. IsDocument out.items triples.now) }
+{
+    text_of(alloc, triples)
 }
