@@ -48,23 +48,29 @@ unfolding label_rest
 label_cons c cs e = rw e refl
 
 one_more : (c : ℕ) (read : List ℕ × List ℕ) → IsScalar c → is_pn_chars c ≡ true → IsRest read → IsRest (onto (encode c) read)
-one_more c read s e h = (record {
-  characters = c ∷ h.0.characters;
-  are = and_from (scalar c) (scalars h.0.characters) s h.0.are;
-  whole = and_from (not (is_line_end c)) (no_ends h.0.characters) (no_end is_pn_chars c feed_no_label return_no_label e) h.0.whole;
-  spell = ap (λ (t : List ℕ). encode c ++ t) h.0.spell;
-  again = λ more. label_cons c (h.0.characters ++ 32 ∷ more) e ∙ ap (onto (encode c)) (h.0.again more);
-}, h.1)
+one_more c read s e h = (
+  record {
+    characters = c ∷ h.0.characters;
+    are = and_from (scalar c) (scalars h.0.characters) s h.0.are;
+    whole = and_from (not (is_line_end c)) (no_ends h.0.characters) (no_end is_pn_chars c feed_no_label return_no_label e) h.0.whole;
+    spell = ap (λ (t : List ℕ). encode c ++ t) h.0.spell;
+    again = λ more. label_cons c (h.0.characters ++ 32 ∷ more) e ∙ ap (onto (encode c)) (h.0.again more);
+  },
+  h.1,
+)
 
 dotted_rest : (cs : List ℕ) (read : List ℕ × List ℕ) → scalars (46 ∷ cs) ≡ true → IsRest read → IsRest (dotted cs read)
 dotted_rest cs ([], rest) s h = (no_rest, s)
-dotted_rest cs (b ∷ bs, rest) s h = (record {
-  characters = 46 ∷ h.0.characters;
-  are = h.0.are;
-  whole = h.0.whole;
-  spell = ap (λ (t : List ℕ). t ++ encodes h.0.characters) (encode_ascii 46 (omega arith)) ∙ ap (λ (t : List ℕ). 46 ∷ t) h.0.spell;
-  again = λ more. dot_label (h.0.characters ++ 32 ∷ more) ∙ ap (dotted (h.0.characters ++ 32 ∷ more)) (h.0.again more);
-}, h.1)
+dotted_rest cs (b ∷ bs, rest) s h = (
+  record {
+    characters = 46 ∷ h.0.characters;
+    are = h.0.are;
+    whole = h.0.whole;
+    spell = ap (λ (t : List ℕ). t ++ encodes h.0.characters) (encode_ascii 46 (omega arith)) ∙ ap (λ (t : List ℕ). 46 ∷ t) h.0.spell;
+    again = λ more. dot_label (h.0.characters ++ 32 ∷ more) ∙ ap (dotted (h.0.characters ++ 32 ∷ more)) (h.0.again more);
+  },
+  h.1,
+)
 
 rest_other : (b : Bool) (c : ℕ) (cs : List ℕ) → nat_eq c 46 ≡ b → is_pn_chars c ≡ false → scalars (c ∷ cs) ≡ true → IsRest (label_rest cs) → IsRest (label_rest (c ∷ cs))
 rest_other true c cs e f s h =
@@ -113,17 +119,20 @@ unfolding encode
 label_spells c cs = refl
 
 label_again : (c : ℕ) (read : List ℕ × List ℕ) → IsScalar c → is_first c ≡ true → IsRest read → Makes LabelAgain (Some (onto (encode c) read))
-label_again c read s e h = (record {
-  whole = record {
-    characters = 95 ∷ 58 ∷ c ∷ h.0.characters;
-    are = and_from (scalar c) (scalars h.0.characters) s h.0.are;
-    whole = and_from (not (is_line_end c)) (no_ends h.0.characters) (no_end is_first c feed_not_first return_not_first e) h.0.whole;
-    spell = label_spells c h.0.characters ∙ ap (λ (t : List ℕ). 95 ∷ 58 ∷ (encode c ++ t)) h.0.spell;
-    again = λ more. label_reads c (h.0.characters ++ 32 ∷ more) read.0 (32 ∷ more) e (h.0.again more);
-  };
-  tail = 58 ∷ c ∷ h.0.characters;
-  starts = refl;
-}, h.1)
+label_again c read s e h = (
+  record {
+    whole = record {
+      characters = 95 ∷ 58 ∷ c ∷ h.0.characters;
+      are = and_from (scalar c) (scalars h.0.characters) s h.0.are;
+      whole = and_from (not (is_line_end c)) (no_ends h.0.characters) (no_end is_first c feed_not_first return_not_first e) h.0.whole;
+      spell = label_spells c h.0.characters ∙ ap (λ (t : List ℕ). 95 ∷ 58 ∷ (encode c ++ t)) h.0.spell;
+      again = λ more. label_reads c (h.0.characters ++ 32 ∷ more) read.0 (32 ∷ more) e (h.0.again more);
+    };
+    tail = 58 ∷ c ∷ h.0.characters;
+    starts = refl;
+  },
+  h.1,
+)
 
 pub blank_makes : (cs : List ℕ) → scalars cs ≡ true → Makes LabelAgain (blank_node_label cs)
 unfolding blank_node_label is_first
@@ -157,13 +166,16 @@ no_run : (class : Class) → RunAgain class []
 no_run class = record { characters = []; are = refl; whole = refl; spell = refl; again = λ next e. run_none class next e }
 
 run_more : (class : Class) (c : ℕ) (read : List ℕ × List ℕ) → IsScalar c → is_in class c ≡ true → IsRun class read → IsRun class (onto (encode c) read)
-run_more class c read s e h = (record {
-  characters = c ∷ h.0.characters;
-  are = and_from (scalar c) (scalars h.0.characters) s h.0.are;
-  whole = and_from (not (is_line_end c)) (no_ends h.0.characters) (no_end (is_in class) c (line_ends_out class).0 (line_ends_out class).1 e) h.0.whole;
-  spell = ap (λ (t : List ℕ). encode c ++ t) h.0.spell;
-  again = λ next f. run_cons class c (h.0.characters ++ next) e ∙ ap (onto (encode c)) (h.0.again next f);
-}, h.1)
+run_more class c read s e h = (
+  record {
+    characters = c ∷ h.0.characters;
+    are = and_from (scalar c) (scalars h.0.characters) s h.0.are;
+    whole = and_from (not (is_line_end c)) (no_ends h.0.characters) (no_end (is_in class) c (line_ends_out class).0 (line_ends_out class).1 e) h.0.whole;
+    spell = ap (λ (t : List ℕ). encode c ++ t) h.0.spell;
+    again = λ next f. run_cons class c (h.0.characters ++ next) e ∙ ap (onto (encode c)) (h.0.again next f);
+  },
+  h.1,
+)
 
 run_by : (b : Bool) (class : Class) (c : ℕ) (cs : List ℕ) → is_in class c ≡ b → scalars (c ∷ cs) ≡ true → IsRun class (run class cs) → IsRun class (run class (c ∷ cs))
 run_by true class c cs e s h = subst (IsRun class) (sym (run_cons class c cs e)) (run_more class c (run class cs) (and_parts (scalar c) (scalars cs) s).0 e h)
@@ -187,13 +199,16 @@ some_part part cs b bs next e = ap some_of e
 
 part_by : (part : Class) (read : List ℕ × List ℕ) → IsRun part read → Makes (PartAgain part) (some_of read)
 part_by part ([], rest) h = tt
-part_by part (b ∷ bs, rest) h = (record {
-  characters = h.0.characters;
-  are = h.0.are;
-  whole = h.0.whole;
-  spell = h.0.spell;
-  again = λ next e. some_part part (h.0.characters ++ next) b bs next (h.0.again next e);
-}, h.1)
+part_by part (b ∷ bs, rest) h = (
+  record {
+    characters = h.0.characters;
+    are = h.0.are;
+    whole = h.0.whole;
+    spell = h.0.spell;
+    again = λ next e. some_part part (h.0.characters ++ next) b bs next (h.0.again next e);
+  },
+  h.1,
+)
 
 part_makes : (part : Class) (cs : List ℕ) → scalars cs ≡ true → Makes (PartAgain part) (tag_part part cs)
 unfolding tag_part
@@ -223,17 +238,20 @@ hyphen_spell cs text e = ap (λ (t : List ℕ). t ++ encodes cs) (encode_ascii 4
 
 subtag_then : (text : List ℕ) (read : Option (List ℕ × List ℕ)) → PartAgain Alphanumerics text → Makes SubtagsAgain read → Makes SubtagsAgain (with_front (45 ∷ text) read)
 subtag_then text None p h = tt
-subtag_then text (Some x) p h = (record {
-  characters = 45 ∷ (p.characters ++ h.0.characters);
-  are = scalars-append p.characters h.0.characters p.are h.0.are;
-  whole = no_ends-append p.characters h.0.characters p.whole h.0.whole;
-  spell = hyphen_spell (p.characters ++ h.0.characters) (text ++ x.0) (two_spell p.characters h.0.characters text x.0 p.spell h.0.spell);
-  again = λ more.
-      ap (λ (t : List ℕ). subtags_from 0 (45 ∷ t)) (append_assoc p.characters h.0.characters (32 ∷ more))
-      ∙ subtags_cons (p.characters ++ (h.0.characters ++ 32 ∷ more)) (text, h.0.characters ++ 32 ∷ more) (p.again (h.0.characters ++ 32 ∷ more) (h.0.stops more))
-      ∙ ap (with_front (45 ∷ text)) (h.0.again more);
-  stops = λ more. refl;
-}, h.1)
+subtag_then text (Some x) p h = (
+  record {
+    characters = 45 ∷ (p.characters ++ h.0.characters);
+    are = scalars-append p.characters h.0.characters p.are h.0.are;
+    whole = no_ends-append p.characters h.0.characters p.whole h.0.whole;
+    spell = hyphen_spell (p.characters ++ h.0.characters) (text ++ x.0) (two_spell p.characters h.0.characters text x.0 p.spell h.0.spell);
+    again = λ more.
+        ap (λ (t : List ℕ). subtags_from 0 (45 ∷ t)) (append_assoc p.characters h.0.characters (32 ∷ more))
+        ∙ subtags_cons (p.characters ++ (h.0.characters ++ 32 ∷ more)) (text, h.0.characters ++ 32 ∷ more) (p.again (h.0.characters ++ 32 ∷ more) (h.0.stops more))
+        ∙ ap (with_front (45 ∷ text)) (h.0.again more);
+    stops = λ more. refl;
+  },
+  h.1,
+)
 
 subtags_make : (skip : ℕ) (cs : List ℕ) → scalars cs ≡ true → Makes SubtagsAgain (subtags_from skip cs)
 unfolding subtags_from
@@ -259,16 +277,19 @@ tag_reads cs primary middle text rest e f = rw (e, f) refl
 
 tag_again : (primary : List ℕ) (read : Option (List ℕ × List ℕ)) → PartAgain Letters primary → Makes SubtagsAgain read → Makes TagAgain (with_front primary read)
 tag_again primary None p h = tt
-tag_again primary (Some x) p h = (record {
-  characters = p.characters ++ h.0.characters;
-  are = scalars-append p.characters h.0.characters p.are h.0.are;
-  whole = no_ends-append p.characters h.0.characters p.whole h.0.whole;
-  spell = two_spell p.characters h.0.characters primary x.0 p.spell h.0.spell;
-  again = λ more.
-      ap langtag (append_assoc p.characters h.0.characters (32 ∷ more))
-      ∙ tag_reads (p.characters ++ (h.0.characters ++ 32 ∷ more)) primary (h.0.characters ++ 32 ∷ more) x.0 (32 ∷ more)
-      (p.again (h.0.characters ++ 32 ∷ more) (no_letter (h.0.characters ++ 32 ∷ more) (h.0.stops more))) (h.0.again more);
-}, h.1)
+tag_again primary (Some x) p h = (
+  record {
+    characters = p.characters ++ h.0.characters;
+    are = scalars-append p.characters h.0.characters p.are h.0.are;
+    whole = no_ends-append p.characters h.0.characters p.whole h.0.whole;
+    spell = two_spell p.characters h.0.characters primary x.0 p.spell h.0.spell;
+    again = λ more.
+        ap langtag (append_assoc p.characters h.0.characters (32 ∷ more))
+        ∙ tag_reads (p.characters ++ (h.0.characters ++ 32 ∷ more)) primary (h.0.characters ++ 32 ∷ more) x.0 (32 ∷ more)
+        (p.again (h.0.characters ++ 32 ∷ more) (no_letter (h.0.characters ++ 32 ∷ more) (h.0.stops more))) (h.0.again more);
+  },
+  h.1,
+)
 
 pub langtag_makes : (cs : List ℕ) → scalars cs ≡ true → Makes TagAgain (langtag cs)
 unfolding langtag

@@ -128,7 +128,7 @@ front_makes : (front : List ℕ) (r : Option (List ℕ × List ℕ)) → IsUtf8 
 front_makes front None u h = tt
 front_makes front (Some x) u h = (IsUtf8-append front x.0 u h.0, h.1)
 
-next_makes : (kind : QuoteKind) (cs : List ℕ) (next : Option ℕ × List ℕ) → IsNext next.0 → scalars next.1 ≡ true → ((skip : ℕ) → Makes IsUtf8 (quoted_from kind skip cs)) → Makes IsUtf8 (elim next.0 [ | None ↦ Some ([], next.1) | Some d ↦ with_front (encode_utf8 d) (quoted_from kind (length cs - length next.1) cs) ])
+next_makes : (kind : QuoteKind) (cs : List ℕ) (next : Option ℕ × List ℕ) → IsNext next.0 → scalars next.1 ≡ true → ((skip : ℕ) → Makes IsUtf8 (quoted_from kind skip cs)) → Makes IsUtf8 (elim next.0 [ None ↦ Some ([], next.1) | Some d ↦ with_front (encode_utf8 d) (quoted_from kind (length cs - length next.1) cs) ])
 next_makes kind cs (None, rest) s k later = (IsUtf8-nil, k)
 next_makes kind cs (Some d, rest) s k later = front_makes (encode_utf8 d) (quoted_from kind (length cs - length rest) cs) (IsUtf8-encode d s) (later (length cs - length rest))
 

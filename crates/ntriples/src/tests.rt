@@ -1,4 +1,7 @@
 //! Worked examples: documents as they are written again, and the first bad lines of others.
+mod edges;
+mod recommendation;
+
 use crate::{NtFault, Term, read, write};
 use std::alloc::Global;
 use std::test::Fail;
@@ -11,7 +14,7 @@ fn rewritten(alloc: Global, bytes: &[u8]) -> Result<Vec<u8>, NtFault> {
 
 #[test]
 fn reads_and_writes(rt: HostRuntime) -> Result<(), Fail> {
-    let rows: [(&str, &str); 18] = [
+    let rows: [(&str, &str); 20] = [
         ("", ""),
         ("\r\n \t\r# note\n\n", ""),
         (
@@ -51,41 +54,11 @@ fn reads_and_writes(rt: HostRuntime) -> Result<(), Fail> {
             "<a> <b> <c> .\r<a> <b> <d> .\r",
             "<a> <b> <c> .\n<a> <b> <d> .\n",
         ),
-    ];
-    for (text, wanted) in rows.iter() {
-        let written = rewritten(rt.alloc(), text.as_bytes())?;
-        assert_eq!(rt; written.as_slice(), wanted.as_bytes());
-    }
-    Ok(())
-}
-
-#[test]
-fn reads_the_ends_of_classes_and_of_ranges(rt: HostRuntime) -> Result<(), Fail> {
-    let rows: [(&str, &str); 9] = [
         (
             "<a> <b> \"\\uD7FF\\uE000\\U0010FFFF\" .",
             "<a> <b> \"\u{D7FF}\u{E000}\u{10FFFF}\" .\n",
         ),
-        ("<a> <b> <c> . # \u{1F600}", "<a> <b> <c> .\n"),
         ("<a> <b> \"a\\\\u0041\" .", "<a> <b> \"a\\\\u0041\" .\n"),
-        (
-            "_:\u{10000} <b> _:\u{EFFFF} .",
-            "_:\u{10000} <b> _:\u{EFFFF} .\n",
-        ),
-        ("_:\u{370} <b> _:\u{37D} .", "_:\u{370} <b> _:\u{37D} .\n"),
-        ("_:\u{37F} <b> _:\u{1FFF} .", "_:\u{37F} <b> _:\u{1FFF} .\n"),
-        (
-            "_:\u{200C} <b> _:\u{200D} .",
-            "_:\u{200C} <b> _:\u{200D} .\n",
-        ),
-        (
-            "_:\u{FDF0} <b> _:\u{FFFD} .",
-            "_:\u{FDF0} <b> _:\u{FFFD} .\n",
-        ),
-        (
-            "<http://one.example/subject1> <http://one.example/predicate1> <http://one.example/object1> . # comments here\n# or on a line by themselves\n_:subject1 <http://an.example/predicate1> \"object1\" .\n_:subject2 <http://an.example/predicate2> \"object2\" .\n",
-            "<http://one.example/subject1> <http://one.example/predicate1> <http://one.example/object1> .\n_:subject1 <http://an.example/predicate1> \"object1\" .\n_:subject2 <http://an.example/predicate2> \"object2\" .\n",
-        ),
     ];
     for (text, wanted) in rows.iter() {
         let written = rewritten(rt.alloc(), text.as_bytes())?;
@@ -144,6 +117,29 @@ fn tells_the_first_bad_line(rt: HostRuntime) {
             _ => assert!(rt; false),
         }
     }
+}
+
+#[test]
+fn gives_the_objects(rt: HostRuntime) -> Result<(), Fail> {
+    let rows: [(&str, &[u8]); 4] = [
+        ("<a> <b> <c> .", b"c"),
+        ("_:a <p> _:b.c .", b"b.c"),
+        ("<a> <b> \"\\U0001F600\" .", b"\xF0\x9F\x98\x80"),
+        ("<a> <p> \"x\"@en-GB.", b"x"),
+    ];
+    for (text, wanted) in rows.iter() {
+        let triples = read(rt.alloc(), text.as_bytes())?;
+        assert_eq!(rt; triples.len(), 1);
+        match triples.as_slice() {
+            [triple] => match &triple.object {
+                Term::Iri(found) | Term::Blank(found) | Term::Literal(found, _, _) => {
+                    assert_eq!(rt; found.as_bytes(), *wanted);
+                }
+            },
+            _ => assert!(rt; false),
+        }
+    }
+    Ok(())
 }
 
 #[test]
