@@ -2,7 +2,7 @@
 use Rattle.std.proofs.Common.{◌≡◌, ℕ, Bool, true, false, List, ◌∷◌, ◌++◌, Option, Some, not}
 use lib.Utf8.{scalars, encodes}
 use Rattle.std.proofs.lemmas.Bool.{ne_eqb, both_ways}
-use Rattle.std.proofs.Common.{sym, ap, ◌∙◌, refl, nat_eq, ◌||◌}
+use Rattle.std.proofs.Common.{sym, ap, ◌∙◌, refl}
 use Rattle.ntriples.specs.Document.{is_line_end}
 use Rattle.ntriples.proofs.Encoded.{no_ends}
 

@@ -1,9 +1,9 @@
 -- What a production leaves is an end of what it was given.
-use Rattle.std.proofs.Common.{◌≡◌, ℕ, zero, suc, ◌+◌, ◌*◌, ◌-◌, ◌<◌, ◌≤◌, Bool, true, false, cond, List, [], ◌∷◌, ◌++◌, length, drop, Option, Some, None, refl, sym, ap, subst, ◌∙◌, append_assoc, arith}
+use Rattle.std.proofs.Common.{◌≡◌, ℕ, ◌+◌, ◌*◌, ◌-◌, ◌≤◌, Bool, true, false, cond, List, [], ◌∷◌, ◌++◌, length, drop, Option, Some, None, refl, sym, ap, subst, ◌∙◌, append_assoc, arith}
 use Rattle.std.proofs.lemmas.List.{drop_at, length-append}
 use Rattle.std.specs.Prelude.{nat_lt, nat_eq}
 use Rattle.std.specs.Char.{digit_value}
-use Rattle.ntriples.specs.Reading.{◌>>=◌, character, behind, with_front}
+use Rattle.ntriples.specs.Reading.{◌>>=◌, character}
 use Rattle.ntriples.specs.Grammar.{hex, hex4, is_scalar, scalar, short_code, long_code, uchar, echar, echar_or, literal_escape}
 
 pub record EndsWith (cs rest : List ℕ) : Type 0 where

@@ -1,6 +1,6 @@
 -- What is written of triples that can be read is a document of them.
-use Rattle.std.proofs.Common.{◌≡◌, ℕ, Bool, true, false, cond, ◌&&◌, ◌||◌, not, nat_eq, ◌==◌, List, [], ◌∷◌, ◌++◌, Option, Some, None, Result, Ok, Err, IfOk, refl, sym, ap, ap₂, ◌∙◌, subst, arith, append_assoc, codes, chars, IsUtf8, All}
-use Rattle.std.proofs.lemmas.Bool.{and_parts, and_from, not-true}
+use Rattle.std.proofs.Common.{◌≡◌, ℕ, Bool, true, false, cond, ◌||◌, not, ◌==◌, List, [], ◌∷◌, ◌++◌, Option, Some, None, Result, Ok, Err, IfOk, refl, sym, ap, ap₂, ◌∙◌, subst, arith, append_assoc, chars, IsUtf8, All}
+use Rattle.std.proofs.lemmas.Bool.{and_parts, not-true}
 use Rattle.std.proofs.lemmas.Str.{encode_ascii, encodes-append, chars-encodes, scalars-chars, IsUtf8-from_is_utf8}
 use Rattle.std.proofs.lemmas.List.Elements.{recursion_from_All}
 use Rattle.std.specs.List.{AllByRecursion}
@@ -10,9 +10,9 @@ use Rattle.ntriples.specs.declared.term.Term.{Term}
 use Rattle.ntriples.specs.declared.term.Triple.{Triple}
 use Rattle.ntriples.specs.Reading.{◌>>=◌, skip_blanks, behind}
 use Rattle.ntriples.specs.Grammar.{subject, object, iriref, triple, is_end, triple_alone, line}
-use Rattle.ntriples.specs.Document.{is_line_end, onto_first, lines, line_of, given, triples_of, IsDocument}
+use Rattle.ntriples.specs.Document.{is_line_end, onto_first, lines, line_of, triples_of, IsDocument}
 use Rattle.ntriples.specs.Written.{iri_text, term_text, triple_text, document_text, CanBeRead}
-use Rattle.ntriples.proofs.DocumentLemmas.{feed_line, lines_inside, lines_none, none_yet, empty_line, line_of_text}
+use Rattle.ntriples.proofs.DocumentLemmas.{feed_line, lines_inside, lines_none, empty_line, line_of_text}
 use Rattle.ntriples.proofs.Encoded.{no_ends, no_ends-append, scalars-append, no_ends_encodes}
 use Rattle.ntriples.proofs.Readings.{Makes, makes_bind, makes_behind, iriref_makes}
 use Rattle.ntriples.proofs.TermsAgain.{IriStarts, iri_again, SubjectAgain, TermAgain, is_solid, subject_makes, object_makes}

@@ -1,12 +1,12 @@
 -- Cutting bytes into lines and reading them one after the other, as a loop does.
-use Rattle.std.proofs.Common.{◌≡◌, ℕ, zero, suc, ◌+◌, ◌-◌, ◌<◌, ◌≤◌, Bool, true, false, cond, List, [], ◌∷◌, ◌++◌, length, get_or, take, drop, Option, Some, None, Result, Ok, Err, refl, sym, ap, subst, ◌∙◌, append_assoc, arith, inl, inr}
+use Rattle.std.proofs.Common.{◌≡◌, ℕ, zero, suc, ◌+◌, ◌<◌, ◌≤◌, Bool, true, false, cond, List, [], ◌∷◌, ◌++◌, length, get_or, take, drop, Option, Some, None, Result, Ok, Err, refl, sym, ap, subst, ◌∙◌, append_assoc, arith, inl, inr}
 use Rattle.std.proofs.lemmas.List.{append-nil, length-append}
 use Rattle.std.proofs.lemmas.Bool.{eqb-true, false≢true}
 use Rattle.std.proofs.lemmas.Str.{is_utf8-from_IsUtf8, IsUtf8-from_is_utf8}
 use Rattle.std.proofs.lemmas.Option.{same_Some, none-some}
 use Rattle.std.proofs.lemmas.List.Elements.{All-from_recursion}
 use Rattle.std.specs.List.{AllByRecursion}
-use Rattle.std.specs.Prelude.{All, is_some, IfOk, IfErr, ◌⊎◌, ◌==◌, ◌&&◌, IsSome, IfSome, option_map, ⊤}
+use Rattle.std.specs.Prelude.{All, is_some, IfOk, IfErr, ◌⊎◌, ◌==◌, ◌&&◌, IsSome, option_map}
 use Rattle.std.specs.Str.{IsUtf8, is_utf8, chars}
 use Rattle.ntriples.specs.declared.fault.NtFault.{NtFault}
 use Rattle.ntriples.specs.declared.fault.NtFault.TheVariants.{Line, OutOfMemory}
@@ -213,6 +213,53 @@ same_place (l ∷ a) (m ∷ b) x y p q ga gb ex ey e =
 pub one_bad_line : (bytes : List ℕ) (m n : ℕ) → IsFirstBadLine bytes m → IsFirstBadLine bytes n → m ≡ n
 one_bad_line bytes m n h k =
     omega (arith, h.counted, k.counted, same_place h.before k.before h.bad k.bad h.behind k.behind h.good k.good h.malformed k.malformed (sym h.cut ∙ k.cut))
+
+-- the lines up to the first that is bad, and those behind it
+record HasBad (ls : List (List ℕ)) : Type 0 where
+  pub before : List (List ℕ)
+  pub bad : List ℕ
+  pub behind : List (List ℕ)
+  pub cut : ls ≡ before ++ bad ∷ behind
+  pub good : IsSome (triples_of before)
+  pub malformed : line_of bad ≡ None
+
+some_yet : IsSome (triples_of [])
+some_yet = ap is_some none_yet
+
+cons_some : (t : Option Triple) (o : Option (List Triple)) → IsSome o → IsSome (cons (Some t) o)
+unfolding cons
+cons_some t None h = h
+cons_some t (Some ts) h = refl
+
+with_front_line : (l : List ℕ) (ls : List (List ℕ)) (t : Option Triple) → line_of l ≡ Some t → IsSome (triples_of ls) → IsSome (triples_of (l ∷ ls))
+with_front_line l ls t e h = subst IsSome (sym (triples_cons l ls ∙ ap (λ o. cons o (triples_of ls)) e)) (cons_some t (triples_of ls) h)
+
+good_front : (l : List ℕ) (ls : List (List ℕ)) (t : Option Triple) (ts : List Triple) → line_of l ≡ Some t → triples_of ls ≡ Some ts → triples_of (l ∷ ls) ≡ Some (given t ++ ts)
+unfolding triples_of
+good_front l ls t ts e f = rw (e, f) refl
+
+find_by : (o : Option (Option Triple)) (l : List ℕ) (ls : List (List ℕ)) → line_of l ≡ o → ((ts : List Triple) × (triples_of ls ≡ Some ts)) ⊎ HasBad ls → ((ts : List Triple) × (triples_of (l ∷ ls) ≡ Some ts)) ⊎ HasBad (l ∷ ls)
+find_by None l ls e later = inr (record { before = []; bad = l; behind = ls; cut = refl; good = some_yet; malformed = e })
+find_by (Some t) l ls e (inl (ts, f)) = inl (given t ++ ts, good_front l ls t ts e f)
+find_by (Some t) l ls e (inr b) = inr (record {
+  before = l ∷ b.before;
+  bad = b.bad;
+  behind = b.behind;
+  cut = ap (λ (rest : List (List ℕ)). l ∷ rest) b.cut;
+  good = with_front_line l b.before t e b.good;
+  malformed = b.malformed;
+})
+
+find_bad : (ls : List (List ℕ)) → ((ts : List Triple) × (triples_of ls ≡ Some ts)) ⊎ HasBad ls
+find_bad [] = inl ([], none_yet)
+find_bad (l ∷ ls) = find_by (line_of l) l ls refl (find_bad ls)
+
+number_of : (bytes : List ℕ) → ((ts : List Triple) × (triples_of (lines bytes) ≡ Some ts)) ⊎ HasBad (lines bytes) → ((ts : List Triple) × IsDocument bytes ts) ⊎ ((n : ℕ) × IsFirstBadLine bytes n)
+number_of bytes (inl d) = inl d
+number_of bytes (inr b) = inr (length b.before + 1, record { before = b.before; bad = b.bad; behind = b.behind; cut = b.cut; good = b.good; malformed = b.malformed; counted = refl })
+
+pub document_or_bad_line : (bytes : List ℕ) → ((ts : List Triple) × IsDocument bytes ts) ⊎ ((n : ℕ) × IsFirstBadLine bytes n)
+document_or_bad_line bytes = number_of bytes (find_bad (lines bytes))
 
 -- ---- what is read can be read
 

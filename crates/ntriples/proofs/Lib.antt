@@ -1,3 +1,4 @@
+mod Examples
 pub mod DocumentLemmas
 pub mod Behind
 pub mod QuotedLemmas

@@ -1,5 +1,5 @@
 -- Reading labels and language tags, as loops do.
-use Rattle.std.proofs.Common.{◌≡◌, ℕ, zero, suc, ◌+◌, ◌-◌, ◌<◌, ◌≤◌, Bool, true, false, cond, List, [], ◌∷◌, ◌++◌, length, drop, Option, Some, None, refl, sym, ap, subst, ◌∙◌, append_assoc, arith}
+use Rattle.std.proofs.Common.{◌≡◌, ℕ, zero, suc, ◌-◌, ◌<◌, ◌≤◌, Bool, true, false, cond, List, [], ◌∷◌, ◌++◌, length, drop, Option, Some, None, refl, sym, ap, subst, ◌∙◌, append_assoc, arith}
 use Rattle.std.proofs.lemmas.List.{append-nil, length-append}
 use Rattle.std.proofs.lemmas.Bool.{eqb-true}
 use Rattle.std.proofs.lemmas.Option.{some_pair_parts, cond_some}
@@ -9,11 +9,11 @@ use Rattle.std.specs.Char.{encode_utf8}
 use Rattle.ntriples.specs.declared.fault.Refusal.{Refusal}
 use Rattle.ntriples.specs.declared.fault.Refusal.TheVariants.{Malformed, OutOfMemory}
 use Rattle.ntriples.specs.declared.names.Class.{Class}
-use Rattle.ntriples.specs.declared.names.Class.TheVariants.{Letters, Alphanumerics, Label, Dots}
+use Rattle.ntriples.specs.declared.names.Class.TheVariants.{Alphanumerics, Label, Dots}
 use Rattle.ntriples.specs.Characters.{is_pn_chars_base, is_pn_chars_u, is_pn_chars}
-use Rattle.ntriples.specs.Reading.{◌>>=◌, Fails, onto, with_front, behind}
+use Rattle.ntriples.specs.Reading.{Fails, onto, with_front, behind}
 use Rattle.ntriples.specs.Grammar.{is_in, begins_in, run, some_of, tag_part, subtags_from, dotted, label_rest}
-use Rattle.ntriples.proofs.Behind.{EndsWith, Ends, ends_same, ends_more, ends_at, ends_bind, ends_cond, ends_drop, ends_shorter}
+use Rattle.ntriples.proofs.Behind.{EndsWith, Ends, ends_same, ends_more, ends_at, ends_drop, ends_shorter}
 
 pub run_cons : (class : Class) (c : ℕ) (cs : List ℕ) → is_in class c ≡ true → run class (c ∷ cs) ≡ onto (encode_utf8 c) (run class cs)
 unfolding run

@@ -1,5 +1,5 @@
 -- Reading what is quoted one character at a time, as a loop does.
-use Rattle.std.proofs.Common.{◌≡◌, ℕ, zero, suc, ◌+◌, ◌-◌, ◌<◌, ◌≤◌, Bool, true, false, cond, List, [], ◌∷◌, ◌++◌, length, drop, Option, Some, None, refl, sym, ap, subst, ◌∙◌, append_assoc, arith}
+use Rattle.std.proofs.Common.{◌≡◌, ℕ, zero, suc, ◌-◌, ◌<◌, cond, List, [], ◌∷◌, ◌++◌, length, drop, Option, Some, None, refl, sym, ap, ◌∙◌, append_assoc, arith}
 use Rattle.std.proofs.lemmas.List.{append-nil}
 use Rattle.std.specs.Prelude.{nat_eq}
 use Rattle.std.specs.Char.{encode_utf8}
@@ -7,8 +7,8 @@ use Rattle.ntriples.specs.declared.fault.Refusal.{Refusal}
 use Rattle.ntriples.specs.declared.fault.Refusal.TheVariants.{Malformed, OutOfMemory}
 use Rattle.ntriples.specs.declared.quoted.QuoteKind.{QuoteKind}
 use Rattle.ntriples.specs.declared.quoted.QuoteKind.TheVariants.{Iri, Literal}
-use Rattle.ntriples.specs.Reading.{◌>>=◌, Fails, character, with_front}
-use Rattle.ntriples.specs.Grammar.{uchar, literal_escape, closing, is_plain, escape, quoted_character, quoted_from, quoted}
+use Rattle.ntriples.specs.Reading.{◌>>=◌, Fails, with_front}
+use Rattle.ntriples.specs.Grammar.{closing, is_plain, escape, quoted_character, quoted_from, quoted}
 use Rattle.ntriples.proofs.Behind.{Ends, ends_same, ends_at, ends_bind, ends_cond, ends_drop, ends_shorter, uchar_ends, literal_escape_ends}
 
 escape_ends : (kind : QuoteKind) (cs : List ℕ) → Ends cs (escape kind cs)

@@ -1,15 +1,15 @@
 -- What is written of IRIs and of lexical forms is read again.
-use Rattle.std.proofs.Common.{◌≡◌, ℕ, zero, suc, ◌+◌, ◌*◌, ◌/◌, ◌%◌, ◌<◌, ◌≤◌, Bool, true, false, cond, ◌&&◌, not, nat_lt, nat_eq, List, [], ◌∷◌, ◌++◌, length, Option, Some, None, inl, inr, refl, sym, ap, ap₂, ◌∙◌, subst, arith, append_assoc, flat_map}
-use Rattle.std.proofs.lemmas.Bool.{cases_lt, cases_eq, lt-ltb, ne_eqb, eqb-true, agree_below_at, both_ways, false_from_ne_true}
+use Rattle.std.proofs.Common.{◌≡◌, ℕ, ◌+◌, ◌*◌, ◌/◌, ◌%◌, ◌<◌, Bool, true, false, nat_eq, List, [], ◌∷◌, ◌++◌, Some, None, inl, inr, refl, sym, ap, ◌∙◌, arith, append_assoc, flat_map}
+use Rattle.std.proofs.lemmas.Bool.{cases_lt, cases_eq, lt-ltb, ne_eqb, eqb-true, agree_below_at, both_ways}
 use Rattle.std.specs.Char.{digit_value}
-use lib.Utf8.{scalars, encode, encodes}
+use lib.Utf8.{encode, encodes}
 use Rattle.ntriples.specs.declared.quoted.QuoteKind.{QuoteKind}
 use Rattle.ntriples.specs.declared.quoted.QuoteKind.TheVariants.{Iri, Literal}
 use Rattle.ntriples.specs.Characters.{is_iri_character}
-use Rattle.ntriples.specs.Reading.{◌>>=◌, with_front}
+use Rattle.ntriples.specs.Reading.{with_front}
 use Rattle.ntriples.specs.Grammar.{hex, hex4, is_scalar, short_code, uchar, echar, literal_escape, closing, is_plain, quoted_character, quoted}
 use Rattle.ntriples.specs.Written.{upper_digit, code_escape, iri_byte, literal_byte}
-use Rattle.ntriples.proofs.QuotedLemmas.{goes_on, quoted_at}
+use Rattle.ntriples.proofs.QuotedLemmas.{quoted_at}
 use Rattle.ntriples.proofs.Encoded.{piece, iri_high}
 
 -- ---- escapes

@@ -1,5 +1,5 @@
 -- The terms that are read are read again from what is written of them.
-use Rattle.std.proofs.Common.{◌≡◌, ℕ, ◌+◌, Bool, true, false, cond, ◌&&◌, ◌||◌, not, nat_eq, List, [], ◌∷◌, ◌++◌, ◌==◌, Option, Some, None, refl, sym, ap, ap₂, ◌∙◌, subst, arith, append_assoc, flat_map, codes, bytes_eq, IsUtf8}
+use Rattle.std.proofs.Common.{◌≡◌, ℕ, Bool, true, false, ◌&&◌, ◌||◌, not, nat_eq, List, [], ◌∷◌, ◌++◌, ◌==◌, Option, Some, None, refl, sym, ap, ap₂, ◌∙◌, subst, arith, append_assoc, flat_map, bytes_eq, IsUtf8}
 use Rattle.std.proofs.lemmas.Bool.{and_parts, and_from}
 use Rattle.std.proofs.lemmas.Str.{encode_ascii, encodes-append}
 use Rattle.std.proofs.lemmas.Slice.Eq.{bytes_eq-Decides}
@@ -8,7 +8,7 @@ use Rattle.ntriples.specs.declared.quoted.QuoteKind.{QuoteKind}
 use Rattle.ntriples.specs.declared.quoted.QuoteKind.TheVariants.{Iri, Literal}
 use Rattle.ntriples.specs.declared.term.Term.{Term}
 use Rattle.ntriples.specs.declared.term.Term.TheVariants as term
-use Rattle.ntriples.specs.Reading.{◌>>=◌, character, behind}
+use Rattle.ntriples.specs.Reading.{◌>>=◌, character}
 use Rattle.ntriples.specs.Grammar.{quoted, iriref, blank_node_label, langtag, xsd_string, rdf_lang_string, datatype, literal_suffix, literal, subject, object}
 use Rattle.ntriples.specs.Written.{iri_byte, literal_byte, iri_text, quoted_text, typed_text, suffix_text, term_text}
 use Rattle.ntriples.proofs.Encoded.{piece, no_ends, no_ends-append, scalars-append, pieces_encodes, pieces_no_ends, pieces_scalars}

@@ -1,5 +1,5 @@
 //! Laws of documents and their texts: functions with an empty body, whose contracts are the laws.
-ghost use Rattle.std.specs.Prelude.{◌≡◌, ℕ, List, All};
+ghost use Rattle.std.specs.Prelude.{◌≡◌, ◌⊎◌, ℕ, List, All};
 ghost use Rattle.ntriples.specs.declared.term.Triple.{Triple};
 ghost use Rattle.ntriples.specs.Document.{IsDocument, IsFirstBadLine};
 ghost use Rattle.ntriples.specs.Written.{CanBeRead, document_text};
@@ -25,4 +25,10 @@ pub fn a_document_has_no_bad_line()
 pub fn the_first_bad_line_is_one()
     ensures { (bytes : List ℕ) (first second : ℕ) →
         IsFirstBadLine bytes first → IsFirstBadLine bytes second → first ≡ second }
+{}
+
+/// Bytes that are no document have a first bad line.
+pub fn bytes_are_a_document_or_have_a_bad_line()
+    ensures { (bytes : List ℕ) →
+        ((triples : List Triple) × IsDocument bytes triples) ⊎ ((number : ℕ) × IsFirstBadLine bytes number) }
 {}

@@ -14,9 +14,10 @@ fn rewritten(alloc: Global, bytes: &[u8]) -> Result<Vec<u8>, NtFault> {
 
 #[test]
 fn reads_and_writes(rt: HostRuntime) -> Result<(), Fail> {
-    let rows: [(&str, &str); 20] = [
+    let rows: [(&str, &str); 21] = [
         ("", ""),
         ("\r\n \t\r# note\n\n", ""),
+        ("<s> <p> <o> .#\u{FFFF}\0", "<s> <p> <o> .\n"),
         (
             "<a> <b> \"x\" . # note\r\n<a> <b> \"\\U0001F600\" .",
             "<a> <b> \"x\" .\n<a> <b> \"😀\" .\n",
@@ -69,7 +70,7 @@ fn reads_and_writes(rt: HostRuntime) -> Result<(), Fail> {
 
 #[test]
 fn tells_the_first_bad_line(rt: HostRuntime) {
-    let rows: [(&[u8], u64); 40] = [
+    let rows: [(&[u8], u64); 41] = [
         (b"<a> <b> \"\\uD800\" .", 1),
         (b"<a> <b> \"\\uDFFF\" .", 1),
         (b"<a> <b> \"\\U00110000\" .", 1),
@@ -104,6 +105,7 @@ fn tells_the_first_bad_line(rt: HostRuntime) {
         (b"<a b> <b> <c> .", 1),
         (b"<a> <b> <c> . <d>", 1),
         (b"<a> <b> <c>", 1),
+        (b"<a> <b> <c> ..", 1),
         (b"<a> _:b <c> .", 1),
         (b"\"a\" <b> <c> .", 1),
         (b"_:a\xC3\x97 <b> <c> .", 1),

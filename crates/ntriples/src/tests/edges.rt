@@ -16,6 +16,21 @@ fn is_read(alloc: Global, before: &str, character: char, behind: &str) -> Result
     }
 }
 
+// The first of the characters for which the text with it is a document though it shouldn't be, or is none.
+fn first_wrong(
+    alloc: Global,
+    before: &str,
+    behind: &str,
+    rows: &[(char, bool)],
+) -> Result<Option<char>, AllocError> {
+    for (character, wanted) in rows {
+        if is_read(alloc, before, *character, behind)? != *wanted {
+            return Ok(Some(*character));
+        }
+    }
+    Ok(None)
+}
+
 // A character, whether a label may begin with it, and whether it may go on with it.
 #[test]
 fn labels_hold_pn_chars(rt: HostRuntime) -> Result<(), Fail> {
@@ -105,95 +120,135 @@ fn labels_hold_pn_chars(rt: HostRuntime) -> Result<(), Fail> {
     Ok(())
 }
 
-// What stands before a character and behind it, and whether the whole is a document.
 #[test]
-fn the_other_classes_end_where_they_should(rt: HostRuntime) -> Result<(), Fail> {
-    let rows: [(&str, char, &str, bool); 81] = [
-        ("<a", '\0', "> <p> <o> .", false),
-        ("<a", '\u{1F}', "> <p> <o> .", false),
-        ("<a", ' ', "> <p> <o> .", false),
-        ("<a", '!', "> <p> <o> .", true),
-        ("<a", '"', "> <p> <o> .", false),
-        ("<a", '#', "> <p> <o> .", true),
-        ("<a", ';', "> <p> <o> .", true),
-        ("<a", '<', "> <p> <o> .", false),
-        ("<a", '=', "> <p> <o> .", true),
-        ("<a", '>', "> <p> <o> .", false),
-        ("<a", '?', "> <p> <o> .", true),
-        ("<a", '[', "> <p> <o> .", true),
-        ("<a", '\\', "> <p> <o> .", false),
-        ("<a", ']', "> <p> <o> .", true),
-        ("<a", '^', "> <p> <o> .", false),
-        ("<a", '_', "> <p> <o> .", true),
-        ("<a", '`', "> <p> <o> .", false),
-        ("<a", 'a', "> <p> <o> .", true),
-        ("<a", 'z', "> <p> <o> .", true),
-        ("<a", '{', "> <p> <o> .", false),
-        ("<a", '|', "> <p> <o> .", false),
-        ("<a", '}', "> <p> <o> .", false),
-        ("<a", '~', "> <p> <o> .", true),
-        ("<a", '\u{7F}', "> <p> <o> .", true),
-        ("<a", '\u{80}', "> <p> <o> .", true),
-        ("<a", '\u{10FFFF}', "> <p> <o> .", true),
-        ("<s> <p> \"", '\0', "\" .", true),
-        ("<s> <p> \"", '\t', "\" .", true),
-        ("<s> <p> \"", '\n', "\" .", false),
-        ("<s> <p> \"", '\u{B}', "\" .", true),
-        ("<s> <p> \"", '\u{C}', "\" .", true),
-        ("<s> <p> \"", '\r', "\" .", false),
-        ("<s> <p> \"", '\u{E}', "\" .", true),
-        ("<s> <p> \"", '!', "\" .", true),
-        ("<s> <p> \"", '"', "\" .", false),
-        ("<s> <p> \"", '#', "\" .", true),
-        ("<s> <p> \"", '[', "\" .", true),
-        ("<s> <p> \"", '\\', "\" .", false),
-        ("<s> <p> \"", ']', "\" .", true),
-        ("<s> <p> \"", '\u{85}', "\" .", true),
-        ("<s> <p> \"", '\u{2028}', "\" .", true),
-        ("<s> <p> \"\"@", '@', " .", false),
-        ("<s> <p> \"\"@", 'A', " .", true),
-        ("<s> <p> \"\"@", 'Z', " .", true),
-        ("<s> <p> \"\"@", '[', " .", false),
-        ("<s> <p> \"\"@", '`', " .", false),
-        ("<s> <p> \"\"@", 'a', " .", true),
-        ("<s> <p> \"\"@", 'z', " .", true),
-        ("<s> <p> \"\"@", '{', " .", false),
-        ("<s> <p> \"\"@", '5', " .", false),
-        ("<s> <p> \"\"@", '\u{E9}', " .", false),
-        ("<s> <p> \"\"@a-", '/', " .", false),
-        ("<s> <p> \"\"@a-", '0', " .", true),
-        ("<s> <p> \"\"@a-", '9', " .", true),
-        ("<s> <p> \"\"@a-", ':', " .", false),
-        ("<s> <p> \"\"@a-", 'z', " .", true),
-        ("<s> <p> \"\"@a-", '-', " .", false),
-        ("<s> <p> \"\"@a-", '_', " .", false),
-        ("<s> <p> \"\\u000", '/', "\" .", false),
-        ("<s> <p> \"\\u000", '0', "\" .", true),
-        ("<s> <p> \"\\u000", '9', "\" .", true),
-        ("<s> <p> \"\\u000", ':', "\" .", false),
-        ("<s> <p> \"\\u000", '@', "\" .", false),
-        ("<s> <p> \"\\u000", 'A', "\" .", true),
-        ("<s> <p> \"\\u000", 'F', "\" .", true),
-        ("<s> <p> \"\\u000", 'G', "\" .", false),
-        ("<s> <p> \"\\u000", '`', "\" .", false),
-        ("<s> <p> \"\\u000", 'a', "\" .", true),
-        ("<s> <p> \"\\u000", 'f', "\" .", true),
-        ("<s> <p> \"\\u000", 'g', "\" .", false),
-        ("<s>", '\u{8}', "<p> <o> .", false),
-        ("<s>", '\t', "<p> <o> .", true),
-        ("<s>", '\u{B}', "<p> <o> .", false),
-        ("<s>", '\u{C}', "<p> <o> .", false),
-        ("<s>", '\u{1F}', "<p> <o> .", false),
-        ("<s>", ' ', "<p> <o> .", true),
-        ("<s>", '!', "<p> <o> .", false),
-        ("<s>", '\u{A0}', "<p> <o> .", false),
-        ("<s>", '\u{3000}', "<p> <o> .", false),
-        ("<s> <p> <o> .", '#', "\u{FFFF}\0", true),
-        ("<s> <p> <o> .", '.', "", false),
+fn iris_hold_all_but_controls_and_delimiters(rt: HostRuntime) -> Result<(), Fail> {
+    let rows: [(char, bool); 26] = [
+        ('\0', false),
+        ('\u{1F}', false),
+        (' ', false),
+        ('!', true),
+        ('"', false),
+        ('#', true),
+        (';', true),
+        ('<', false),
+        ('=', true),
+        ('>', false),
+        ('?', true),
+        ('[', true),
+        ('\\', false),
+        (']', true),
+        ('^', false),
+        ('_', true),
+        ('`', false),
+        ('a', true),
+        ('z', true),
+        ('{', false),
+        ('|', false),
+        ('}', false),
+        ('~', true),
+        ('\u{7F}', true),
+        ('\u{80}', true),
+        ('\u{10FFFF}', true),
     ];
-    for (before, character, behind, wanted) in rows.iter() {
-        let found = is_read(rt.alloc(), before, *character, behind)?;
-        assert_eq!(rt; found, *wanted);
-    }
+    let wrong = first_wrong(rt.alloc(), "<a", "> <p> <o> .", &rows)?;
+    assert!(rt; wrong.is_none());
+    Ok(())
+}
+
+#[test]
+fn strings_hold_all_but_quotes_and_line_ends(rt: HostRuntime) -> Result<(), Fail> {
+    let rows: [(char, bool); 15] = [
+        ('\0', true),
+        ('\t', true),
+        ('\n', false),
+        ('\u{B}', true),
+        ('\u{C}', true),
+        ('\r', false),
+        ('\u{E}', true),
+        ('!', true),
+        ('"', false),
+        ('#', true),
+        ('[', true),
+        ('\\', false),
+        (']', true),
+        ('\u{85}', true),
+        ('\u{2028}', true),
+    ];
+    let wrong = first_wrong(rt.alloc(), "<s> <p> \"", "\" .", &rows)?;
+    assert!(rt; wrong.is_none());
+    Ok(())
+}
+
+#[test]
+fn languages_begin_with_letters(rt: HostRuntime) -> Result<(), Fail> {
+    let rows: [(char, bool); 10] = [
+        ('@', false),
+        ('A', true),
+        ('Z', true),
+        ('[', false),
+        ('`', false),
+        ('a', true),
+        ('z', true),
+        ('{', false),
+        ('5', false),
+        ('\u{E9}', false),
+    ];
+    let wrong = first_wrong(rt.alloc(), "<s> <p> \"\"@", " .", &rows)?;
+    assert!(rt; wrong.is_none());
+    Ok(())
+}
+
+#[test]
+fn subtags_hold_letters_and_digits(rt: HostRuntime) -> Result<(), Fail> {
+    let rows: [(char, bool); 7] = [
+        ('/', false),
+        ('0', true),
+        ('9', true),
+        (':', false),
+        ('z', true),
+        ('-', false),
+        ('_', false),
+    ];
+    let wrong = first_wrong(rt.alloc(), "<s> <p> \"\"@a-", " .", &rows)?;
+    assert!(rt; wrong.is_none());
+    Ok(())
+}
+
+#[test]
+fn escapes_hold_hexadecimal_digits(rt: HostRuntime) -> Result<(), Fail> {
+    let rows: [(char, bool); 12] = [
+        ('/', false),
+        ('0', true),
+        ('9', true),
+        (':', false),
+        ('@', false),
+        ('A', true),
+        ('F', true),
+        ('G', false),
+        ('`', false),
+        ('a', true),
+        ('f', true),
+        ('g', false),
+    ];
+    let wrong = first_wrong(rt.alloc(), "<s> <p> \"\\u000", "\" .", &rows)?;
+    assert!(rt; wrong.is_none());
+    Ok(())
+}
+
+#[test]
+fn blanks_are_spaces_and_tabs(rt: HostRuntime) -> Result<(), Fail> {
+    let rows: [(char, bool); 9] = [
+        ('\u{8}', false),
+        ('\t', true),
+        ('\u{B}', false),
+        ('\u{C}', false),
+        ('\u{1F}', false),
+        (' ', true),
+        ('!', false),
+        ('\u{A0}', false),
+        ('\u{3000}', false),
+    ];
+    let wrong = first_wrong(rt.alloc(), "<s>", "<p> <o> .", &rows)?;
+    assert!(rt; wrong.is_none());
     Ok(())
 }

@@ -1,7 +1,4 @@
-use Rattle.std.proofs.Common.{rules, ap, sym, ◌∙◌, ◌∷◌, ◌≡◌}
-use Rattle.std.specs.Prelude.{option_map, IfSome}
-use Rattle.ntriples.specs.Document.{lines_after}
-use Rattle.ntriples.proofs.DocumentLemmas.{UnderWay-start, UnderWay-more, UnderWay-done, UnderWay-bad, UnderWay-fits}
+use Rattle.ntriples.proofs.DocumentLemmas.{UnderWay-start, UnderWay-more, UnderWay-done}
 use Rattle.ntriples.proofs.document.read_lines.Goals as goal
 
 pub loop-triples-init : goal.loop-triples-init

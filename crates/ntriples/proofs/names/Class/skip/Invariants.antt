@@ -1,9 +1,7 @@
-use Rattle.std.proofs.Common.{◌≡◌, ◌++◌, length}
+use Rattle.std.proofs.Common.{◌≡◌, length}
 use denote.Text.{Utf8}
 use denote.Shadow.{shadow}
-use Rattle.std.specs.Prelude.{string_bytes}
 use Rattle.std.specs.Str.{chars}
-use Rattle.ntriples.specs.Reading.{onto}
 use Rattle.ntriples.specs.Grammar.{run}
 use Rattle.ntriples.proofs.names.Class.skip.Given as goal
 
