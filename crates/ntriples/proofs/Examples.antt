@@ -1,5 +1,5 @@
 -- Worked documents, as the definitions compute them.
-use Rattle.std.proofs.Common.{◌≡◌, ℕ, true, false, List, [], ◌∷◌, ◌++◌, Option, Some, None, refl, codes}
+use Rattle.std.proofs.Common.{◌≡◌, ℕ, List, [], ◌∷◌, ◌++◌, Some, None, refl, codes}
 use Rattle.std.specs.Char.{encode_utf8}
 use Rattle.std.specs.Str.{is_utf8, chars}
 use Rattle.ntriples.specs.declared.term.Term.{Term}
@@ -7,9 +7,9 @@ use Rattle.ntriples.specs.declared.term.Term.TheVariants.{Iri, Blank, Literal}
 use Rattle.ntriples.specs.declared.term.Triple.{Triple}
 use Rattle.ntriples.specs.Characters.{is_pn_chars_base, is_pn_chars_u, is_pn_chars, is_iri_character}
 use Rattle.ntriples.specs.Reading.{skip_blanks}
-use Rattle.ntriples.specs.Grammar.{hex, hex4, short_code, long_code, uchar, echar, literal_escape, quoted_character, quoted_from, iriref, run, label_rest, blank_node_label, tag_part, subtags_from, langtag, xsd_string, rdf_lang_string, datatype, literal_suffix, literal, subject, object, triple, triple_alone, line}
+use Rattle.ntriples.specs.Grammar.{hex, hex4, short_code, long_code, uchar, echar, literal_escape, quoted_character, quoted_from, iriref, run, label_rest, blank_node_label, tag_part, subtags_from, langtag, xsd_string, rdf_lang_string, literal_suffix, literal, subject, object, triple, triple_alone, line}
 use Rattle.ntriples.specs.Document.{lines, line_of, triples_of, IsDocument, IsFirstBadLine}
-use Rattle.ntriples.specs.Written.{code_escape, iri_byte, literal_byte, iri_text, quoted_text, typed_text, suffix_text, term_text, triple_text, document_text}
+use Rattle.ntriples.specs.Written.{iri_byte, literal_byte, iri_text, quoted_text, suffix_text, term_text, triple_text, document_text}
 
 abbrev about : List ℕ → List ℕ → Term → Triple
 about subject predicate object = record { subject = Iri subject; predicate = predicate; object = object }
