@@ -7,5 +7,6 @@ pub mod Isolating
 pub mod Keeping
 pub mod Playing
 mod Replaying
+pub mod Streaming
 pub mod Viewing
 pub mod Working

@@ -16,6 +16,7 @@ pub mod State
 pub mod Stated
 pub mod Step
 pub mod Stopped
+pub mod Stream
 pub mod Transcript
 pub mod Valid
 pub mod View

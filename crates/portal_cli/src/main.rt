@@ -8,6 +8,7 @@ mod dictionary;
 pub mod laws;
 mod play;
 pub mod portal;
+pub mod real;
 pub mod reply;
 mod request;
 pub mod run;
@@ -17,13 +18,17 @@ mod stated;
 mod tests;
 
 use portal_base::counted::{CountNonces, ScriptClock};
+use portal_base::outside::{Clock, Nonces};
 use portal_base::std_adapters::{StdSink, StdSource};
-use run::{Status, run};
+use real::{ChaChaNonces, HostClock};
+use run::{Status, are_play, run};
+use std::alloc::Global;
 use std::process::ExitCode;
+use std::random::RandomSource;
 use std::{env, io};
 
 /// The words after the program's name. One that isn't UTF-8 is no word of the program.
-fn words(rt: &(impl env::Env + Alloc<A = std::alloc::Global>)) -> Result<Vec<String>, Status> {
+fn words(rt: &(impl env::Env + Alloc<A = Global>)) -> Result<Vec<String>, Status> {
     let mut words = Vec::new(rt.alloc());
     match env::args(rt) {
         Ok(args) => for word in args.skip(1) {
@@ -37,16 +42,70 @@ fn words(rt: &(impl env::Env + Alloc<A = std::alloc::Global>)) -> Result<Vec<Str
     Ok(words)
 }
 
-fn main(rt: HostRuntime) -> ExitCode {
-    let status = match words(&rt) {
-        Ok(words) => run(
-            rt.alloc(),
-            words.as_slice(),
-            &mut StdSource::new(rt.reader()),
-            &mut StdSink::new(io::writer(&rt)),
-            &mut ScriptClock::new(),
-            &mut CountNonces::new(),
+/// Whether the environment asks for real time: `PORTAL_TIME` is there and is `real`.
+fn is_real(rt: &(impl env::Env + Alloc<A = Global>)) -> Result<bool, Status> {
+    match env::var(rt, "PORTAL_TIME") {
+        Ok(value) => Ok(value.as_str() == "real"),
+        Err(env::VarError::OutOfMemory) => Err(Status::OutOfMemory),
+        Err(_) => Ok(false),
+    }
+}
+
+/// A seed from the host's random source, if that doesn't fail.
+fn random_seed(rt: &impl RandomSource) -> Option<[u8; 32]> {
+    let mut seed = [0; 32];
+    rt.fill_bytes(&mut seed).ok()?;
+    Some(seed)
+}
+
+/// Plays standard input to standard output with this clock and these numbers.
+fn play_with<C: Clock, N: Nonces>(
+    rt: &(impl Input + Print + Alloc<A = Global>),
+    words: &[String],
+    clock: &mut C,
+    nonces: &mut N,
+) -> Status {
+    run(
+        rt.alloc(),
+        words,
+        &mut StdSource::new(rt.reader()),
+        &mut StdSink::new(io::writer(rt)),
+        clock,
+        nonces,
+    )
+}
+
+/// Plays with the host's clock and random numbers. Faulty words come first among the causes.
+fn play_real(rt: &HostRuntime, words: &[String]) -> Status {
+    match random_seed(rt) {
+        Some(seed) => play_with(
+            rt,
+            words,
+            &mut HostClock::new(rt),
+            &mut ChaChaNonces::from_seed(seed),
         ),
+        None if are_play(words) => Status::ReadFault,
+        None => Status::Words,
+    }
+}
+
+/// Plays the words of the command line in the time that the environment asks for.
+fn play_words(rt: &HostRuntime) -> Result<Status, Status> {
+    let words = words(rt)?;
+    if is_real(rt)? {
+        return Ok(play_real(rt, words.as_slice()));
+    }
+    Ok(play_with(
+        rt,
+        words.as_slice(),
+        &mut ScriptClock::new(),
+        &mut CountNonces::new(),
+    ))
+}
+
+fn main(rt: HostRuntime) -> ExitCode {
+    let status = match play_words(&rt) {
+        Ok(status) => status,
         Err(status) => status,
     };
     ExitCode::from(status.code())

@@ -43,7 +43,8 @@ impl Status {
     }
 }
 
-fn are_play(words: &[String]) -> bool
+/// Whether the words are those that the program takes.
+pub fn are_play(words: &[String]) -> bool
     ensures { result ≡ is_play (map string_bytes words.now) }
 {
     words.len() == 1 && words[0].as_str() == "play"

@@ -1,4 +1,6 @@
 //! Scripts played over devices in memory, and what the statuses come from.
+mod real;
+
 use crate::call::{Call, Event, Kind, Refusal, Reply};
 use crate::portal::{Opening, Portal};
 use crate::reply::{line_of_reply, status_of, text_of_reply};
