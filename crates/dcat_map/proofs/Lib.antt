@@ -1,0 +1,5 @@
+pub mod ListingLemmas
+pub mod Orders
+pub mod Ranges
+pub mod SetLemmas
+pub mod Steps

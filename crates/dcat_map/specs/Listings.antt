@@ -1,0 +1,45 @@
+-- What a graph's catalogues list (DCAT 3, section 6.3).
+use Rattle.std.specs.Prelude.{ℕ, Bool, true, false, not, ◌==◌, if◌then◌else◌, List, [], ◌∷◌, length, map, filter, Option, Some, None, Result, Ok, Err}
+use Rattle.std.specs.List.{filter_map, flat_map}
+use Rattle.ntriples.specs.declared.term.Term.{Term}
+use Rattle.ntriples.specs.declared.term.Term.TheVariants.{Iri, Blank, Literal}
+use Rattle.ntriples.specs.declared.term.Triple.{Triple}
+use Rattle.dcat_map.specs.declared.listing.Listing.{Listing}
+use Rattle.dcat_map.specs.Sets.{ascending_set}
+use Rattle.dcat_map.specs.Terms.{term_cmp}
+use Rattle.dcat_map.specs.Vocabulary.{dcat_catalog, dcat_dataset}
+use Rattle.dcat_map.specs.Graphs.{graph_of, objects, is_typed}
+
+-- the subjects that the triples say to be catalogues
+unfoldable pub catalogues_in : List Triple → List Term
+catalogues_in g = map (λ t. t.subject) (filter (is_typed dcat_catalog) g)
+
+-- what dcat:dataset leads to in the graph from each of the subjects that the triples say to be catalogues
+unfoldable pub links_in : List Triple → List Triple → List Term
+links_in g triples = flat_map (λ catalogue. objects g catalogue dcat_dataset) (catalogues_in triples)
+
+-- what dcat:dataset leads to from some catalogue, as a set
+unfoldable pub entries_in : List Triple → List Term
+entries_in g = ascending_set term_cmp (links_in g g)
+
+abbrev pub iri_of : Term → Option (List ℕ)
+iri_of (Iri iri) = Some iri
+iri_of (Blank label) = None
+iri_of (Literal text datatype tag) = None
+
+abbrev pub is_unnamed : Term → Bool
+is_unnamed (Iri iri) = false
+is_unnamed (Blank label) = true
+is_unnamed (Literal text datatype tag) = true
+
+-- the IRIs among the entries, in their order, and how many entries are no IRI
+unfoldable pub listing_in : List Triple → Listing
+listing_in g = record { iris = filter_map iri_of (entries_in g); unnamed = length (filter is_unnamed (entries_in g)) }
+
+-- the listing, where there is a catalogue
+abbrev pub if_any : {A B : Type 0} → List A → B → Option B
+if_any [] b = None
+if_any (a ∷ as') b = Some b
+
+unfoldable pub listing_of : List Triple → Option Listing
+listing_of triples = if_any (catalogues_in (graph_of triples)) (listing_in (graph_of triples))

@@ -1,0 +1,19 @@
+-- Finite sets as lists: each item once, in ascending order by a comparison.
+use Rattle.std.specs.Prelude.{ℕ, List, [], ◌∷◌, ◌↔◌}
+use Rattle.std.specs.declared.cmp.Ordering.{Ordering}
+use Rattle.std.specs.Ordering.{match_ordering}
+use Rattle.std.specs.List.{Contains}
+
+-- x at its place in an ascending list, where it stands at most once
+abbrev pub placed : {X : Type 0} → (X → X → Ordering) → X → List X → List X
+placed cmp x [] = x ∷ []
+placed cmp x (y ∷ ys) = match_ordering (cmp x y) (x ∷ y ∷ ys) (y ∷ ys) (y ∷ placed cmp x ys)
+
+-- the set of the items, as the ascending list of them
+unfoldable pub ascending_set : {X : Type 0} → (X → X → Ordering) → List X → List X
+ascending_set cmp [] = []
+ascending_set cmp (x ∷ xs) = placed cmp x (ascending_set cmp xs)
+
+-- the lists are of one set: each has the items of the other
+abbrev pub HaveSameItems : {X : Type 0} → List X → List X → Type 0
+HaveSameItems {X} xs ys = (x : X) → Contains xs x ↔ Contains ys x

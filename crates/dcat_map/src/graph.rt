@@ -1,0 +1,114 @@
+//! A graph as the ascending list of its triples, in which triples are found by subject and predicate.
+ghost use Rattle.std.specs.Prelude.{◌≡◌, filter, IfOk};
+ghost use Rattle.dcat_map.specs.Graphs.{graph_of, is_about, is_typed, is_described, about};
+ghost use Rattle.std.specs.List.Sorted.{IsStrictlySortedBy};
+ghost use Rattle.dcat_map.specs.Terms.{key_cmp, triple_cmp};
+ghost use Rattle.dcat_map.specs.Vocabulary.{dcat_dataset_class};
+
+use crate::statement::Statement;
+use crate::terms::{compare_terms, is_iri};
+use crate::vocabulary::{DATASET_CLASS, TYPE};
+use ntriples::{Term, Triple};
+use portal_base::seq::Seq;
+use portal_base::text::Text;
+use std::alloc::{AllocError, Global};
+use std::cmp::Ordering;
+use std::marker::Model;
+
+/// The set of the triples of a list that is lent. A contract sees it as the ascending list of them, each once.
+#[derive(Drop)]
+pub struct Graph<'a> {
+    statements: Vec<Statement<'a>>,
+}
+
+impl<'a> Model for Graph<'a> {
+    ghost use Rattle.std.specs.Prelude.{List};
+    ghost use Rattle.std.specs.List.Sorted.{IsStrictlySortedBy};
+    ghost use Rattle.ntriples.specs.declared.term.Triple.{Triple};
+    ghost use Rattle.dcat_map.specs.Terms.{triple_cmp};
+
+    ghost Value = { List Triple };
+
+    ghost view = { λ g. g.statements.items };
+
+    ghost invariant = { λ g. IsStrictlySortedBy triple_cmp g.statements.items };
+}
+
+impl<'a> Graph<'a> {
+    /// The graph of the triples.
+    pub fn of(alloc: Global, triples: &'a Seq<Triple>) -> Result<Graph<'a>, AllocError>
+        ensures { IfOk result (λ graph. graph ≡ graph_of triples.now) }
+    {
+        let mut statements = statements_of(alloc, triples.as_slice())?;
+        statements.sort_unstable();
+        statements.dedup();
+        Ok(Graph { statements })
+    }
+
+    /// The triples.
+    pub(crate) fn statements(&self) -> &[Statement<'a>]
+        ensures { result.now ≡ self.now }
+    {
+        self.statements.as_slice()
+    }
+
+    /// The triples with this subject and this predicate.
+    pub(crate) fn about(&self, subject: &Term, predicate: &str) -> &[Statement<'a>]
+        ensures { result.now ≡ about self.now subject.now predicate.now }
+    {
+        part_about(self.statements.as_slice(), subject, predicate)
+    }
+}
+
+/// Whether a triple says that the IRI is a dataset. Takes no memory.
+#[tactic(auto, unfolding(crate::specs::Graphs::is_described))]
+pub fn described(graph: &Seq<Triple>, iri: &Text) -> bool
+    ensures { result ≡ is_described graph.now iri.now }
+{
+    graph
+        .as_slice()
+        .iter()
+        .any(|triple| is_iri(&triple.subject, iri.as_str()) && is_typed(triple, DATASET_CLASS))
+}
+
+/// Whether the triple says that its subject is of this class.
+pub(crate) fn is_typed(triple: &Triple, class: &str) -> bool
+    ensures { result ≡ is_typed class.now triple.now }
+{
+    triple.predicate.as_str() == TYPE && is_iri(&triple.object, class)
+}
+
+// A reference to each triple.
+fn statements_of(alloc: Global, triples: &[Triple]) -> Result<Vec<Statement<'_>>, AllocError>
+    ensures { IfOk result (λ statements. statements.items ≡ triples.now) }
+{
+    let mut statements = Vec::with_capacity(alloc, triples.len())?;
+    for triple in triples {
+        statements.push(Statement::of(triple))?;
+    }
+    Ok(statements)
+}
+
+// The order of triples by subject and predicate alone.
+#[tactic(auto, unfolding(crate::specs::Terms::key_cmp))]
+fn compare_key(triple: &Triple, subject: &Term, predicate: &str) -> Ordering
+    ensures { result ≡ key_cmp subject.now predicate.now triple.now }
+{
+    compare_terms(&triple.subject, subject).then(triple.predicate.as_str().cmp(predicate))
+}
+
+// The triples with this subject and this predicate, of triples in ascending order.
+fn part_about<'s, 'a>(
+    statements: &'s [Statement<'a>],
+    subject: &Term,
+    predicate: &str,
+) -> &'s [Statement<'a>]
+    requires { IsStrictlySortedBy triple_cmp statements.now }
+    ensures { result.now ≡ about statements.now subject.now predicate.now }
+{
+    let start = statements.partition_point(|s| compare_key(s.triple(), subject, predicate).is_lt());
+    let end = statements.partition_point(|s| !compare_key(s.triple(), subject, predicate).is_gt());
+    let (_, rest) = statements.split_at(start);
+    let (part, _) = rest.split_at(end - start);
+    part
+}

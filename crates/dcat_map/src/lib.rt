@@ -1,0 +1,17 @@
+//! DCAT 3: what a graph's catalogues list, and a record for each dataset, as functions of the set of its triples.
+#![tactic(auto)]
+
+mod graph;
+pub mod laws;
+mod listing;
+mod names;
+mod node;
+mod statement;
+mod terms;
+#[cfg(test)]
+mod tests;
+mod vocabulary;
+
+pub use graph::{Graph, described};
+pub use listing::{ListFault, Listing, listed};
+pub use names::name_of;

@@ -1,0 +1,169 @@
+//! What the catalogues of a graph list.
+ghost use Rattle.std.specs.Prelude.{◌≡◌, ◌∷◌, [], ◌++◌, ◌⊎◌, length, map, filter, Some, None, IfOk, IfErr, OnOk};
+ghost use Rattle.std.specs.List.{filter_map, list_any};
+ghost use Rattle.std.specs.List.Sorted.{IsStrictlySortedBy};
+ghost use Rattle.dcat_map.specs.Sets.{ascending_set};
+ghost use Rattle.dcat_map.specs.Terms.{text_cmp, term_cmp};
+ghost use Rattle.dcat_map.specs.Graphs.{is_typed};
+ghost use Rattle.dcat_map.specs.Listings.{entries_in, links_in, iri_of, is_unnamed, listing_in, listing_of};
+ghost use Rattle.dcat_map.specs.Vocabulary.{dcat_catalog};
+
+use crate::graph::{Graph, is_typed};
+use crate::node::Node;
+use crate::statement::Statement;
+use crate::vocabulary::{CATALOG_CLASS, DATASET};
+use ntriples::{Term, Triple};
+use portal_base::copy::TryClone;
+use portal_base::seq::Seq;
+use portal_base::text::Text;
+use std::alloc::{AllocError, Global};
+use thiserror::Error;
+
+/// What catalogues list: the IRIs of datasets, each once and ascending by bytes, and how many others there are.
+#[derive(Drop)]
+pub struct Listing {
+    pub iris: Seq<Text>,
+    pub unnamed: u64,
+}
+
+/// Why there is no listing.
+#[derive(Debug, Drop, Error, Clone, Copy, PartialEq, Eq)]
+pub enum ListFault {
+    #[error("the graph has no catalogue")]
+    NoCatalog,
+    #[error("out of memory")]
+    OutOfMemory,
+}
+
+impl From<AllocError> for ListFault {
+    ghost use Rattle.std.specs.Prelude.{◌≡◌};
+    ghost use Rattle.dcat_map.specs.declared.listing.ListFault.TheVariants.{OutOfMemory};
+
+    ghost from_gives = { λ _ fault. fault ≡ OutOfMemory };
+
+    fn from(_refused: AllocError) -> ListFault {
+        ListFault::OutOfMemory
+    }
+}
+
+/// What the catalogues of the triples list.
+#[tactic(auto, unfolding(crate::specs::Listings::listing_of))]
+pub fn listed(alloc: Global, graph: &Seq<Triple>) -> Result<Listing, ListFault>
+    ensures listing { IfOk result (λ listing. listing_of graph.now ≡ Some listing) }
+    ensures fault { IfErr result (λ fault. (fault ≡ ListFault.OutOfMemory) ⊎
+        ((fault ≡ ListFault.NoCatalog) × (listing_of graph.now ≡ None))) }
+{
+    let graph = Graph::of(alloc, graph)?;
+    if !has_catalogue(&graph) {
+        return Err(ListFault::NoCatalog);
+    }
+    Ok(listing_from(alloc, &graph)?)
+}
+
+// Whether the graph has a catalogue.
+fn has_catalogue(graph: &Graph<'_>) -> bool
+    ensures { result ≡ list_any (is_typed dcat_catalog) graph.now }
+{
+    graph
+        .statements()
+        .iter()
+        .any(|statement| is_typed(statement.triple(), CATALOG_CLASS))
+}
+
+// What the graph's catalogues list.
+#[tactic(auto, unfolding(crate::specs::Listings::listing_in))]
+fn listing_from(alloc: Global, graph: &Graph<'_>) -> Result<Listing, AllocError>
+    ensures { IfOk result (λ listing. listing ≡ listing_in graph.now) }
+{
+    let entries = entries_of(alloc, graph)?;
+    Ok(Listing {
+        iris: iris_of(alloc, &entries)?,
+        unnamed: count_unnamed(&entries),
+    })
+}
+
+// What dcat:dataset leads to from some catalogue, each once.
+#[tactic(auto, unfolding(crate::specs::Listings::entries_in))]
+fn entries_of<'a>(alloc: Global, graph: &Graph<'a>) -> Result<Vec<Node<'a>>, AllocError>
+    ensures { IfOk result (λ entries. entries.items ≡ entries_in graph.now) }
+{
+    let mut entries = links_of(alloc, graph)?;
+    entries.sort_unstable();
+    entries.dedup();
+    Ok(entries)
+}
+
+// What dcat:dataset leads to from each catalogue.
+fn links_of<'a>(alloc: Global, graph: &Graph<'a>) -> Result<Vec<Node<'a>>, AllocError>
+    ensures { IfOk result (λ links. links.items ≡ links_in graph.now graph.now) }
+{
+    let mut links = Vec::new(alloc);
+    let statements = graph.statements();
+    for statement in statements {
+        push_links(&mut links, graph, statement.triple())?;
+    }
+    Ok(links)
+}
+
+// Adds what dcat:dataset leads to from the triple's subject, where the triple says that it is a catalogue.
+#[tactic(auto, unfolding(crate::specs::Listings::links_in, crate::specs::Listings::catalogues_in))]
+fn push_links<'a>(
+    links: &mut Vec<Node<'a>>,
+    graph: &Graph<'a>,
+    triple: &Triple,
+) -> Result<(), AllocError>
+    ensures { OnOk result (links.new.items ≡ links.old.items ++ links_in graph.now (triple.now ∷ [])) }
+{
+    if is_typed(triple, CATALOG_CLASS) {
+        push_objects(links, graph.about(&triple.subject, DATASET))?;
+    }
+    Ok(())
+}
+
+// Adds the objects of the triples.
+fn push_objects<'a>(
+    nodes: &mut Vec<Node<'a>>,
+    statements: &[Statement<'a>],
+) -> Result<(), AllocError>
+    ensures { OnOk result (nodes.new.items ≡ nodes.old.items ++ map (λ t. t.object) statements.now) }
+{
+    for statement in statements {
+        nodes.push(Node::of(&statement.triple().object))?;
+    }
+    Ok(())
+}
+
+// The IRIs of the nodes.
+fn iris_of(alloc: Global, nodes: &[Node<'_>]) -> Result<Seq<Text>, AllocError>
+    ensures { IfOk result (λ iris. iris ≡ filter_map iri_of nodes.now) }
+{
+    let mut iris = Vec::new(alloc);
+    for node in nodes {
+        push_iri(alloc, &mut iris, node.term())?;
+    }
+    Ok(Seq::from(iris))
+}
+
+// Adds the IRI, if the term is one.
+fn push_iri(alloc: Global, iris: &mut Vec<Text>, term: &Term) -> Result<(), AllocError>
+    ensures { OnOk result (iris.new.items ≡ iris.old.items ++ filter_map iri_of (term.now ∷ [])) }
+{
+    if let Term::Iri(iri) = term {
+        iris.push(iri.try_clone(alloc)?)?;
+    }
+    Ok(())
+}
+
+// How many of the nodes are no IRIs.
+fn count_unnamed(nodes: &[Node<'_>]) -> u64
+    ensures { result ≡ length (filter is_unnamed nodes.now) }
+{
+    let count = nodes.iter().filter(|node| is_unnamed(node.term())).count();
+    count as u64
+}
+
+fn is_unnamed(term: &Term) -> bool
+    ensures { result ≡ is_unnamed term.now }
+{
+    !matches!(term, Term::Iri(_))
+}

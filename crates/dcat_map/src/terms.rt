@@ -1,0 +1,105 @@
+//! The order of terms, and tests of them.
+ghost use Rattle.std.specs.Prelude.{◌≡◌};
+ghost use Rattle.dcat_map.specs.Terms.{ends_subtag, is_english, rank_of, language_of, text_of, datatype_of, term_cmp, triple_cmp, is_iri};
+
+use ntriples::{Term, Triple};
+use std::cmp::Ordering;
+
+// Whether a subtag of a language ends here.
+fn ends_subtag(rest: &[u8]) -> bool
+    ensures { result ≡ ends_subtag rest.now }
+{
+    match rest {
+        [] => true,
+        [byte, ..] => *byte == b'-',
+    }
+}
+
+// Whether the language is English.
+fn is_english(tag: &[u8]) -> bool
+    ensures { result ≡ is_english tag.now }
+{
+    match tag {
+        [first, second, rest @ ..] => {
+            (*first == b'e' || *first == b'E')
+                && (*second == b'n' || *second == b'N')
+                && ends_subtag(rest)
+        }
+        _ => false,
+    }
+}
+
+fn rank_of(term: &Term) -> u8
+    ensures { result ≡ rank_of term.now }
+{
+    match term {
+        Term::Literal(_, _, None) => 0,
+        Term::Literal(_, _, Some(tag)) => {
+            if is_english(tag.as_bytes()) {
+                1
+            } else {
+                2
+            }
+        }
+        Term::Iri(_) => 3,
+        Term::Blank(_) => 4,
+    }
+}
+
+fn language_of(term: &Term) -> &str
+    ensures { result.now ≡ language_of term.now }
+{
+    match term {
+        Term::Literal(_, _, Some(tag)) => tag.as_str(),
+        _ => "",
+    }
+}
+
+fn text_of(term: &Term) -> &str
+    ensures { result.now ≡ text_of term.now }
+{
+    match term {
+        Term::Iri(text) | Term::Blank(text) | Term::Literal(text, _, _) => text.as_str(),
+    }
+}
+
+fn datatype_of(term: &Term) -> &str
+    ensures { result.now ≡ datatype_of term.now }
+{
+    match term {
+        Term::Literal(_, datatype, _) => datatype.as_str(),
+        _ => "",
+    }
+}
+
+/// The order of terms by which one of several literals is picked.
+#[tactic(auto, unfolding(crate::specs::Terms::term_cmp))]
+pub(crate) fn compare_terms(first: &Term, second: &Term) -> Ordering
+    ensures { result ≡ term_cmp first.now second.now }
+{
+    rank_of(first)
+        .cmp(&rank_of(second))
+        .then(language_of(first).cmp(language_of(second)))
+        .then(text_of(first).cmp(text_of(second)))
+        .then(datatype_of(first).cmp(datatype_of(second)))
+}
+
+/// The order of triples by subject, then predicate, then object.
+#[tactic(auto, unfolding(crate::specs::Terms::triple_cmp))]
+pub(crate) fn compare_triples(first: &Triple, second: &Triple) -> Ordering
+    ensures { result ≡ triple_cmp first.now second.now }
+{
+    compare_terms(&first.subject, &second.subject)
+        .then(first.predicate.cmp(&second.predicate))
+        .then(compare_terms(&first.object, &second.object))
+}
+
+/// Whether the term is this IRI.
+pub(crate) fn is_iri(term: &Term, iri: &str) -> bool
+    ensures { result ≡ is_iri iri.now term.now }
+{
+    match term {
+        Term::Iri(name) => name.as_str() == iri,
+        _ => false,
+    }
+}
