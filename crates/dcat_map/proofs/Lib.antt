@@ -1,3 +1,4 @@
+pub mod Leasts
 pub mod ListingLemmas
 pub mod Orders
 pub mod Ranges

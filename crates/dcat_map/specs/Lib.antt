@@ -4,3 +4,8 @@ pub mod Vocabulary
 pub mod Graphs
 pub mod Listings
 pub mod Names
+pub mod Picks
+pub mod Tags
+pub mod Instants
+pub mod Distributions
+pub mod Records

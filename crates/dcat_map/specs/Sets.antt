@@ -1,5 +1,5 @@
 -- Finite sets as lists: each item once, in ascending order by a comparison.
-use Rattle.std.specs.Prelude.{ℕ, List, [], ◌∷◌, ◌↔◌}
+use Rattle.std.specs.Prelude.{List, [], ◌∷◌, ◌↔◌, Option, Some, None}
 use Rattle.std.specs.declared.cmp.Ordering.{Ordering}
 use Rattle.std.specs.Ordering.{match_ordering}
 use Rattle.std.specs.List.{Contains}
@@ -13,6 +13,31 @@ placed cmp x (y ∷ ys) = match_ordering (cmp x y) (x ∷ y ∷ ys) (y ∷ ys) (
 unfoldable pub ascending_set : {X : Type 0} → (X → X → Ordering) → List X → List X
 ascending_set cmp [] = []
 ascending_set cmp (x ∷ xs) = placed cmp x (ascending_set cmp xs)
+
+-- the first of the items, if there is one
+abbrev pub first : {X : Type 0} → List X → Option X
+first [] = None
+first (x ∷ xs) = Some x
+
+-- the first of the items in ascending order
+unfoldable pub least : {X : Type 0} → (X → X → Ordering) → List X → Option X
+least cmp xs = first (ascending_set cmp xs)
+
+-- the lesser of what is there
+abbrev pub lesser_of : {X : Type 0} → (X → X → Ordering) → Option X → Option X → Option X
+lesser_of cmp best None = best
+lesser_of cmp None (Some x) = Some x
+lesser_of cmp (Some y) (Some x) = Some (match_ordering (cmp x y) x y y)
+
+-- x behind the items of an ascending list that are below it
+abbrev pub inserted : {X : Type 0} → (X → X → Ordering) → X → List X → List X
+inserted cmp x [] = x ∷ []
+inserted cmp x (y ∷ ys) = match_ordering (cmp x y) (x ∷ y ∷ ys) (x ∷ y ∷ ys) (y ∷ inserted cmp x ys)
+
+-- all the items in ascending order, those that are alike too
+unfoldable pub in_order : {X : Type 0} → (X → X → Ordering) → List X → List X
+in_order cmp [] = []
+in_order cmp (x ∷ xs) = inserted cmp x (in_order cmp xs)
 
 -- the lists are of one set: each has the items of the other
 abbrev pub HaveSameItems : {X : Type 0} → List X → List X → Type 0

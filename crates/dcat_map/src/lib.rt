@@ -1,12 +1,17 @@
 //! DCAT 3: what a graph's catalogues list, and a record for each dataset, as functions of the set of its triples.
 #![tactic(auto)]
 
+mod distributions;
 mod graph;
+mod instants;
 pub mod laws;
 mod listing;
 mod names;
 mod node;
+mod picks;
+mod record;
 mod statement;
+mod tags;
 mod terms;
 #[cfg(test)]
 mod tests;
@@ -15,3 +20,4 @@ mod vocabulary;
 pub use graph::{Graph, described};
 pub use listing::{ListFault, Listing, listed};
 pub use names::name_of;
+pub use record::{Distribution, HarvestRecord, RecordFault, describe, describe_in};

@@ -55,7 +55,8 @@ fn language_of(term: &Term) -> &str
     }
 }
 
-fn text_of(term: &Term) -> &str
+/// A literal's text, an IRI, or a label.
+pub(crate) fn text_of(term: &Term) -> &str
     ensures { result.now ≡ text_of term.now }
 {
     match term {

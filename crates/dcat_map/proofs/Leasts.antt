@@ -1,0 +1,55 @@
+-- The least of a list, when an item comes to its end.
+use Rattle.std.proofs.Common.{◌≡◌, List, [], ◌∷◌, ◌++◌, Option, Some, None, refl, sym, ap, ◌∙◌, inl, inr, ◌⊎◌}
+use Rattle.std.specs.declared.cmp.Ordering.{Ordering}
+use Rattle.std.specs.declared.cmp.Ordering.TheVariants.{Less, Equal, Greater}
+use Rattle.std.specs.Ordering.{match_ordering}
+use Rattle.std.specs.Cmp.{IsTotalOrder}
+use Rattle.dcat_map.specs.Sets.{placed, ascending_set, first, least, lesser_of}
+use Rattle.dcat_map.proofs.SetLemmas.{TellsApart, IsIn, IsIn-placed, placed-IsIn, IsStrictlySortedBy-placed, IsStrictlySortedBy-ascending_set, IsIn-ascending_set, ascending_set-IsIn, ascending_set-from_sorted}
+
+IsIn-push : {X : Type 0} (z x : X) (xs : List X) → IsIn z (xs ++ x ∷ []) → IsIn z (x ∷ xs)
+IsIn-push z x [] m = m
+IsIn-push {X} z x (y ∷ ys) m = by_case (IsIn-push z x ys) m
+  where
+    further : IsIn z (x ∷ ys) → IsIn z (x ∷ y ∷ ys)
+    further (inl e) = inl e
+    further (inr n) = inr (inr n)
+
+    by_case : (IsIn z (ys ++ x ∷ []) → IsIn z (x ∷ ys)) → IsIn z (y ∷ (ys ++ x ∷ [])) → IsIn z (x ∷ y ∷ ys)
+    by_case go (inl e) = inr (inl e)
+    by_case go (inr n) = further (go n)
+
+push-IsIn : {X : Type 0} (z x : X) (xs : List X) → IsIn z (x ∷ xs) → IsIn z (xs ++ x ∷ [])
+push-IsIn z x [] m = m
+push-IsIn {X} z x (y ∷ ys) m = by_case (push-IsIn z x ys) m
+  where
+    by_case : (IsIn z (x ∷ ys) → IsIn z (ys ++ x ∷ [])) → IsIn z (x ∷ y ∷ ys) → IsIn z (y ∷ (ys ++ x ∷ []))
+    by_case go (inl e) = inr (go (inl e))
+    by_case go (inr (inl e)) = inl e
+    by_case go (inr (inr n)) = inr (go (inr n))
+
+-- The set with an item at the end of the list.
+ascending_set-push : {X : Type 0} (cmp : X → X → Ordering) (o : IsTotalOrder cmp) → TellsApart cmp → (xs : List X) (x : X) → ascending_set cmp (xs ++ x ∷ []) ≡ placed cmp x (ascending_set cmp xs)
+ascending_set-push {X} cmp o apart xs x =
+    sym (ascending_set-from_sorted cmp o apart (xs ++ x ∷ []) (placed cmp x (ascending_set cmp xs)) (IsStrictlySortedBy-placed cmp o x (ascending_set cmp xs) (IsStrictlySortedBy-ascending_set cmp o xs))
+    (λ z m. IsIn-placed cmp apart z x (ascending_set cmp xs) (into z (IsIn-push z x xs m)))
+    (λ z m. push-IsIn z x xs (out z (placed-IsIn cmp z x (ascending_set cmp xs) m))))
+  where
+    into : (z : X) → IsIn z (x ∷ xs) → IsIn z (x ∷ ascending_set cmp xs)
+    into z (inl e) = inl e
+    into z (inr m) = inr (IsIn-ascending_set cmp apart z xs m)
+
+    out : (z : X) → IsIn z (x ∷ ascending_set cmp xs) → IsIn z (x ∷ xs)
+    out z (inl e) = inl e
+    out z (inr m) = inr (ascending_set-IsIn cmp z xs m)
+
+first-placed : {X : Type 0} (cmp : X → X → Ordering) → TellsApart cmp → (x : X) (xs : List X) → first (placed cmp x xs) ≡ lesser_of cmp (first xs) (Some x)
+first-placed cmp apart x [] = refl
+first-placed {X} cmp apart x (y ∷ ys) =
+    let P : Ordering → Type 0 = λ r. first (match_ordering r (x ∷ y ∷ ys) (y ∷ ys) (y ∷ placed cmp x ys)) ≡ Some (match_ordering r x y y) in
+    elim (cmp x y) as P [ Less ↦ refl | Equal ↦ refl | Greater ↦ refl ]
+
+-- One item more.
+pub least-push : {X : Type 0} (cmp : X → X → Ordering) (o : IsTotalOrder cmp) → TellsApart cmp → (xs : List X) (x : X) → least cmp (xs ++ x ∷ []) ≡ lesser_of cmp (least cmp xs) (Some x)
+unfolding least
+least-push cmp o apart xs x = ap first (ascending_set-push cmp o apart xs x) ∙ first-placed cmp apart x (ascending_set cmp xs)

@@ -1,0 +1,72 @@
+-- The distributions of a dataset (DCAT 3, section 6.8).
+use Rattle.std.specs.Prelude.{ℕ, ◌==◌, nat_eq, if◌then◌else◌, Bool, true, false, List, [], ◌∷◌, length, map, filter, take, drop, Option, Some, None}
+use Rattle.std.specs.List.{list_any, starts_with}
+use Rattle.std.specs.declared.cmp.Ordering.{Ordering}
+use Rattle.std.specs.Ordering.{on, then_cmp}
+use Rattle.ntriples.specs.declared.term.Term.{Term}
+use Rattle.ntriples.specs.declared.term.Term.TheVariants.{Iri, Blank, Literal}
+use Rattle.ntriples.specs.declared.term.Triple.{Triple}
+use Rattle.dcat_map.specs.declared.record.Distribution.{Distribution}
+use Rattle.dcat_map.specs.Sets.{in_order}
+use Rattle.dcat_map.specs.Terms.{text_cmp}
+use Rattle.dcat_map.specs.Graphs.{about}
+use Rattle.dcat_map.specs.Picks.{picked, least_named, least_iri, or_empty}
+use Rattle.dcat_map.specs.Vocabulary.{dcat_distribution, dcat_download_url, dcat_access_url, dcat_media_type, dct_title, dct_description, dct_format, media_types, old_media_types}
+
+-- what follows the last byte of this value, or all where there is none
+unfoldable pub after_mark : ℕ → List ℕ → List ℕ
+after_mark mark [] = []
+after_mark mark (b ∷ bs) =
+    if list_any (λ c. c == mark) bs then after_mark mark bs else if b == mark then bs else b ∷ bs
+
+-- what follows the last `/` or `#`
+abbrev pub last_part : List ℕ → List ℕ
+last_part iri = after_mark 35 (after_mark 47 iri)
+
+-- without this in front
+abbrev pub without : List ℕ → List ℕ → List ℕ
+without front text = if starts_with nat_eq text front then drop (length front) text else text
+
+abbrev pub or_other : Option (List ℕ) → Option (List ℕ) → List ℕ
+or_other (Some text) other = text
+or_other None other = or_empty other
+
+abbrev pub or_last_part : List ℕ → Option (List ℕ) → List ℕ
+or_last_part (b ∷ bs) iri = b ∷ bs
+or_last_part [] None = []
+or_last_part [] (Some iri) = last_part iri
+
+-- a media type, without what the IRIs of media types begin with
+abbrev pub media_type : List ℕ → List ℕ
+media_type text = if starts_with nat_eq text media_types then drop (length media_types) text else without old_media_types text
+
+unfoldable pub distribution_in : List Triple → Term → Distribution
+distribution_in g node = record {
+  url = or_other (least_named (about g node dcat_download_url)) (least_named (about g node dcat_access_url));
+  name = picked (about g node dct_title);
+  format = or_last_part (picked (about g node dct_format)) (least_iri (about g node dct_format));
+  mimetype = media_type (or_empty (least_named (about g node dcat_media_type)));
+  description = picked (about g node dct_description);
+}
+
+-- by url, name, format, mimetype and description
+unfoldable pub distribution_cmp : Distribution → Distribution → Ordering
+distribution_cmp =
+    then_cmp (on (λ d. d.url) text_cmp)
+    (then_cmp (on (λ d. d.name) text_cmp)
+    (then_cmp (on (λ d. d.format) text_cmp)
+    (then_cmp (on (λ d. d.mimetype) text_cmp) (on (λ d. d.description) text_cmp))))
+
+-- what may be a distribution
+abbrev pub is_node : Term → Bool
+is_node (Iri iri) = true
+is_node (Blank label) = true
+is_node (Literal text datatype tag) = false
+
+-- one for each object that is no literal
+unfoldable pub distributions_in : List Triple → List Triple → List Distribution
+distributions_in g ts = map (distribution_in g) (filter is_node (map (λ t. t.object) ts))
+
+-- in order, of which the first 200 are taken
+unfoldable pub resources_in : List Triple → Term → List Distribution
+resources_in g subject = take 200 (in_order distribution_cmp (distributions_in g (about g subject dcat_distribution)))

@@ -1,0 +1,178 @@
+//! The distributions of a dataset.
+ghost use Rattle.std.specs.Prelude.{◌≡◌, ◌∷◌, [], ◌++◌, ◌<◌, map, IfOk, OnOk};
+ghost use Rattle.std.specs.Option.{option_copied};
+ghost use Rattle.dcat_map.specs.Distributions.{after_mark, last_part, media_type, or_other, or_last_part, distribution_in, distribution_cmp, is_node, distributions_in, resources_in};
+ghost use Rattle.dcat_map.specs.Graphs.{about};
+ghost use Rattle.dcat_map.specs.Picks.{picked, least_named, least_iri, or_empty};
+ghost use Rattle.dcat_map.specs.Vocabulary.{dcat_download_url, dcat_access_url, dcat_media_type, dct_format};
+
+use crate::graph::Graph;
+use crate::picks::{least_iri, least_named, picked};
+use crate::record::Distribution;
+use crate::statement::Statement;
+use crate::vocabulary::{
+    ACCESS_URL, DESCRIPTION, DISTRIBUTION, DOWNLOAD_URL, FORMAT, MEDIA_TYPE, MEDIA_TYPES,
+    OLD_MEDIA_TYPES, TITLE,
+};
+use ntriples::{Term, Triple};
+use portal_base::seq::Seq;
+use portal_base::text::Text;
+use std::alloc::{AllocError, Global};
+use std::cmp::Ordering;
+
+/// How many resources a dataset may have.
+const MOST_RESOURCES: usize = 200;
+
+// What follows the last such character, or all where there is none.
+fn after_mark(text: &str, mark: char) -> &str
+    requires { mark < 128 }
+    ensures { result.now ≡ after_mark mark text.now }
+{
+    match text.rsplit_once(mark) {
+        Some((_, rest)) => rest,
+        None => text,
+    }
+}
+
+// What follows the last `/` or `#`.
+fn last_part(iri: &str) -> &str
+    ensures { result.now ≡ last_part iri.now }
+{
+    after_mark(after_mark(iri, '/'), '#')
+}
+
+// The text without what the IRIs of media types begin with.
+fn media_type(text: &str) -> &str
+    ensures { result.now ≡ media_type text.now }
+{
+    match text.strip_prefix(MEDIA_TYPES) {
+        Some(rest) => rest,
+        None => text.strip_prefix(OLD_MEDIA_TYPES).unwrap_or(text),
+    }
+}
+
+// The text, or empty.
+pub(crate) fn or_empty<'a>(text: Option<&'a Text>) -> &'a str
+    ensures { result.now ≡ or_empty (option_copied text.entry) }
+{
+    match text {
+        Some(text) => text.as_str(),
+        None => "",
+    }
+}
+
+// Where the distribution is found.
+fn url_of<'a>(graph: &Graph<'a>, node: &Term) -> &'a str
+    ensures { result.now ≡ or_other (least_named (about graph.now node.now dcat_download_url))
+        (least_named (about graph.now node.now dcat_access_url)) }
+{
+    match least_named(graph.about(node, DOWNLOAD_URL)) {
+        Some(url) => url.as_str(),
+        None => or_empty(least_named(graph.about(node, ACCESS_URL))),
+    }
+}
+
+// Its format.
+fn format_of<'a>(graph: &Graph<'a>, node: &Term) -> &'a str
+    ensures { result.now ≡ or_last_part (picked (about graph.now node.now dct_format))
+        (least_iri (about graph.now node.now dct_format)) }
+{
+    let formats = graph.about(node, FORMAT);
+    let format = picked(formats);
+    if !format.is_empty() {
+        return format;
+    }
+    last_part(or_empty(least_iri(formats)))
+}
+
+// Its media type.
+fn media_type_of<'a>(graph: &Graph<'a>, node: &Term) -> &'a str
+    ensures { result.now ≡ media_type (or_empty (least_named (about graph.now node.now dcat_media_type))) }
+{
+    media_type(or_empty(least_named(graph.about(node, MEDIA_TYPE))))
+}
+
+// What the graph says of the distribution.
+#[tactic(auto, unfolding(crate::specs::Distributions::distribution_in))]
+fn distribution_of(
+    alloc: Global,
+    graph: &Graph<'_>,
+    node: &Term,
+) -> Result<Distribution, AllocError>
+    ensures { IfOk result (λ distribution. distribution ≡ distribution_in graph.now node.now) }
+{
+    Ok(Distribution {
+        url: Text::from_str(alloc, url_of(graph, node))?,
+        name: Text::from_str(alloc, picked(graph.about(node, TITLE)))?,
+        format: Text::from_str(alloc, format_of(graph, node))?,
+        mimetype: Text::from_str(alloc, media_type_of(graph, node))?,
+        description: Text::from_str(alloc, picked(graph.about(node, DESCRIPTION)))?,
+    })
+}
+
+// The order by url, name, format, mimetype and description.
+#[tactic(auto, unfolding(crate::specs::Distributions::distribution_cmp))]
+fn compare_distributions(first: &Distribution, second: &Distribution) -> Ordering
+    ensures { result ≡ distribution_cmp first.now second.now }
+{
+    first
+        .url
+        .cmp(&second.url)
+        .then(first.name.cmp(&second.name))
+        .then(first.format.cmp(&second.format))
+        .then(first.mimetype.cmp(&second.mimetype))
+        .then(first.description.cmp(&second.description))
+}
+
+/// The distributions of the dataset in order, of which the first 200 are taken.
+#[tactic(auto, unfolding(crate::specs::Distributions::resources_in))]
+pub(crate) fn resources_of(
+    alloc: Global,
+    graph: &Graph<'_>,
+    dataset: &Term,
+) -> Result<Seq<Distribution>, AllocError>
+    ensures { IfOk result (λ resources. resources ≡ resources_in graph.now dataset.now) }
+{
+    let mut distributions = distributions_of(alloc, graph, graph.about(dataset, DISTRIBUTION))?;
+    distributions.sort_unstable_by(compare_distributions);
+    distributions.truncate(MOST_RESOURCES);
+    Ok(Seq::from(distributions))
+}
+
+// One for each object that is no literal.
+fn distributions_of(
+    alloc: Global,
+    graph: &Graph<'_>,
+    statements: &[Statement<'_>],
+) -> Result<Vec<Distribution>, AllocError>
+    ensures { IfOk result (λ all. all.items ≡ distributions_in graph.now statements.now) }
+{
+    let mut distributions = Vec::new(alloc);
+    for statement in statements {
+        push_distribution(alloc, graph, &mut distributions, statement.triple())?;
+    }
+    Ok(distributions)
+}
+
+// Adds what the graph says of the triple's object, if it is no literal.
+#[tactic(auto, unfolding(crate::specs::Distributions::distributions_in))]
+fn push_distribution(
+    alloc: Global,
+    graph: &Graph<'_>,
+    distributions: &mut Vec<Distribution>,
+    triple: &Triple,
+) -> Result<(), AllocError>
+    ensures { OnOk result (distributions.new.items ≡
+        distributions.old.items ++ distributions_in graph.now (triple.now ∷ [])) }
+{
+    if is_node(&triple.object) {
+        distributions.push(distribution_of(alloc, graph, &triple.object)?)?;
+    }
+    Ok(())
+}
+
+fn is_node(term: &Term) -> bool
+    ensures { result ≡ is_node term.now }
+{
+    !matches!(term, Term::Literal(_, _, _))
+}
