@@ -1,5 +1,8 @@
+pub mod DistributionLemmas
+pub mod InOrder
 pub mod Leasts
 pub mod ListingLemmas
+pub mod Marks
 pub mod Orders
 pub mod Ranges
 pub mod SetLemmas

@@ -3,7 +3,7 @@ use Rattle.std.proofs.Common.{◌≡◌, ℕ, zero, suc, get_or, ◌+◌, ◌<�
 use Rattle.std.specs.declared.cmp.Ordering.{Ordering}
 use Rattle.std.specs.declared.cmp.Ordering.TheVariants.{Less, Equal, Greater}
 use Rattle.std.specs.Ordering.{is_eq, eq_by_cmp, match_ordering, ordering_reverse}
-use Rattle.std.specs.Cmp.{IsTotalOrder}
+use Rattle.std.specs.Cmp.{IsTotalOrder, IsEquivalence}
 use Rattle.std.specs.List.{Contains, AllByRecursion, dedup}
 use Rattle.std.specs.List.Sorted.{IsPermutation, IsSorted, IsStrictlySortedBy}
 use Rattle.std.proofs.lemmas.Cmp.{tied_itself, eq_by_cmp_equiv}
@@ -161,12 +161,16 @@ equal_from_is_eq Less h = absurd (cc)
 equal_from_is_eq Equal h = refl
 equal_from_is_eq Greater h = absurd (cc)
 
--- What a sort and then `dedup` leave.
+-- What a sort and then `dedup` leave, where `==` holds just at ties.
+pub ascending_set-dedup_by : {X : Type 0} (cmp : X → X → Ordering) (o : IsTotalOrder cmp) → TellsApart cmp → (E : X → X → Bool) → IsEquivalence E → ((x y : X) → E x y ≡ eq_by_cmp cmp x y) → (xs ys : List X) → IsPermutation xs ys → IsSorted cmp ys → dedup E ys ≡ ascending_set cmp xs
+ascending_set-dedup_by cmp o apart E equal ties xs ys moved up =
+    ascending_set-from_sorted cmp o apart xs (dedup E ys) (IsStrictlySortedBy-dedup o ties ys up)
+    (λ z m. IsIn-Contains z _ (Contains-dedup equal (λ x y h. apart x y (equal_from_is_eq (cmp x y) (sym (ties x y) ∙ h))) ys z (Contains-permutation xs ys z moved (Contains-IsIn z xs m))))
+    (λ z m. IsIn-Contains z xs (Contains-permutation ys xs z (IsPermutation-sym xs ys moved) (Contains-from_dedup E ys z (Contains-IsIn z _ m))))
+
+-- The same where `==` is the order's tie.
 pub ascending_set-dedup : {X : Type 0} (cmp : X → X → Ordering) (o : IsTotalOrder cmp) → TellsApart cmp → (xs ys : List X) → IsPermutation xs ys → IsSorted cmp ys → dedup (eq_by_cmp cmp) ys ≡ ascending_set cmp xs
-ascending_set-dedup cmp o apart xs ys moved up =
-    ascending_set-from_sorted cmp o apart xs (dedup (eq_by_cmp cmp) ys) (IsStrictlySortedBy-dedup o (λ x y. refl) ys up)
-    (λ z m. IsIn-Contains z _ (Contains-dedup (eq_by_cmp_equiv o) (λ x y h. apart x y (equal_from_is_eq (cmp x y) h)) ys z (Contains-permutation xs ys z moved (Contains-IsIn z xs m))))
-    (λ z m. IsIn-Contains z xs (Contains-permutation ys xs z (IsPermutation-sym xs ys moved) (Contains-from_dedup (eq_by_cmp cmp) ys z (Contains-IsIn z _ m))))
+ascending_set-dedup cmp o apart = ascending_set-dedup_by cmp o apart (eq_by_cmp cmp) (eq_by_cmp_equiv o) (λ x y. refl)
 
 -- Lists with the same items are of one set.
 pub same_set : {X : Type 0} (cmp : X → X → Ordering) (o : IsTotalOrder cmp) → TellsApart cmp → (xs ys : List X) → HaveSameItems xs ys → ascending_set cmp xs ≡ ascending_set cmp ys

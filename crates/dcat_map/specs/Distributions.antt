@@ -23,28 +23,32 @@ after_mark mark (b ∷ bs) =
 abbrev pub last_part : List ℕ → List ℕ
 last_part iri = after_mark 35 (after_mark 47 iri)
 
--- without this in front
-abbrev pub without : List ℕ → List ℕ → List ℕ
-without front text = if starts_with nat_eq text front then drop (length front) text else text
+-- what follows this front, if the text begins with it
+unfoldable pub stripped : List ℕ → List ℕ → Option (List ℕ)
+stripped front text = if starts_with nat_eq text front then Some (drop (length front) text) else None
+
+abbrev pub rest_or : Option (List ℕ) → List ℕ → List ℕ
+rest_or (Some rest) other = rest
+rest_or None other = other
 
 abbrev pub or_other : Option (List ℕ) → Option (List ℕ) → List ℕ
 or_other (Some text) other = text
 or_other None other = or_empty other
 
-abbrev pub or_last_part : List ℕ → Option (List ℕ) → List ℕ
+-- the format, or else the last part of the IRI
+abbrev pub or_last_part : List ℕ → List ℕ → List ℕ
 or_last_part (b ∷ bs) iri = b ∷ bs
-or_last_part [] None = []
-or_last_part [] (Some iri) = last_part iri
+or_last_part [] iri = last_part iri
 
 -- a media type, without what the IRIs of media types begin with
 abbrev pub media_type : List ℕ → List ℕ
-media_type text = if starts_with nat_eq text media_types then drop (length media_types) text else without old_media_types text
+media_type text = rest_or (stripped media_types text) (rest_or (stripped old_media_types text) text)
 
 unfoldable pub distribution_in : List Triple → Term → Distribution
 distribution_in g node = record {
   url = or_other (least_named (about g node dcat_download_url)) (least_named (about g node dcat_access_url));
   name = picked (about g node dct_title);
-  format = or_last_part (picked (about g node dct_format)) (least_iri (about g node dct_format));
+  format = or_last_part (picked (about g node dct_format)) (or_empty (least_iri (about g node dct_format)));
   mimetype = media_type (or_empty (least_named (about g node dcat_media_type)));
   description = picked (about g node dct_description);
 }

@@ -1,7 +1,7 @@
 -- Dates and times as literals: `YYYY-MM-DD`, or `YYYY-MM-DDThh:mm:ss` with a fraction of a second, which is dropped, and
 -- with `Z` or an offset from UTC (XML Schema part 2, sections 3.3.7 and 3.3.9, with years of four digits).
-use Rattle.std.specs.Prelude.{ℕ, zero, suc, ◌+◌, ◌*◌, ◌-◌, ◌==◌, nat_lt, nat_le, if◌then◌else◌, Bool, true, false, ◌&&◌, List, [], ◌∷◌, Option, Some, None, ℤ, pos, ◌+ℤ◌, ◌-ℤ◌, ◌*ℤ◌, neg_ℤ, int_le}
-use Rattle.std.specs.List.{filter_map}
+use Rattle.std.specs.Prelude.{ℕ, ◌+◌, ◌*◌, ◌-◌, ◌==◌, nat_lt, nat_le, if◌then◌else◌, Bool, true, false, ◌&&◌, List, [], ◌∷◌, drop, Option, Some, None, ℤ, pos, ◌+ℤ◌, ◌-ℤ◌, ◌*ℤ◌, neg_ℤ, int_le}
+use Rattle.std.specs.List.{filter_map, prefix_len}
 use Rattle.std.specs.Char.{is_ascii_digit}
 use Rattle.std.specs.Ordering.{flip_args, int_cmp}
 use Rattle.jiff_core.specs.Calendar.{days_in_month, days_from_civil}
@@ -9,18 +9,28 @@ use Rattle.portal_base.specs.Moment.{first_moment, last_moment}
 use Rattle.ntriples.specs.declared.term.Term.{Term}
 use Rattle.ntriples.specs.declared.term.Term.TheVariants.{Iri, Blank, Literal}
 use Rattle.ntriples.specs.declared.term.Triple.{Triple}
-use Rattle.ntriples.specs.Reading.{◌>>=◌, behind}
+use Rattle.ntriples.specs.Reading.{◌>>=◌, character, behind}
 use Rattle.dcat_map.specs.Sets.{least}
 
--- so many decimal digits behind those that are read, and what follows them
-unfoldable pub digits : ℕ → ℕ → List ℕ → Option (ℕ × List ℕ)
-digits zero value bs = Some (value, bs)
-digits (suc n) value [] = None
-digits (suc n) value (b ∷ bs) = if is_ascii_digit b then digits n (10 * value + (b - 48)) bs else None
+-- a decimal digit, and what follows it
+unfoldable pub digit : List ℕ → Option (ℕ × List ℕ)
+digit bs = do
+  b ← character bs
+  if is_ascii_digit b.0 then Some (b.0 - 48, b.1) else None
 
 -- a number of two digits
-abbrev pub pair : List ℕ → Option (ℕ × List ℕ)
-pair bs = digits 2 0 bs
+unfoldable pub pair : List ℕ → Option (ℕ × List ℕ)
+pair bs = do
+  ten ← digit bs
+  one ← digit ten.1
+  Some (10 * ten.0 + one.0, one.1)
+
+-- a number of four digits
+unfoldable pub year : List ℕ → Option (ℕ × List ℕ)
+year bs = do
+  hundred ← pair bs
+  one ← pair hundred.1
+  Some (100 * hundred.0 + one.0, one.1)
 
 -- the calendar has this day of a year from 0000 to 9999
 abbrev pub is_date : ℕ → ℕ → ℕ → Bool
@@ -33,12 +43,12 @@ day_of year month day = if is_date year month day then Some (days_from_civil (po
 -- a date, as days since 1970-01-01
 unfoldable pub date : List ℕ → Option (ℤ × List ℕ)
 date bs = do
-  year ← digits 4 0 bs
-  months ← behind 45 year.1
+  years ← year bs
+  months ← behind 45 years.1
   month ← pair months
   days ← behind 45 month.1
   day ← pair days
-  number ← day_of year.0 month.0 day.0
+  number ← day_of years.0 month.0 day.0
   Some (number, day.1)
 
 -- hours and minutes, in seconds
@@ -58,14 +68,13 @@ clock bs = do
   if nat_lt second.0 60 then Some (start.0 + second.0, second.1) else None
 
 -- without the digits in front
-unfoldable pub skip_digits : List ℕ → List ℕ
-skip_digits [] = []
-skip_digits (b ∷ bs) = if is_ascii_digit b then skip_digits bs else b ∷ bs
+abbrev pub skip_digits : List ℕ → List ℕ
+skip_digits bs = drop (prefix_len is_ascii_digit bs) bs
 
 -- what follows the fraction of a second, if there is one: `.` and at least one digit
 unfoldable pub skip_fraction : List ℕ → Option (List ℕ)
 skip_fraction [] = Some []
-skip_fraction (b ∷ bs) = if b == 46 then (digits 1 0 bs >>= λ digit. Some (skip_digits digit.1)) else Some (b ∷ bs)
+skip_fraction (b ∷ bs) = if b == 46 then (digit bs >>= λ tenth. Some (skip_digits tenth.1)) else Some (b ∷ bs)
 
 -- the value, where nothing follows
 abbrev pub at_end : {A : Type 0} → A → List ℕ → Option A

@@ -27,11 +27,14 @@ is_word_category category.LetterNumber = true
 is_word_category category.OtherNumber = true
 is_word_category other = false
 
-abbrev pub is_tag_character : ℕ → Bool
+unfoldable pub is_tag_character : ℕ → Bool
 is_tag_character c = c == 32 || c == 45 || c == 95 || c == 46 || is_word_category (general_category c)
 
+abbrev pub is_tag_length : ℕ → Bool
+is_tag_length count = nat_le 2 count && nat_le count 100
+
 unfoldable pub is_tag : List ℕ → Bool
-is_tag text = nat_le 2 (length (chars text)) && nat_le (length (chars text)) 100 && list_all is_tag_character (chars text)
+is_tag text = is_tag_length (length (chars text)) && list_all is_tag_character (chars text)
 
 -- a literal's text, if it may be a tag
 abbrev pub tag_of : Term → Option (List ℕ)

@@ -1,7 +1,7 @@
 //! The distributions of a dataset.
 ghost use Rattle.std.specs.Prelude.{◌≡◌, ◌∷◌, [], ◌++◌, ◌<◌, map, IfOk, OnOk};
 ghost use Rattle.std.specs.Option.{option_copied};
-ghost use Rattle.dcat_map.specs.Distributions.{after_mark, last_part, media_type, or_other, or_last_part, distribution_in, distribution_cmp, is_node, distributions_in, resources_in};
+ghost use Rattle.dcat_map.specs.Distributions.{after_mark, last_part, stripped, media_type, or_other, or_last_part, distribution_in, distribution_cmp, is_node, distributions_in, resources_in};
 ghost use Rattle.dcat_map.specs.Graphs.{about};
 ghost use Rattle.dcat_map.specs.Picks.{picked, least_named, least_iri, or_empty};
 ghost use Rattle.dcat_map.specs.Vocabulary.{dcat_download_url, dcat_access_url, dcat_media_type, dct_format};
@@ -41,13 +41,23 @@ fn last_part(iri: &str) -> &str
     after_mark(after_mark(iri, '/'), '#')
 }
 
+// What follows this front, if the text begins with it.
+fn stripped<'a>(text: &'a str, front: &str) -> Option<&'a str>
+    ensures { option_copied result ≡ stripped front.now text.now }
+{
+    text.strip_prefix(front)
+}
+
 // The text without what the IRIs of media types begin with.
 fn media_type(text: &str) -> &str
     ensures { result.now ≡ media_type text.now }
 {
-    match text.strip_prefix(MEDIA_TYPES) {
+    if let Some(rest) = stripped(text, MEDIA_TYPES) {
+        return rest;
+    }
+    match stripped(text, OLD_MEDIA_TYPES) {
         Some(rest) => rest,
-        None => text.strip_prefix(OLD_MEDIA_TYPES).unwrap_or(text),
+        None => text,
     }
 }
 
@@ -75,7 +85,7 @@ fn url_of<'a>(graph: &Graph<'a>, node: &Term) -> &'a str
 // Its format.
 fn format_of<'a>(graph: &Graph<'a>, node: &Term) -> &'a str
     ensures { result.now ≡ or_last_part (picked (about graph.now node.now dct_format))
-        (least_iri (about graph.now node.now dct_format)) }
+        (or_empty (least_iri (about graph.now node.now dct_format))) }
 {
     let formats = graph.about(node, FORMAT);
     let format = picked(formats);

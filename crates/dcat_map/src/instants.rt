@@ -1,9 +1,9 @@
 //! Dates and times as literals.
-ghost use Rattle.std.specs.Prelude.{◌≡◌, ◌≤◌, ◌+◌, ◌*◌, ◌^◌, ◌<◌, pos, ◌≤ℤ◌, neg_ℤ, ◌+ℤ◌, ◌*ℤ◌, IfSome};
+ghost use Rattle.std.specs.Prelude.{◌≡◌, ◌<◌, pos, ◌≤ℤ◌, neg_ℤ, IfSome};
 ghost use Rattle.std.specs.Option.{option_map};
 ghost use Rattle.std.specs.Ordering.{flip_args, int_cmp};
 ghost use Rattle.ntriples.specs.Reading.{behind};
-ghost use Rattle.dcat_map.specs.Instants.{digits, pair, day_of, date, hours, clock, skip_digits, skip_fraction, at_end, offset, time, if_moment, instant, moment_of, latest};
+ghost use Rattle.dcat_map.specs.Instants.{digit, pair, year, day_of, date, hours, clock, skip_digits, skip_fraction, at_end, offset, time, if_moment, instant, moment_of, latest};
 ghost use Rattle.dcat_map.specs.Sets.{lesser_of};
 
 use crate::statement::Statement;
@@ -14,30 +14,38 @@ use portal_base::moment::Moment;
 /// The seconds of a day.
 const DAY: i64 = 86_400;
 
-// A number of so many decimal digits behind those that are read, and what follows.
-fn digits(count: u8, value: u32, bytes: &[u8]) -> Option<(u32, &[u8])>
-    requires few { count ≤ 4 }
-    requires small { (value + 1) * 10 ^ count ≤ 10000 }
-    ensures value { option_map (λ x. (x.0, x.1.now)) result ≡ digits count value bytes.now }
-    ensures small { IfSome result (λ x. x.0 < (value + 1) * 10 ^ count) }
+// A decimal digit, and what follows it.
+#[tactic(auto, unfolding(crate::specs::Instants::digit))]
+fn digit(bytes: &[u8]) -> Option<(u32, &[u8])>
+    ensures value { option_map (λ x. (x.0, x.1.now)) result ≡ digit bytes.now }
+    ensures small { IfSome result (λ x. x.0 < 10) }
 {
-    if count == 0 {
-        return Some((value, bytes));
-    }
     match bytes {
-        [byte, rest @ ..] if byte.is_ascii_digit() => {
-            digits(count - 1, 10 * value + (*byte - b'0') as u32, rest)
-        }
+        [byte, rest @ ..] if byte.is_ascii_digit() => Some(((*byte - b'0') as u32, rest)),
         _ => None,
     }
 }
 
 // A number of two digits.
+#[tactic(auto, unfolding(crate::specs::Instants::pair))]
 fn pair(bytes: &[u8]) -> Option<(u32, &[u8])>
     ensures value { option_map (λ x. (x.0, x.1.now)) result ≡ pair bytes.now }
     ensures small { IfSome result (λ x. x.0 < 100) }
 {
-    digits(2, 0, bytes)
+    let (ten, rest) = digit(bytes)?;
+    let (one, rest) = digit(rest)?;
+    Some((10 * ten + one, rest))
+}
+
+// A number of four digits.
+#[tactic(auto, unfolding(crate::specs::Instants::year))]
+fn year(bytes: &[u8]) -> Option<(u32, &[u8])>
+    ensures value { option_map (λ x. (x.0, x.1.now)) result ≡ year bytes.now }
+    ensures small { IfSome result (λ x. x.0 < 10000) }
+{
+    let (hundred, rest) = pair(bytes)?;
+    let (one, rest) = pair(rest)?;
+    Some((100 * hundred + one, rest))
 }
 
 // What follows this byte.
@@ -68,7 +76,7 @@ fn day_of(year: u32, month: u32, day: u32) -> Option<i32>
 fn date(bytes: &[u8]) -> Option<(i32, &[u8])>
     ensures { option_map (λ x. (x.0, x.1.now)) result ≡ date bytes.now }
 {
-    let (year, months) = digits(4, 0, bytes)?;
+    let (year, months) = year(bytes)?;
     let (month, days) = pair(behind(b'-', months)?)?;
     let (day, rest) = pair(behind(b'-', days)?)?;
     let date = day_of(year, month, day)?;
@@ -109,14 +117,11 @@ fn clock(bytes: &[u8]) -> Option<(u32, &[u8])>
 fn skip_digits(bytes: &[u8]) -> &[u8]
     ensures { result.now ≡ skip_digits bytes.now }
 {
-    let mut rest = bytes;
-    while let Some((byte, behind)) = rest.split_first() {
-        if !byte.is_ascii_digit() {
-            break;
-        }
-        rest = behind;
-    }
-    rest
+    let count = bytes
+        .iter()
+        .take_while(|byte| byte.is_ascii_digit())
+        .count();
+    &bytes[count..]
 }
 
 // What follows the fraction of a second, if there is one.
@@ -126,7 +131,7 @@ fn skip_fraction(bytes: &[u8]) -> Option<&[u8]>
 {
     match bytes {
         [b'.', rest @ ..] => {
-            let (_, rest) = digits(1, 0, rest)?;
+            let (_, rest) = digit(rest)?;
             Some(skip_digits(rest))
         }
         _ => Some(bytes),

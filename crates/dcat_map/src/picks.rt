@@ -1,5 +1,6 @@
 //! How one value is taken of several.
 ghost use Rattle.std.specs.Prelude.{◌≡◌};
+ghost use Rattle.std.specs.List.{find};
 ghost use Rattle.std.specs.Option.{option_copied};
 ghost use Rattle.dcat_map.specs.Terms.{text_cmp};
 ghost use Rattle.dcat_map.specs.Picks.{is_filled, picked, name_or_text, least_named, least_iri};
@@ -21,15 +22,21 @@ fn is_filled(term: &Term) -> bool
     }
 }
 
+// The first triple whose object is a literal that isn't empty.
+fn first_filled<'s, 'a>(statements: &'s [Statement<'a>]) -> Option<&'s Statement<'a>>
+    ensures { option_copied result ≡ find (λ t. is_filled t.object) statements.now }
+{
+    statements
+        .iter()
+        .find(|statement| is_filled(&statement.triple().object))
+}
+
 /// The text of the first literal that isn't empty, or else empty.
 #[tactic(auto, unfolding(crate::specs::Picks::picked))]
 pub(crate) fn picked<'a>(statements: &[Statement<'a>]) -> &'a str
     ensures { result.now ≡ picked statements.now }
 {
-    match statements
-        .iter()
-        .find(|statement| is_filled(&statement.triple().object))
-    {
+    match first_filled(statements) {
         Some(statement) => text_of(&statement.triple().object),
         None => "",
     }

@@ -1,8 +1,8 @@
 //! The tags of a dataset.
 ghost use Rattle.std.specs.Prelude.{◌≡◌, ◌∷◌, [], ◌++◌, IfOk, OnOk, length};
-ghost use Rattle.std.specs.List.{filter_map};
+ghost use Rattle.std.specs.List.{filter_map, list_all};
 ghost use Rattle.std.specs.Str.{chars};
-ghost use Rattle.dcat_map.specs.Tags.{is_word_category, is_tag_character, is_tag, tag_of, tags_among};
+ghost use Rattle.dcat_map.specs.Tags.{is_word_category, is_tag_character, is_tag_length, is_tag, tag_of, tags_among};
 
 use crate::statement::Statement;
 use ntriples::Term;
@@ -36,6 +36,7 @@ fn is_word_category(category: GeneralCategory) -> bool
 }
 
 // Whether a tag may hold the character.
+#[tactic(auto, unfolding(crate::specs::Tags::is_tag_character))]
 fn is_tag_character(character: char) -> bool
     ensures { result ≡ is_tag_character character }
 {
@@ -46,13 +47,33 @@ fn is_tag_character(character: char) -> bool
         || is_word_category(GeneralCategory::for_char(character))
 }
 
+// How many characters the text has.
+fn character_count(text: &str) -> usize
+    ensures { result ≡ length (chars text.now) }
+{
+    text.chars().count()
+}
+
+// Whether a tag may have so many characters.
+fn is_tag_length(count: usize) -> bool
+    ensures { result ≡ is_tag_length count }
+{
+    2 <= count && count <= 100
+}
+
+// Whether a tag may hold each of the text's characters.
+fn has_tag_characters(text: &str) -> bool
+    ensures { result ≡ list_all is_tag_character (chars text.now) }
+{
+    text.chars().all(is_tag_character)
+}
+
 // Whether the text may be a tag.
 #[tactic(auto, unfolding(crate::specs::Tags::is_tag))]
 fn is_tag(text: &str) -> bool
     ensures { result ≡ is_tag text.now }
 {
-    let count = text.chars().count();
-    2 <= count && count <= 100 && text.chars().all(is_tag_character)
+    is_tag_length(character_count(text)) && has_tag_characters(text)
 }
 
 /// The tags among the objects, ascending by bytes and each once, of which the first 100 are taken.

@@ -1,0 +1,23 @@
+use Rattle.std.proofs.Common.{refl, sym, ap, ◌∙◌}
+use Rattle.std.specs.Cmp.Lexicographic.{nat_list_cmp_total}
+use Rattle.std.specs.List.{filter_map}
+use Rattle.std.proofs.lemmas.List.{take_all}
+use Rattle.dcat_map.specs.Sets.{least}
+use Rattle.dcat_map.specs.Terms.{text_cmp}
+use Rattle.dcat_map.specs.Picks.{least_iri}
+use Rattle.dcat_map.specs.Listings.{iri_of}
+use Rattle.dcat_map.proofs.Leasts.{kept_more, least-nil}
+use Rattle.dcat_map.proofs.Orders.{same_text}
+use Rattle.dcat_map.proofs.picks.least_iri.Goals as goal
+
+pub loop-statement-init : goal.loop-statement-init
+loop-statement-init c = sym (least-nil text_cmp)
+
+pub loop-statement-preserved : goal.loop-statement-preserved
+loop-statement-preserved c =
+    kept_more text_cmp nat_list_cmp_total same_text (λ t. iri_of t.object) c.args.statements.now c.loop-statement.statement-index c.triple.result.now c.statement-item.result _ _ _ c.loop-statement-test.true c.statement-item.is c.triple.ensures c.iri_of.ensures c.loop-statement.invariant c.lesser-best.ensures
+
+pub returns : goal.returns
+unfolding least_iri
+returns c =
+    c.loop-statement.invariant ∙ ap (λ ts. least text_cmp (filter_map (λ t. iri_of t.object) ts)) (take_all c.loop-statement.statement-index c.args.statements.now c.loop-statement-test.false)
