@@ -1,3 +1,4 @@
+pub mod DayLemmas
 pub mod DistributionLemmas
 pub mod InOrder
 pub mod Leasts

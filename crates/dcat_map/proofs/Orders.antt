@@ -2,8 +2,8 @@
 use Rattle.std.proofs.Common.{◌≡◌, ℕ, ◌<◌, ◌≤◌, Bool, true, false, cond, List, [], ◌∷◌, Option, Some, None, refl, sym, ap, ◌∙◌, arith}
 use Rattle.std.specs.declared.cmp.Ordering.{Ordering}
 use Rattle.std.specs.declared.cmp.Ordering.TheVariants.{Less, Equal, Greater}
-use Rattle.std.specs.Ordering.{nat_cmp, ordering_then}
-use Rattle.std.proofs.lemmas.Cmp.{ranked}
+use Rattle.std.specs.Ordering.{nat_cmp, int_cmp, flip_args, ordering_then}
+use Rattle.std.proofs.lemmas.Cmp.{ranked, int_ranked}
 use Rattle.ntriples.specs.declared.term.Term.{Term}
 use Rattle.ntriples.specs.declared.term.Term.TheVariants.{Iri, Blank, Literal}
 use Rattle.ntriples.specs.declared.term.Triple.{Triple}
@@ -70,3 +70,7 @@ same_triple t u h =
     let object : t.object ≡ u.object = same_term _ _ second.1 in
     let make : Term → List ℕ → Term → Triple = λ s p o. record { subject = s; predicate = p; object = o } in
     ap (λ s. make s t.predicate t.object) subject ∙ ap (λ p. make u.subject p t.object) predicate ∙ ap (λ o. make u.subject u.predicate o) object
+
+-- Moments in descending order.
+pub same_moment : TellsApart (flip_args int_cmp)
+same_moment x y h = sym (int_ranked y x Equal (sym h))

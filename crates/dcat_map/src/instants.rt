@@ -1,5 +1,7 @@
 //! Dates and times as literals.
-ghost use Rattle.std.specs.Prelude.{◌≡◌, ◌<◌, pos, ◌≤ℤ◌, neg_ℤ, IfSome};
+ghost use Rattle.std.specs.Prelude.{◌≡◌, ◌≤◌, ◌<◌, length, pos, ◌≤ℤ◌, ◌+ℤ◌, ◌*ℤ◌, neg_ℤ, IfSome};
+ghost use Rattle.std.specs.Char.{is_ascii_digit};
+ghost use Rattle.std.specs.List.{prefix_len};
 ghost use Rattle.std.specs.Option.{option_map};
 ghost use Rattle.std.specs.Ordering.{flip_args, int_cmp};
 ghost use Rattle.ntriples.specs.Reading.{behind};
@@ -113,15 +115,23 @@ fn clock(bytes: &[u8]) -> Option<(u32, &[u8])>
     }
 }
 
+// How many digits there are in front.
+fn digit_count(bytes: &[u8]) -> usize
+    ensures count { result ≡ prefix_len is_ascii_digit bytes.now }
+    ensures within { result ≤ length bytes.now }
+{
+    bytes
+        .iter()
+        .take_while(|byte| byte.is_ascii_digit())
+        .count()
+}
+
 // What follows the digits in front.
 fn skip_digits(bytes: &[u8]) -> &[u8]
     ensures { result.now ≡ skip_digits bytes.now }
 {
-    let count = bytes
-        .iter()
-        .take_while(|byte| byte.is_ascii_digit())
-        .count();
-    &bytes[count..]
+    let (_, rest) = bytes.split_at(digit_count(bytes));
+    rest
 }
 
 // What follows the fraction of a second, if there is one.
@@ -180,6 +190,14 @@ fn time(bytes: &[u8]) -> Option<i64>
     Some(second as i64 - ahead)
 }
 
+// So many seconds after midnight of the day, in seconds since 1970-01-01T00:00:00.
+fn seconds_at(day: i32, seconds: i64) -> i64
+    requires { (neg_ℤ (pos 200000) ≤ℤ seconds) × (seconds ≤ℤ pos 200000) }
+    ensures { result ≡ day *ℤ pos 86400 +ℤ seconds }
+{
+    day as i64 * DAY + seconds
+}
+
 // The moment so many seconds after 1970-01-01T00:00:00.
 fn moment_at(seconds: i64) -> Option<Moment>
     ensures { result ≡ if_moment seconds }
@@ -194,7 +212,7 @@ fn instant(bytes: &[u8]) -> Option<Moment>
 {
     let (day, rest) = date(bytes)?;
     let seconds = time(rest)?;
-    moment_at(day as i64 * DAY + seconds)
+    moment_at(seconds_at(day, seconds))
 }
 
 // The moment that the literal gives.
