@@ -6,5 +6,6 @@ pub mod ListingLemmas
 pub mod Marks
 pub mod Orders
 pub mod Ranges
+pub mod RecordLemmas
 pub mod SetLemmas
 pub mod Steps
