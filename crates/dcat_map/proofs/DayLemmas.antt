@@ -23,6 +23,7 @@ day_of-date y m d z m' d' n year month day in_year in_month number =
   where
     subst_month : m' ≡ m → IsInRange 1 12 m' → IsInRange 1 12 m
     subst_month e h = subst (λ a. IsInRange 1 12 a) e h
+
     subst_day : z ≡ pos y → m' ≡ m → d' ≡ d → IsInRange 1 (days_in_month z m') d' → IsInRange 1 (days_in_month (pos y) m) d
     subst_day e f g h =
         subst (λ a. IsInRange 1 (days_in_month (pos y) m) a) g

@@ -1,5 +1,5 @@
 -- Links are joined as the triples that give them, and a graph has a catalogue where some triple says so.
-use Rattle.std.proofs.Common.{◌≡◌, Bool, true, false, cond, ◌||◌, List, [], ◌∷◌, ◌++◌, Option, Some, None, refl, ap, ◌∙◌, map, filter}
+use Rattle.std.proofs.Common.{◌≡◌, Bool, true, false, cond, ◌||◌, List, [], ◌∷◌, ◌++◌, Option, Some, None, refl, sym, ap, ◌∙◌, map, filter}
 use Rattle.std.specs.List.{flat_map, list_any}
 use Rattle.std.proofs.lemmas.Grind.{flat_map-append}
 use Rattle.std.proofs.lemmas.List.{map-append}
@@ -8,7 +8,7 @@ use Rattle.ntriples.specs.declared.term.Term.{Term}
 use Rattle.ntriples.specs.declared.term.Triple.{Triple}
 use Rattle.dcat_map.specs.Graphs.{objects, is_typed}
 use Rattle.dcat_map.specs.Vocabulary.{dcat_catalog, dcat_dataset}
-use Rattle.dcat_map.specs.Listings.{catalogues_in, links_in, if_any}
+use Rattle.dcat_map.specs.Listings.{catalogues_in, links_in, listing_in, catalogued, if_any}
 
 catalogues_in-append : (xs ys : List Triple) → catalogues_in (xs ++ ys) ≡ catalogues_in xs ++ catalogues_in ys
 unfolding catalogues_in
@@ -30,6 +30,7 @@ if_any-filter {X} {Y} {B} p f b (x ∷ xs) =
     let P : Bool → Type 0 = λ v. if_any (map f (cond v (x ∷ filter p xs) (filter p xs))) b ≡ cond (v || list_any p xs) (Some b) None in
     elim (p x) as P [ true ↦ refl | false ↦ if_any-filter p f b xs ]
 
-pub if_any-catalogues_in : {B : Type 0} (b : B) (g : List Triple) → if_any (catalogues_in g) b ≡ cond (list_any (is_typed dcat_catalog) g) (Some b) None
-unfolding catalogues_in
-if_any-catalogues_in b g = if_any-filter (is_typed dcat_catalog) (λ t. t.subject) b g
+-- A graph's listing, by the test whether it has a catalogue.
+pub catalogued-by : (g : List Triple) (b : Bool) → b ≡ list_any (is_typed dcat_catalog) g → catalogued g ≡ cond b (Some (listing_in g)) None
+unfolding catalogues_in catalogued
+catalogued-by g b e = if_any-filter (is_typed dcat_catalog) (λ t. t.subject) (listing_in g) g ∙ ap (λ v. cond v (Some (listing_in g)) None) (sym e)

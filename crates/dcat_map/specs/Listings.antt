@@ -41,5 +41,9 @@ abbrev pub if_any : {A B : Type 0} → List A → B → Option B
 if_any [] b = None
 if_any (a ∷ as') b = Some b
 
+unfoldable pub catalogued : List Triple → Option Listing
+catalogued g = if_any (catalogues_in g) (listing_in g)
+
+-- the listing of the graph of the triples
 unfoldable pub listing_of : List Triple → Option Listing
-listing_of triples = if_any (catalogues_in (graph_of triples)) (listing_in (graph_of triples))
+listing_of triples = catalogued (graph_of triples)

@@ -65,10 +65,8 @@ impl<'a> Graph<'a> {
 pub fn described(graph: &Seq<Triple>, iri: &Text) -> bool
     ensures { result ≡ is_described graph.now iri.now }
 {
-    graph
-        .as_slice()
-        .iter()
-        .any(|triple| is_iri(&triple.subject, iri.as_str()) && is_typed(triple, DATASET_CLASS))
+    graph.as_slice().iter().any(|triple| is_iri(&triple.subject, iri.as_str())
+        && is_typed(triple, DATASET_CLASS))
 }
 
 /// Whether the triple says that its subject is of this class.

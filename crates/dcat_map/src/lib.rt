@@ -18,6 +18,6 @@ mod tests;
 mod vocabulary;
 
 pub use graph::{Graph, described};
-pub use listing::{ListFault, Listing, listed};
+pub use listing::{ListFault, Listing, listed, listed_in};
 pub use names::name_of;
 pub use record::{Distribution, HarvestRecord, RecordFault, describe, describe_in};

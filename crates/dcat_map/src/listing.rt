@@ -5,7 +5,7 @@ ghost use Rattle.std.specs.List.Sorted.{IsStrictlySortedBy};
 ghost use Rattle.dcat_map.specs.Sets.{ascending_set};
 ghost use Rattle.dcat_map.specs.Terms.{text_cmp, term_cmp};
 ghost use Rattle.dcat_map.specs.Graphs.{is_typed};
-ghost use Rattle.dcat_map.specs.Listings.{entries_in, links_in, iri_of, is_unnamed, listing_in, listing_of};
+ghost use Rattle.dcat_map.specs.Listings.{entries_in, links_in, iri_of, is_unnamed, listing_in, catalogued, listing_of};
 ghost use Rattle.dcat_map.specs.Vocabulary.{dcat_catalog};
 
 use crate::graph::{Graph, is_typed};
@@ -54,10 +54,19 @@ pub fn listed(alloc: Global, graph: &Seq<Triple>) -> Result<Listing, ListFault>
         ((fault ≡ ListFault.NoCatalog) × (listing_of graph.now ≡ None))) }
 {
     let graph = Graph::of(alloc, graph)?;
-    if !has_catalogue(&graph) {
+    listed_in(alloc, &graph)
+}
+
+/// What the graph's catalogues list.
+pub fn listed_in(alloc: Global, graph: &Graph<'_>) -> Result<Listing, ListFault>
+    ensures listing { IfOk result (λ listing. catalogued graph.now ≡ Some listing) }
+    ensures fault { IfErr result (λ fault. (fault ≡ ListFault.OutOfMemory) ⊎
+        ((fault ≡ ListFault.NoCatalog) × (catalogued graph.now ≡ None))) }
+{
+    if !has_catalogue(graph) {
         return Err(ListFault::NoCatalog);
     }
-    Ok(listing_from(alloc, &graph)?)
+    Ok(listing_from(alloc, graph)?)
 }
 
 // Whether the graph has a catalogue.

@@ -110,19 +110,15 @@ pub fn describe_in(
 fn is_dataset(graph: &Graph<'_>, dataset: &Term) -> bool
     ensures { result ≡ list_any (λ t. is_iri dcat_dataset_class t.object) (about graph.now dataset.now rdf_type) }
 {
-    graph
-        .about(dataset, TYPE)
-        .iter()
-        .any(|statement| is_iri(&statement.triple().object, DATASET_CLASS))
+    graph.about(dataset, TYPE).iter().any(|statement| is_iri(
+        &statement.triple().object,
+        DATASET_CLASS,
+    ))
 }
 
 // What the graph says of the dataset.
 #[tactic(auto, unfolding(crate::specs::Records::record_in))]
-fn record_of(
-    alloc: Global,
-    graph: &Graph<'_>,
-    dataset: &Term,
-) -> Result<HarvestRecord, AllocError>
+fn record_of(alloc: Global, graph: &Graph<'_>, dataset: &Term) -> Result<HarvestRecord, AllocError>
     ensures { IfOk result (λ r. r ≡ record_in graph.now dataset.now) }
 {
     Ok(HarvestRecord {

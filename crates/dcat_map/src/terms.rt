@@ -34,13 +34,7 @@ fn rank_of(term: &Term) -> u8
 {
     match term {
         Term::Literal(_, _, None) => 0,
-        Term::Literal(_, _, Some(tag)) => {
-            if is_english(tag.as_bytes()) {
-                1
-            } else {
-                2
-            }
-        }
+        Term::Literal(_, _, Some(tag)) => { if is_english(tag.as_bytes()) { 1 } else { 2 } }
         Term::Iri(_) => 3,
         Term::Blank(_) => 4,
     }

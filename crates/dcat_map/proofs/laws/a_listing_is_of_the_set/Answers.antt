@@ -1,6 +1,6 @@
 use Rattle.std.proofs.Common.{ap}
 use Rattle.dcat_map.specs.Graphs.{graph_of}
-use Rattle.dcat_map.specs.Listings.{listing_of, catalogues_in, listing_in, if_any}
+use Rattle.dcat_map.specs.Listings.{listing_of, catalogued}
 use Rattle.dcat_map.specs.Terms.{triple_cmp, triple_cmp_total}
 use Rattle.dcat_map.proofs.Orders.{same_triple}
 use Rattle.dcat_map.proofs.SetLemmas.{same_set}
@@ -8,4 +8,4 @@ use Rattle.dcat_map.proofs.laws.a_listing_is_of_the_set.Goals as goal
 
 pub returns : goal.returns
 unfolding graph_of listing_of
-returns c = λ g h same. ap (λ set. if_any (catalogues_in set) (listing_in set)) (same_set triple_cmp triple_cmp_total same_triple g h same)
+returns c = λ g h same. ap catalogued (same_set triple_cmp triple_cmp_total same_triple g h same)
