@@ -1,5 +1,5 @@
 -- A date of the calendar passes the test of dates.
-use Rattle.std.proofs.Common.{◌≡◌, ℕ, ◌≤◌, nat_le, Bool, true, false, cond, ◌&&◌, Some, ℤ, pos, refl, sym, subst, ap, ◌∙◌}
+use Rattle.std.proofs.Common.{◌≡◌, ℕ, nat_le, true, Some, ℤ, pos, refl, subst, ap, ◌∙◌}
 use Rattle.std.specs.Int.{IsInRange}
 use Rattle.std.proofs.lemmas.Bool.{le-leb}
 use Rattle.jiff_core.specs.Calendar.{days_in_month, days_from_civil}

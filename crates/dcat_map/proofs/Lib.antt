@@ -1,9 +1,12 @@
+mod Examples
 pub mod DayLemmas
 pub mod DistributionLemmas
 pub mod InOrder
+pub mod LawLemmas
 pub mod Leasts
 pub mod ListingLemmas
 pub mod Marks
+pub mod Memberships
 pub mod Orders
 pub mod Ranges
 pub mod RecordLemmas

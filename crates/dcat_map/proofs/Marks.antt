@@ -1,10 +1,9 @@
 -- What follows the last mark of a text, and what follows a front.
-use Rattle.std.proofs.Common.{◌≡◌, ◌≢◌, ℕ, zero, suc, ◌+◌, ◌<◌, ◌≤◌, length, get_or, take, drop, Bool, true, false, cond, ◌||◌, eqb, nat_eq, List, [], ◌∷◌, ◌++◌, Option, Some, None, Bor, refl, sym, ap, ◌∙◌, subst, arith, inl, inr, ◌⊎◌, ⊎_elim}
+use Rattle.std.proofs.Common.{◌≡◌, ◌≢◌, ℕ, suc, ◌<◌, length, get_or, take, drop, Bool, true, false, ◌||◌, eqb, List, [], ◌∷◌, ◌++◌, Option, Some, None, Bor, refl, sym, ap, ◌∙◌, subst, arith}
 use Rattle.std.specs.List.{list_any, starts_with}
 use Rattle.std.specs.Option.{MatchOption, option_copied}
-use Rattle.std.specs.Bool.{MatchBool}
 use Rattle.std.specs.Str.{NoCharPasses, IsCharBoundary}
-use Rattle.std.specs.Str.Pattern.{RFindsChar, HasCharAt, SplitsAroundMatch, FindsTextPrefix, HasPrefixMatch, StripsPrefix}
+use Rattle.std.specs.Str.Pattern.{RFindsChar, SplitsAroundMatch, FindsTextPrefix, StripsPrefix}
 use Rattle.std.proofs.lemmas.Bool.{eqb-true, eq-eqb}
 use Rattle.std.proofs.lemmas.List.{take-append-drop}
 use Rattle.std.proofs.lemmas.Str.Pattern.{NoCharPasses-char, drop_at_char, starts_text}

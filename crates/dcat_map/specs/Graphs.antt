@@ -1,6 +1,6 @@
 -- A graph is a set of triples (RDF 1.1 Concepts, section 3): neither their order nor a repeat makes a difference.
 use Rattle.std.specs.Prelude.{ℕ, Bool, ◌&&◌, List, map, filter}
-use Rattle.std.specs.List.{list_any}
+use Rattle.std.specs.List.{list_any, Contains}
 use Rattle.std.specs.Ordering.{is_eq}
 use Rattle.std.specs.Str.{bytes_eq}
 use Rattle.ntriples.specs.declared.term.Term.{Term}
@@ -32,3 +32,7 @@ is_typed class t = bytes_eq t.predicate rdf_type && is_iri class t.object
 -- the IRI is described: a triple of the graph says that it is a dcat:Dataset
 unfoldable pub is_described : List Triple → List ℕ → Bool
 is_described g iri = list_any (λ t. is_iri iri t.subject && is_typed dcat_dataset_class t) g
+
+-- the triples have this object of this subject and this predicate
+abbrev pub IsObject : List Triple → Term → List ℕ → Term → Type 0
+IsObject triples subject predicate object = Contains triples (record { subject = subject; predicate = predicate; object = object })

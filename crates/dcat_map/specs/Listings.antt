@@ -1,13 +1,13 @@
 -- What a graph's catalogues list (DCAT 3, section 6.3).
-use Rattle.std.specs.Prelude.{ℕ, Bool, true, false, not, ◌==◌, if◌then◌else◌, List, [], ◌∷◌, length, map, filter, Option, Some, None, Result, Ok, Err}
-use Rattle.std.specs.List.{filter_map, flat_map}
+use Rattle.std.specs.Prelude.{ℕ, Bool, true, false, List, [], ◌∷◌, length, map, filter, Option, Some, None}
+use Rattle.std.specs.List.{filter_map, flat_map, Contains}
 use Rattle.ntriples.specs.declared.term.Term.{Term}
 use Rattle.ntriples.specs.declared.term.Term.TheVariants.{Iri, Blank, Literal}
 use Rattle.ntriples.specs.declared.term.Triple.{Triple}
 use Rattle.dcat_map.specs.declared.listing.Listing.{Listing}
 use Rattle.dcat_map.specs.Sets.{ascending_set}
 use Rattle.dcat_map.specs.Terms.{term_cmp}
-use Rattle.dcat_map.specs.Vocabulary.{dcat_catalog, dcat_dataset}
+use Rattle.dcat_map.specs.Vocabulary.{rdf_type, dcat_catalog, dcat_dataset}
 use Rattle.dcat_map.specs.Graphs.{graph_of, objects, is_typed}
 
 -- the subjects that the triples say to be catalogues
@@ -47,3 +47,9 @@ catalogued g = if_any (catalogues_in g) (listing_in g)
 -- the listing of the graph of the triples
 unfoldable pub listing_of : List Triple → Option Listing
 listing_of triples = catalogued (graph_of triples)
+
+-- some catalogue of the triples has the IRI as an object of dcat:dataset
+pub record IsListed (triples : List Triple) (iri : List ℕ) : Type 0 where
+  pub catalogue : Term
+  pub typed : Contains triples (record { subject = catalogue; predicate = rdf_type; object = Iri dcat_catalog })
+  pub link : Contains triples (record { subject = catalogue; predicate = dcat_dataset; object = Iri iri })

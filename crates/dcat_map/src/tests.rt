@@ -12,7 +12,7 @@ use std::alloc::Global;
 use std::test::Fail;
 
 // What is written in full in a document.
-fn full<'a>(word: &'a str) -> &'a str {
+fn full(word: &str) -> &str {
     match word {
         "a" => "<http://www.w3.org/1999/02/22-rdf-syntax-ns#type>",
         "Catalog" => "<http://www.w3.org/ns/dcat#Catalog>",

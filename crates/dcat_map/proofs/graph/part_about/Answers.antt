@@ -1,12 +1,9 @@
-use Rattle.std.proofs.Common.{◌≡◌, ◌+◌, ◌-◌, ◌≤◌, Bool, true, false, not, length, take, drop, rules, arith, ap, ◌∙◌}
-use Rattle.std.specs.declared.cmp.Ordering.{Ordering}
+use Rattle.std.proofs.Common.{◌≡◌, ◌-◌, ◌≤◌, true, false, not, take, drop, rules, arith, ap, ◌∙◌}
 use Rattle.std.specs.Ordering.{is_eq, is_lt, is_gt}
 use Rattle.std.specs.List.{filter}
 use Rattle.std.specs.List.Sorted.{IsPartitionPoint}
 use Rattle.std.proofs.lemmas.List.Sorted.{IsPartitionPoint-from_clause}
-use Rattle.ntriples.specs.declared.term.Triple.{Triple}
 use Rattle.dcat_map.specs.Terms.{triple_cmp, key_cmp}
-use Rattle.dcat_map.specs.Graphs.{is_about}
 use Rattle.dcat_map.proofs.Ranges.{IsPartitionedBy-sorted, below_key, not_above_key, ends_in_order, take-drop-filter, filter-same, is_eq-key_cmp}
 use Rattle.dcat_map.proofs.graph.part_about.Goals as goal
 

@@ -1,4 +1,4 @@
-use Rattle.std.proofs.Common.{refl, sym, ap, ◌∙◌}
+use Rattle.std.proofs.Common.{sym, ap, ◌∙◌}
 use Rattle.std.specs.List.{filter_map}
 use Rattle.std.specs.Ordering.{flip_args, int_cmp}
 use Rattle.std.proofs.lemmas.Cmp.{back_total, int_cmp_total}
