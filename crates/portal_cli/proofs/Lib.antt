@@ -7,6 +7,7 @@ pub mod Isolating
 pub mod Keeping
 pub mod Playing
 mod Replaying
+mod StreamExamples
 pub mod Streaming
 pub mod Viewing
 pub mod Working

@@ -1,5 +1,5 @@
 -- Four words of the key stream, one after the other, are the number at their place.
-use Rattle.std.proofs.Common.{◌≡◌, ℕ, ◌+◌, ◌-◌, ◌*◌, ◌%◌, ◌^◌, ◌<◌, refl, sym, ap, ◌∙◌, arith, List}
+use Rattle.std.proofs.Common.{◌≡◌, ℕ, ◌+◌, ◌-◌, ◌*◌, ◌%◌, ◌^◌, ◌<◌, refl, ap, ◌∙◌, arith, List}
 use Rattle.rand_chacha.specs.ChaCha.{ChaCha, next_word, word_at}
 use Rattle.portal_cli.specs.Stream.{number_of_words, stream_number, stream_word}
 

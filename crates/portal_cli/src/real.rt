@@ -13,6 +13,9 @@ use rand_core::utils::NextWord;
 use std::marker::Model;
 use std::time::{SystemTime, UNIX_EPOCH};
 
+/// How many values a word of 32 bits has.
+const WORD: u64 = 1 << 32;
+
 /// The host's clock, in whole seconds. Where the host has no time of the years 1970 to 9999, it gives the moment that
 /// it gave last, and 1970-01-01T00:00:00 at first. It tells nothing of what it gives.
 #[derive(Drop)]
@@ -109,6 +112,3 @@ fn number_of_words(first: u32, second: u32, third: u32, fourth: u32) -> u128
     let low = u64::from(third) * WORD + u64::from(fourth);
     u128::from(high) * u128::from(WORD) * u128::from(WORD) + u128::from(low)
 }
-
-/// The numbers that a word of 32 bits has.
-const WORD: u64 = 1 << 32;
