@@ -1,0 +1,15 @@
+mod CalendarLemmas
+mod CellLemmas
+mod CharacterLemmas
+mod ColumnLemmas
+mod ConstraintLemmas
+mod DescriptorLemmas
+mod Examples
+mod KeyLemmas
+mod NumberLemmas
+mod PartLemmas
+mod PrintLemmas
+mod ReadingLemmas
+mod SignificandLemmas
+mod ValueLemmas
+mod WrittenLemmas

@@ -1,0 +1,354 @@
+-- Printed cells are read back.
+use Rattle.std.proofs.Common.{◌≡◌, ◌≢◌, ℕ, zero, suc, ◌+◌, ◌-◌, ◌*◌, ◌/◌, ◌%◌, ◌^◌, ◌<◌, ◌≤◌, true, false, ◌&&◌, cond, eqb, leb, ltb, refl, sym, ap, ◌∙◌, arith, Bool, List, [], ◌∷◌, ◌++◌, length, get_or, take, drop, ℤ, pos, negsuc, ◌+ℤ◌, ◌-ℤ◌, ◌*ℤ◌, ◌≤ℤ◌, length-drop, append-nil, append_assoc}
+use Rattle.std.specs.Prelude.{Some, None, decimal, unsigned_abs, codes}
+use Rattle.std.specs.List.{list_all}
+use Rattle.std.specs.Str.{IsAscii, IsCharBoundary, chars}
+use Rattle.std.proofs.Math.Nat.{pow-suc, one-le-pow}
+use Rattle.std.proofs.lemmas.Nat.{div_below, mod_below, div-mul-add, mod-mul-add}
+use Rattle.std.proofs.lemmas.List.{get_or-take, get_or-drop, nil_from_length}
+use Rattle.std.proofs.lemmas.Int.{ints}
+use Rattle.std.proofs.lemmas.Bool.{and_parts, and_from, cond-true, cond-false, le-leb, ltb-true, ne_eqb}
+use Rattle.std.proofs.lemmas.Bool.Decides.{nat_tests}
+use Rattle.std.proofs.lemmas.Str.{IsAscii-append, IsCharBoundary-from_ascii, chars-IsAscii}
+use Rattle.jiff_core.specs.Calendar.{days_from_civil}
+use Rattle.portal_base.specs.Moment.{IsMoment, first_moment}
+use Rattle.portal_base.specs.MomentReading.{fits_form, fits_place, moment_form, number_at, year_in, has_day, has_time, names_moment, seconds_in, moment_reading}
+use Rattle.portal_base.specs.MomentText.{moment_text, clock_text, day_text, calendar_seconds}
+use Rattle.portal_base.proofs.FormLemmas.{fits_form-at, fits_form-length}
+use Rattle.portal_base.proofs.ReadingBack.{reading-moment_text}
+use Rattle.table_schema.specs.Calendar.{date_reading, time_reading, stamp_reading, zoned_time_reading, yearmonth_reading, has_month, is_zone, is_time_mark, seconds_of}
+use Rattle.table_schema.specs.Digits.{is_digit, is_sign, is_empty, is_negative, unsigned}
+use Rattle.table_schema.specs.Number.{parts_of, unsigned_reading, bare_reading, number_reading}
+use Rattle.table_schema.specs.Printed.{IsDay, places_text, fraction_text, size_text, number_text, date_text, year_month_text}
+use Rattle.table_schema.specs.Reading.{default_spelling}
+use Rattle.table_schema.proofs.CalendarLemmas.{time_reading-bound, stamp_reading-read, IsMoment-seconds_of}
+use Rattle.table_schema.proofs.NumberLemmas.{is_digit-bounds, decimal-Numeral, Numeral, places_text-Places, Places, parts_of-whole, parts_of-fraction, printed}
+
+-- ---- characters of ASCII
+
+pub IsAscii-cons : (c : ℕ) (cs : List ℕ) → c < 128 → IsAscii cs → IsAscii (c ∷ cs)
+IsAscii-cons c cs h all zero = h
+IsAscii-cons c cs h all (suc i) = all i
+
+pub IsAscii-nil : IsAscii []
+IsAscii-nil i = omega arith
+
+pub IsAscii-digits : (cs : List ℕ) → list_all is_digit cs ≡ true → IsAscii cs
+IsAscii-digits [] h = IsAscii-nil
+IsAscii-digits (c ∷ cs) h =
+    let parts = and_parts (is_digit c) (list_all is_digit cs) h in
+    IsAscii-cons c cs (omega (arith, is_digit-bounds c parts.0)) (IsAscii-digits cs parts.1)
+
+-- ---- numbers
+
+-- A text that begins with digits has no sign.
+unsigned-digits : (ws cs : List ℕ) → list_all is_digit ws ≡ true → is_empty ws ≡ false → (unsigned (ws ++ cs) ≡ ws ++ cs) × (is_negative (ws ++ cs) ≡ false)
+unsigned-digits [] cs h e = cc
+unsigned-digits (w ∷ ws) cs h e =
+    let bounds = is_digit-bounds w (and_parts (is_digit w) (list_all is_digit ws) h).0 in
+    let sign : is_sign w ≡ false = no_sign w bounds.0 in
+    let minus : eqb w 45 ≡ false = no_minus w bounds.0 in
+    (rw sign refl, minus)
+  where
+    no_sign : (w : ℕ) → 48 ≤ w → is_sign w ≡ false
+    no_sign w h = grind (arith, nat_tests)
+
+    no_minus : (w : ℕ) → 48 ≤ w → eqb w 45 ≡ false
+    no_minus w h = grind (arith, nat_tests)
+
+record Sized (n : ℕ) : Type 0 where
+  reading : unsigned_reading default_spelling (parts_of default_spelling (size_text n)) ≡ Some n
+  bare : unsigned (size_text n) ≡ size_text n
+  positive : is_negative (size_text n) ≡ false
+  ascii : IsAscii (size_text n)
+
+size_text-Sized : (n : ℕ) → n < 10 ^ 27 → Sized n
+size_text-Sized n h = by_fraction (eqb (n % 10 ^ 9) 0) refl
+  where
+    ws : Numeral (n / 10 ^ 9) (decimal (n / 10 ^ 9))
+    ws = decimal-Numeral (n / 10 ^ 9) (omega (arith, div_below n (10 ^ 9) (10 ^ 18) (omega arith) (omega arith)))
+
+    fs : Places 9 (n % 10 ^ 9) (places_text 9 (n % 10 ^ 9))
+    fs = places_text-Places 9 (n % 10 ^ 9) (mod_below n (10 ^ 9) (omega arith))
+
+    by_fraction : (b : Bool) → eqb (n % 10 ^ 9) 0 ≡ b → Sized n
+    by_fraction true e =
+        let none : fraction_text (n % 10 ^ 9) ≡ [] = rw e refl in
+        let text : size_text n ≡ decimal (n / 10 ^ 9) = rw none (append-nil (decimal (n / 10 ^ 9))) in
+        let first = unsigned-digits (decimal (n / 10 ^ 9)) (fraction_text (n % 10 ^ 9)) ws.digits ws.some in
+        let zero_rest : n % 10 ^ 9 ≡ 0 = grind (arith, nat_tests) in
+        record {
+          reading = ap (λ t. unsigned_reading default_spelling (parts_of default_spelling t)) text ∙ (ap (unsigned_reading default_spelling) (parts_of-whole (decimal (n / 10 ^ 9)) ws.digits) ∙ (printed n 9 (decimal (n / 10 ^ 9)) [] ws.digits refl ws.some refl ws.spells (sym zero_rest) h));
+          bare = first.0;
+          positive = first.1;
+          ascii = rw text (IsAscii-digits (decimal (n / 10 ^ 9)) ws.digits);
+        }
+    by_fraction false e =
+        let some : fraction_text (n % 10 ^ 9) ≡ 46 ∷ places_text 9 (n % 10 ^ 9) = rw e refl in
+        let text : size_text n ≡ decimal (n / 10 ^ 9) ++ 46 ∷ places_text 9 (n % 10 ^ 9) = rw some refl in
+        let first = unsigned-digits (decimal (n / 10 ^ 9)) (fraction_text (n % 10 ^ 9)) ws.digits ws.some in
+        record {
+          reading = ap (λ t. unsigned_reading default_spelling (parts_of default_spelling t)) text ∙ (ap (unsigned_reading default_spelling) (parts_of-fraction (decimal (n / 10 ^ 9)) (places_text 9 (n % 10 ^ 9)) ws.digits fs.digits) ∙ (printed n fs.pad (decimal (n / 10 ^ 9)) (places_text 9 (n % 10 ^ 9)) ws.digits fs.digits ws.some fs.count ws.spells fs.spells h));
+          bare = first.0;
+          positive = first.1;
+          ascii = rw text (IsAscii-append (decimal (n / 10 ^ 9)) (46 ∷ places_text 9 (n % 10 ^ 9)) (IsAscii-digits (decimal (n / 10 ^ 9)) ws.digits) (IsAscii-cons 46 (places_text 9 (n % 10 ^ 9)) (omega arith) (IsAscii-digits (places_text 9 (n % 10 ^ 9)) fs.digits)));
+        }
+
+number_text-bare : (z : ℤ) → unsigned_abs z < 10 ^ 27 → bare_reading default_spelling (number_text z) ≡ Some z
+unfolding bare_reading
+number_text-bare (pos n) h =
+    let sized = size_text-Sized n h in
+    rw (sized.bare, sized.positive, sized.reading) refl
+number_text-bare (negsuc n) h =
+    let sized = size_text-Sized (suc n) h in
+    rw sized.reading refl
+
+number_text-IsAscii : (z : ℤ) → unsigned_abs z < 10 ^ 27 → IsAscii (number_text z)
+number_text-IsAscii (pos n) h = (size_text-Sized n h).ascii
+number_text-IsAscii (negsuc n) h = IsAscii-cons 45 (size_text (suc n)) (omega arith) (size_text-Sized (suc n) h).ascii
+
+-- A printed number is read as that number.
+pub number_text-back : (z : ℤ) → unsigned_abs z < 10 ^ 27 → number_reading default_spelling (chars (number_text z)) ≡ Some z
+number_text-back z h = rw (chars-IsAscii (number_text z) (number_text-IsAscii z h)) (number_text-bare z h)
+
+-- ---- moments, and their dates and times of day
+
+fits_form-take : (n : ℕ) (form text : List ℕ) → fits_form form text ≡ true → fits_form (take n form) (take n text) ≡ true
+fits_form-take zero form text h = refl
+fits_form-take (suc n) [] [] h = refl
+fits_form-take (suc n) [] (c ∷ text) h = cc
+fits_form-take (suc n) (p ∷ form) [] h = cc
+fits_form-take (suc n) (p ∷ form) (c ∷ text) h =
+    let parts = and_parts (fits_place p c) (fits_form form text) h in
+    and_from (fits_place p c) _ parts.0 (fits_form-take n form text parts.1)
+
+fits_form-drop : (n : ℕ) (form text : List ℕ) → fits_form form text ≡ true → fits_form (drop n form) (drop n text) ≡ true
+fits_form-drop zero form text h = h
+fits_form-drop (suc n) [] [] h = refl
+fits_form-drop (suc n) [] (c ∷ text) h = cc
+fits_form-drop (suc n) (p ∷ form) [] h = cc
+fits_form-drop (suc n) (p ∷ form) (c ∷ text) h = fits_form-drop n form text (and_parts (fits_place p c) (fits_form form text) h).1
+
+number_at-take : (n k : ℕ) (text : List ℕ) → k + 1 < n → number_at k (take n text) ≡ number_at k text
+number_at-take n k text h =
+    let before : k < n = omega arith in
+    rw (get_or-take n text k 0 before, get_or-take n text (k + 1) 0 h) refl
+
+number_at-drop : (n k : ℕ) (text : List ℕ) → number_at k (drop n text) ≡ number_at (n + k) text
+number_at-drop n k text =
+    let same : n + (k + 1) ≡ n + k + 1 = omega arith in
+    rw (get_or-drop n text k 0, get_or-drop n text (k + 1) 0, same) refl
+
+-- the date and the time of day in the text of a moment
+pub record Split (text : List ℕ) (seconds : ℤ) : Type 0 where
+  pub day : ℤ
+  pub second : ℕ
+  pub date : date_reading (take 10 text) ≡ Some day
+  pub time : time_reading (take 8 (drop 11 text)) ≡ Some second
+  pub sum : seconds_of day second ≡ seconds
+  pub mark : get_or text 10 0 ≡ 84
+  pub long : length text ≡ 19
+
+named-day : (text : List ℕ) → fits_form moment_form text ≡ true → names_moment text ≡ true → date_reading (take 10 text) ≡ Some (days_from_civil (pos (year_in text)) (number_at 5 text) (number_at 8 text))
+unfolding date_reading
+named-day text fits named =
+    let form : fits_form (codes "0000-00-00") (take 10 text) ≡ true = fits_form-take 10 moment_form text fits in
+    let there : has_day (year_in text) (number_at 5 text) (number_at 8 text) ≡ true = (and_parts (has_day (year_in text) (number_at 5 text) (number_at 8 text)) _ named).0 in
+    let century : number_at 0 (take 10 text) ≡ number_at 0 text = number_at-take 10 0 text (omega arith) in
+    let year : number_at 2 (take 10 text) ≡ number_at 2 text = number_at-take 10 2 text (omega arith) in
+    let month : number_at 5 (take 10 text) ≡ number_at 5 text = number_at-take 10 5 text (omega arith) in
+    let day : number_at 8 (take 10 text) ≡ number_at 8 text = number_at-take 10 8 text (omega arith) in
+    rw (form, century, year, month, day, there) refl
+
+named-second : (text : List ℕ) → fits_form moment_form text ≡ true → names_moment text ≡ true → time_reading (take 8 (drop 11 text)) ≡ Some (number_at 11 text * 3600 + number_at 14 text * 60 + number_at 17 text)
+unfolding time_reading
+named-second text fits named =
+    let form : fits_form (codes "00:00:00") (take 8 (drop 11 text)) ≡ true = fits_form-take 8 (drop 11 moment_form) (drop 11 text) (fits_form-drop 11 moment_form text fits) in
+    let there : has_time (number_at 11 text) (number_at 14 text) (number_at 17 text) ≡ true = (and_parts (has_day (year_in text) (number_at 5 text) (number_at 8 text)) _ named).1 in
+    let hour : number_at 0 (take 8 (drop 11 text)) ≡ number_at 11 text = number_at-take 8 0 (drop 11 text) (omega arith) ∙ number_at-drop 11 0 text in
+    let minute : number_at 3 (take 8 (drop 11 text)) ≡ number_at 14 text = number_at-take 8 3 (drop 11 text) (omega arith) ∙ number_at-drop 11 3 text in
+    let second : number_at 6 (take 8 (drop 11 text)) ≡ number_at 17 text = number_at-take 8 6 (drop 11 text) (omega arith) ∙ number_at-drop 11 6 text in
+    rw (form, hour, minute, second, there) refl
+
+moment_reading-Split : (text : List ℕ) (seconds : ℤ) → moment_reading text ≡ Some seconds → Split text seconds
+unfolding moment_reading
+moment_reading-Split text seconds e = by_form (fits_form moment_form text) refl e
+  where
+    by_names : (b : Bool) → fits_form moment_form text ≡ true → names_moment text ≡ b → cond b (Some (seconds_in text)) None ≡ Some seconds → Split text seconds
+    by_names true fits named h = record {
+      day = days_from_civil (pos (year_in text)) (number_at 5 text) (number_at 8 text);
+      second = number_at 11 text * 3600 + number_at 14 text * 60 + number_at 17 text;
+      date = named-day text fits named;
+      time = named-second text fits named;
+      sum = cc;
+      mark = let same = fits_form-at moment_form text 10 fits (omega arith) in grind (arith, nat_tests);
+      long = fits_form-length moment_form text fits;
+    }
+    by_names false fits named h = cc
+
+    by_form : (b : Bool) → fits_form moment_form text ≡ b → cond (b && names_moment text) (Some (seconds_in text)) None ≡ Some seconds → Split text seconds
+    by_form true fits h = by_names (names_moment text) fits refl h
+    by_form false fits h = cc
+
+pub moment_text-Split : (seconds : ℤ) → IsMoment seconds → Split (moment_text seconds) seconds
+moment_text-Split seconds h = moment_reading-Split (moment_text seconds) seconds (reading-moment_text seconds h)
+
+-- The text of a moment is read as a date-time.
+pub stamp_reading-back : (seconds : ℤ) → IsMoment seconds → stamp_reading (moment_text seconds) ≡ Some seconds
+stamp_reading-back seconds h =
+    let split = moment_text-Split seconds h in
+    let text = moment_text seconds in
+    let mark : is_time_mark (get_or text 10 0) ≡ true = rw split.mark refl in
+    let ends : drop 8 (drop 11 text) ≡ [] = nil_from_length (drop 8 (drop 11 text)) (omega (arith, length-drop {A = ℕ}, split.long)) in
+    let zone : is_zone (drop 8 (drop 11 text)) ≡ true = rw ends refl in
+    let time : zoned_time_reading (drop 11 text) ≡ Some split.second = cond-true _ _ _ zone ∙ split.time in
+    stamp_reading-read text split.day split.second mark split.date time ∙ ap Some split.sum
+
+same_day : (a b : ℤ) (s t : ℕ) → s < 86400 → t < 86400 → a *ℤ pos 86400 +ℤ pos s ≡ b *ℤ pos 86400 +ℤ pos t → (a ≡ b) × (s ≡ t)
+same_day a b s t h k e = (omega (arith, ints), omega (arith, ints))
+
+natural : (z : ℤ) → pos 0 ≤ℤ z → z ≡ pos (unsigned_abs z)
+natural (pos n) h = refl
+natural (negsuc n) h = absurd (omega (arith, ints))
+
+calendar_seconds-of : (day : ℤ) (second : ℕ) → IsDay day → calendar_seconds (seconds_of day second) ≡ unsigned_abs (day +ℤ pos 719528) * 86400 + second
+calendar_seconds-of day second h =
+    let whole = natural (day +ℤ pos 719528) (omega (arith, ints)) in
+    let total : seconds_of day second -ℤ first_moment ≡ pos (unsigned_abs (day +ℤ pos 719528) * 86400 + second) = omega (arith, ints) in
+    ap unsigned_abs total
+
+-- The text of a moment has the texts of its date and its time of day.
+moment_text-of : (day : ℤ) (second : ℕ) → IsDay day → second < 86400 → moment_text (seconds_of day second) ≡ date_text day ++ codes "T" ++ clock_text second
+unfolding moment_text
+moment_text-of day second h lt =
+    let total = calendar_seconds-of day second h in
+    let days : calendar_seconds (seconds_of day second) / 86400 ≡ unsigned_abs (day +ℤ pos 719528) = ap (λ n. n / 86400) total ∙ div-mul-add (unsigned_abs (day +ℤ pos 719528)) 86400 second lt in
+    let rest : calendar_seconds (seconds_of day second) % 86400 ≡ second = ap (λ n. n % 86400) total ∙ mod-mul-add (unsigned_abs (day +ℤ pos 719528)) 86400 second lt in
+    ap (λ n. day_text n ++ codes "T" ++ clock_text (calendar_seconds (seconds_of day second) % 86400)) days ∙ ap (λ n. date_text day ++ codes "T" ++ clock_text n) rest
+
+read_back : (day : ℤ) (second : ℕ) → IsDay day → second < 86400 → (date_reading (date_text day) ≡ Some day) × (time_reading (clock_text second) ≡ Some second)
+read_back day second h lt =
+    let moment = IsMoment-seconds_of day second h lt in
+    let split = moment_text-Split (seconds_of day second) moment in
+    let same = same_day split.day day split.second second (time_reading-bound _ split.second split.time) lt split.sum in
+    let text = moment_text-of day second h lt in (
+      ap (λ t. date_reading (take 10 t)) (sym text) ∙ split.date ∙ ap Some same.0,
+      ap (λ t. time_reading (take 8 (drop 11 t))) (sym text) ∙ split.time ∙ ap Some same.1,
+    )
+
+-- A printed date is read as that date.
+pub date_text-back : (day : ℤ) → IsDay day → date_reading (date_text day) ≡ Some day
+date_text-back day h = (read_back day 0 h (omega arith)).0
+
+-- A printed time of day is read as that time.
+pub clock_text-back : (second : ℕ) → second < 86400 → time_reading (clock_text second) ≡ Some second
+clock_text-back second h = (read_back (pos 0) second (omega (arith, ints), omega (arith, ints)) h).1
+
+-- Two digits are read as their number.
+two_digits-back : (n : ℕ) → n < 100 → (48 + n / 10 - 48) * 10 + (48 + n % 10 - 48) ≡ n
+two_digits-back n h = omega arith
+
+-- A printed year and month is read as that year and month.
+pub year_month_text-back : (year month : ℕ) → year ≤ 9999 → 1 ≤ month → month ≤ 12 → yearmonth_reading (year_month_text year month) ≡ Some (year, month)
+unfolding yearmonth_reading
+year_month_text-back year month h low high =
+    let form : fits_form (codes "0000-00") (year_month_text year month) ≡ true =
+    and_from _ _ (digit (year / 100 / 10) (omega arith)) (and_from _ _ (digit (year / 100 % 10) (omega arith)) (and_from _ _ (digit (year % 100 / 10) (omega arith)) (and_from _ _ (digit (year % 100 % 10) (omega arith)) (and_from _ _ (digit (month / 10) (omega arith)) (and_from _ _ (digit (month % 10) (omega arith)) refl))))) in
+    let century : number_at 0 (year_month_text year month) ≡ year / 100 = two_digits-back (year / 100) (omega arith) in
+    let in_century : number_at 2 (year_month_text year month) ≡ year % 100 = two_digits-back (year % 100) (omega arith) in
+    let month_at : number_at 5 (year_month_text year month) ≡ month = two_digits-back month (omega arith) in
+    let named : year_in (year_month_text year month) ≡ year = omega (arith, century, in_century) in
+    let there : has_month month ≡ true = and_from (leb 1 month) (leb month 12) (le-leb 1 month low) (le-leb month 12 high) in
+    rw (form, month_at, there, named) refl
+  where
+    digit : (x : ℕ) → x < 10 → fits_place 48 (48 + x) ≡ true
+    digit x lt = and_from (leb 48 (48 + x)) (leb (48 + x) 57) (le-leb 48 (48 + x) (omega arith)) (le-leb (48 + x) 57 (omega arith))
+
+-- ---- the texts of dates and times of day, as they are cut off the text of a moment
+
+fits_form-IsAscii : (form text : List ℕ) → fits_form form text ≡ true → list_all (λ p. ltb p 128) form ≡ true → IsAscii text
+fits_form-IsAscii [] [] h k = IsAscii-nil
+fits_form-IsAscii [] (c ∷ text) h k = cc
+fits_form-IsAscii (p ∷ form) [] h k = cc
+fits_form-IsAscii (p ∷ form) (c ∷ text) h k =
+    let fits = and_parts (fits_place p c) (fits_form form text) h in
+    let low = and_parts (ltb p 128) (list_all (λ p. ltb p 128) form) k in
+    IsAscii-cons c text (place p c fits.0 (ltb-true p 128 low.0)) (fits_form-IsAscii form text fits.1 low.1)
+  where
+    place : (p c : ℕ) → fits_place p c ≡ true → p < 128 → c < 128
+    place p c h lt = grind (arith, nat_tests)
+
+moment_reading-IsAscii : (text : List ℕ) (seconds : ℤ) → moment_reading text ≡ Some seconds → IsAscii text × (length text ≡ 19)
+unfolding moment_reading
+moment_reading-IsAscii text seconds e = by_form (fits_form moment_form text) refl e
+  where
+    by_form : (b : Bool) → fits_form moment_form text ≡ b → cond (b && names_moment text) (Some (seconds_in text)) None ≡ Some seconds → IsAscii text × (length text ≡ 19)
+    by_form true fits h = (fits_form-IsAscii moment_form text fits refl, fits_form-length moment_form text fits)
+    by_form false fits h = cc
+
+-- The text of a moment may be cut at these places.
+pub moment-boundary : (text : List ℕ) (seconds : ℤ) (place : ℕ) → moment_reading text ≡ Some seconds → place ≤ 19 → IsCharBoundary text place
+moment-boundary text seconds place e h =
+    let ascii = moment_reading-IsAscii text seconds e in
+    IsCharBoundary-from_ascii text place ascii.0 (omega (arith, ascii.1))
+
+pub date-cut : (day moment : ℤ) (text : List ℕ) → IsDay day → moment ≡ day *ℤ pos 86400 → text ≡ moment_text moment → take 10 text ≡ date_text day
+date-cut day moment text h same e =
+    let start : moment ≡ seconds_of day 0 = omega (arith, ints) in
+    ap (take 10) (e ∙ ap moment_text start ∙ moment_text-of day 0 h (omega arith))
+
+pub time-cut : (second : ℕ) (moment : ℤ) (text : List ℕ) → second < 86400 → moment ≡ pos second → text ≡ moment_text moment → drop 11 text ≡ clock_text second
+time-cut second moment text h same e =
+    let start : moment ≡ seconds_of (pos 0) second = omega (arith, ints) in
+    ap (drop 11) (e ∙ ap moment_text start ∙ moment_text-of (pos 0) second (omega (arith, ints), omega (arith, ints)) h)
+
+-- ---- the fraction of a number, as it is written
+
+-- What is known while it is written: what is written and what is left to write make the whole.
+abbrev pub FractionSoFar : List ℕ → List ℕ → ℕ → ℕ → ℕ → Type 0
+FractionSoFar text start rest unit billionths =
+    (left : ℕ) × (left ≤ 9) × (rest < 10 ^ left) × (unit ≡ 10 ^ left / 10)
+    × (text ++ places_text left rest ≡ start ++ places_text 9 billionths)
+
+pub record Turn (text start : List ℕ) (rest unit billionths : ℕ) : Type 0 where
+  pub some : 0 < unit
+  pub digit : rest / unit < 10
+  pub next : (new : List ℕ) → new ≡ text ++ (48 + rest / unit) ∷ [] → FractionSoFar new start (rest % unit) (unit / 10) billionths
+
+pub fraction-turn : (text start : List ℕ) (rest unit billionths : ℕ) → FractionSoFar text start rest unit billionths → rest ≢ 0 → Turn text start rest unit billionths
+fraction-turn text start rest unit billionths so_far some = by_left so_far.0 so_far.1 so_far.2 so_far.3 so_far.4
+  where
+    by_left : (left : ℕ) → left ≤ 9 → rest < 10 ^ left → unit ≡ 10 ^ left / 10 → text ++ places_text left rest ≡ start ++ places_text 9 billionths → Turn text start rest unit billionths
+    by_left zero h lt e written = absurd (some (omega arith))
+    by_left (suc more) h lt e written =
+        let power = pow-suc 10 more in
+        let same : unit ≡ 10 ^ more = omega arith in
+        let positive : 0 < 10 ^ more = one-le-pow more 10 (omega arith) in
+        let digit : rest / 10 ^ more < 10 = div_below rest (10 ^ more) 10 positive (omega arith) in
+        let not_zero : eqb rest 0 ≡ false = ne_eqb rest 0 some in
+        let first : places_text (suc more) rest ≡ (48 + rest / 10 ^ more) ∷ places_text more (rest % 10 ^ more) = cond-false _ _ _ not_zero in
+        record {
+          some = omega arith;
+          digit = rw same digit;
+          next = λ new made. (
+            more,
+            omega arith,
+            rw same (mod_below rest (10 ^ more) positive),
+            ap (λ n. n / 10) same,
+            ap (λ xs. xs ++ places_text more (rest % unit)) made ∙ append_assoc text ((48 + rest / unit) ∷ []) (places_text more (rest % unit))
+                ∙ ap (λ n. text ++ (48 + rest / n) ∷ places_text more (rest % n)) same ∙ sym (ap (λ xs. text ++ xs) first) ∙ written,
+          );
+        }
+
+pub fraction-start : (start : List ℕ) (billionths : ℕ) → billionths < 10 ^ 9 → FractionSoFar start start billionths 100000000 billionths
+fraction-start start billionths h = (9, omega arith, h, refl, refl)
+
+pub fraction-end : (text start old : List ℕ) (unit billionths rest : ℕ) → FractionSoFar text start rest unit billionths → rest ≡ 0 → start ≡ old ++ 46 ∷ [] → billionths ≢ 0 → text ≡ old ++ fraction_text billionths
+fraction-end text start old unit billionths rest so_far none begun some =
+    let nothing : places_text so_far.0 rest ≡ [] = ap (places_text so_far.0) none ∙ empty so_far.0 in
+    let not_zero : eqb billionths 0 ≡ false = ne_eqb billionths 0 some in
+    sym (append-nil text) ∙ sym (ap (λ xs. text ++ xs) nothing) ∙ so_far.4 ∙ ap (λ xs. xs ++ places_text 9 billionths) begun ∙ append_assoc old (46 ∷ []) (places_text 9 billionths) ∙ ap (λ xs. old ++ xs) (sym (cond-false _ _ _ not_zero))
+  where
+    empty : (k : ℕ) → places_text k 0 ≡ []
+    empty zero = refl
+    empty (suc k) = refl

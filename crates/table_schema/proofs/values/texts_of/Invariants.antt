@@ -1,0 +1,7 @@
+use Rattle.std.proofs.Common.{◌≡◌, drop}
+use Rattle.table_schema.specs.Values.{text_in, all_of}
+use Rattle.table_schema.proofs.ValueLemmas.{read_on}
+use Rattle.table_schema.proofs.values.texts_of.Given as goal
+
+abbrev pub invariant-loop-item : goal.invariant-loop-item
+invariant-loop-item l = all_of text_in l.items ≡ read_on text_in l.texts.items (drop l.item-index l.items)

@@ -1,0 +1,252 @@
+-- A descriptor's fields (Table Schema v1, "Field descriptors"), and their faults in order.
+use Rattle.std.specs.Prelude.{ℕ, suc, ◌==◌, nat_le, Bool, true, false, ◌&&◌, not, if◌then◌else◌, List, [], ◌∷◌, ◌++◌, length, codes, Option, Some, None, option_map, is_some, Result, Ok, Err, ℤ, pos, negsuc}
+use Rattle.std.specs.List.{list_all, list_any}
+use Rattle.std.specs.Str.{all_scalars, bytes_eq, chars}
+use Rattle.std.specs.Char.{is_whitespace}
+use Rattle.portal_base.specs.declared.json_value.Json.{Json}
+use Rattle.table_schema.specs.declared.cell.Cell.{Cell}
+use Rattle.table_schema.specs.declared.column.Column.{Column}
+use Rattle.table_schema.specs.declared.constraint.Constraints.{Constraints}
+use Rattle.table_schema.specs.declared.fault.SchemaFault.{SchemaFault}
+use Rattle.table_schema.specs.declared.fault.SchemaFault.TheVariants.{NotJson, NoFields, UnknownKind, BadConstraint, RepeatedName, Unsupported, BadName}
+use Rattle.table_schema.specs.declared.form.Form.{Form}
+use Rattle.table_schema.specs.declared.form.Form.TheVariants as form
+use Rattle.table_schema.specs.declared.form.Kind.{Kind}
+use Rattle.table_schema.specs.declared.form.Kind.TheVariants as kind
+use Rattle.table_schema.specs.declared.form.NumberForm.{NumberForm}
+use Rattle.table_schema.specs.Digits.{is_digit, is_sign, is_empty}
+use Rattle.table_schema.specs.Number.{is_that, is_exponent_mark}
+use Rattle.table_schema.specs.Reading.{value_reading}
+use Rattle.table_schema.specs.Truth.{is_among, default_trues, default_falses}
+use Rattle.table_schema.specs.Values.{◌>>=◌, ◌>>>◌, or_fault, present, is_map, dictionary_in, text_in, truth_in, whole_in, list_in, all_of, texts_in, or_default, optional}
+
+-- ---- the list of fields
+
+abbrev pub dictionaries : List Json → Option (List Json)
+dictionaries items =
+    if nat_le 1 (length items) && nat_le (length items) 500 && list_all is_map items then Some items else None
+
+-- 1 to 500 dictionaries
+abbrev pub field_items : Json → Result (List Json) SchemaFault
+field_items value =
+    if is_map value then or_fault NoFields (present (codes "fields") value >>= list_in >>= dictionaries)
+    else Err NotJson
+
+-- ---- a field's name
+
+-- no white space (Unicode's White_Space) at either end
+abbrev pub begins_with_space : List ℕ → Bool
+begins_with_space [] = false
+begins_with_space (c ∷ cs) = is_whitespace c
+
+abbrev pub ends_with_space : List ℕ → Bool
+ends_with_space [] = false
+ends_with_space (c ∷ []) = is_whitespace c
+ends_with_space (c ∷ d ∷ cs) = ends_with_space (d ∷ cs)
+
+abbrev pub begins_with_underscore : List ℕ → Bool
+begins_with_underscore [] = false
+begins_with_underscore (c ∷ cs) = c == 95
+
+-- Not empty, no white space at an end, no `_` in front, no double quote, and at most 63 bytes.
+abbrev pub is_field_name : List ℕ → Bool
+is_field_name name =
+    not (is_empty name) && nat_le (length name) 63
+    && not (begins_with_space (chars name)) && not (ends_with_space (chars name))
+    && not (begins_with_underscore name) && not (list_any (λ c. c == 34) name)
+
+abbrev pub named : ℕ → List ℕ → Result (List ℕ) SchemaFault
+named number name = if is_field_name name then Ok name else Err (BadName number)
+
+abbrev pub name_reading : ℕ → Json → Result (List ℕ) SchemaFault
+name_reading number item =
+    or_fault (BadName number) (present (codes "name") item >>= text_in) >>> named number
+
+abbrev pub new_name : ℕ → List (List ℕ) → List ℕ → Result (List ℕ) SchemaFault
+new_name number names name = if is_among names name then Err (RepeatedName number) else Ok name
+
+-- ---- its type
+
+abbrev pub supported : List ℕ → Option Kind
+supported name =
+    if bytes_eq name (codes "string") then Some kind.Text
+    else if bytes_eq name (codes "any") then Some kind.Text
+    else if bytes_eq name (codes "integer") then Some kind.Integer
+    else if bytes_eq name (codes "number") then Some kind.Number
+    else if bytes_eq name (codes "boolean") then Some kind.Boolean
+    else if bytes_eq name (codes "date") then Some kind.Date
+    else if bytes_eq name (codes "time") then Some kind.Time
+    else if bytes_eq name (codes "datetime") then Some kind.Datetime
+    else if bytes_eq name (codes "year") then Some kind.Year
+    else if bytes_eq name (codes "yearmonth") then Some kind.YearMonth
+    else None
+
+-- the types of Table Schema that aren't supported
+abbrev pub unsupported_types : List (List ℕ)
+unsupported_types =
+    codes "object" ∷ codes "array" ∷ codes "duration" ∷ codes "geopoint" ∷ codes "geojson" ∷ []
+
+abbrev pub kind_fault : ℕ → List ℕ → SchemaFault
+kind_fault number name = if is_among unsupported_types name then Unsupported name else UnknownKind number
+
+abbrev pub kind_named : ℕ → List ℕ → Result Kind SchemaFault
+kind_named number name = or_fault (kind_fault number name) (supported name)
+
+-- The type is `string` where none is given.
+abbrev pub kind_reading : ℕ → Json → Result Kind SchemaFault
+kind_reading number item =
+    or_fault (UnknownKind number) (or_default text_in (codes "string") (present (codes "type") item)) >>> kind_named number
+
+-- ---- what isn't supported besides
+
+abbrev pub default_format : List ℕ → Result Bool SchemaFault
+default_format format = if bytes_eq format (codes "default") then Ok true else Err (Unsupported format)
+
+-- every format but `default`
+abbrev pub format_reading : Json → Result Bool SchemaFault
+format_reading item =
+    or_fault (Unsupported (codes "format")) (or_default text_in (codes "default") (present (codes "format") item))
+    >>> default_format
+
+-- the constraint `pattern`
+abbrev pub has_pattern : Json → Bool
+has_pattern item = is_some (present (codes "constraints") item >>= present (codes "pattern"))
+
+abbrev pub pattern_reading : Json → Result Bool SchemaFault
+pattern_reading item = if has_pattern item then Err (Unsupported (codes "pattern")) else Ok true
+
+-- ---- its options
+
+-- a character (a Unicode scalar value) that is no digit, no sign and neither `e` nor `E`
+abbrev pub is_mark : ℕ → Bool
+is_mark c = all_scalars (c ∷ []) && not (is_digit c) && not (is_sign c) && not (is_exponent_mark c)
+
+abbrev pub mark_of : List ℕ → Option ℕ
+mark_of [] = None
+mark_of (c ∷ []) = if is_mark c then Some c else None
+mark_of (c ∷ d ∷ cs) = None
+
+-- a text of one such character
+abbrev pub mark_in : Json → Option ℕ
+mark_in value = text_in value >>= λ text. mark_of (chars text)
+
+abbrev pub spelling_of : ℕ → Option ℕ → Bool → Option NumberForm
+spelling_of decimal group bare =
+    if is_that group decimal then None else Some (record { decimal = decimal; group = group; bare = bare })
+
+abbrev pub bare_in : Json → Option Bool
+bare_in item = or_default truth_in true (present (codes "bareNumber") item)
+
+abbrev pub spelling_in : Json → Option NumberForm
+spelling_in item =
+    or_default mark_in 46 (present (codes "decimalChar") item) >>= λ decimal.
+    (optional mark_in (present (codes "groupChar") item) >>= λ group.
+    (bare_in item >>= λ bare. spelling_of decimal group bare))
+
+abbrev pub truths_in : Json → Option Form
+truths_in item =
+    or_default texts_in default_trues (present (codes "trueValues") item) >>= λ trues.
+    (or_default texts_in default_falses (present (codes "falseValues") item) >>= λ falses.
+    Some (form.Boolean (record { true_values = trues; false_values = falses })))
+
+-- Options of other types are ignored.
+abbrev pub form_in : Kind → Json → Option Form
+form_in kind.Text item = Some form.Text
+form_in kind.Integer item = option_map form.Integer (bare_in item)
+form_in kind.Number item = option_map form.Number (spelling_in item)
+form_in kind.Boolean item = truths_in item
+form_in kind.Date item = Some form.Date
+form_in kind.Time item = Some form.Time
+form_in kind.Datetime item = Some form.Datetime
+form_in kind.Year item = Some form.Year
+form_in kind.YearMonth item = Some form.YearMonth
+
+-- ---- its constraints
+
+abbrev pub has_length : Kind → Bool
+has_length kind.Text = true
+has_length other = false
+
+abbrev pub has_order : Kind → Bool
+has_order kind.Text = false
+has_order kind.Boolean = false
+has_order other = true
+
+abbrev pub count_of : ℤ → Option ℤ
+count_of (pos n) = Some (pos n)
+count_of (negsuc n) = None
+
+-- a whole number from 0, at a type that has lengths
+abbrev pub length_in : Kind → Json → Option ℤ
+length_in k value = if has_length k then (whole_in value >>= count_of) else None
+
+-- a value of the type, where that has an order
+abbrev pub bound_in : Kind → Json → Option Cell
+bound_in k value = if has_order k then value_reading k value else None
+
+abbrev pub some_of : {A : Type 0} → List A → Option (List A)
+some_of [] = None
+some_of (x ∷ xs) = Some (x ∷ xs)
+
+-- values of the type, and at least one
+abbrev pub allowed_in : Kind → Json → Option (List Cell)
+allowed_in k value = list_in value >>= some_of >>= all_of (value_reading k)
+
+abbrev pub no_constraints : Constraints
+no_constraints = record {
+  required = false;
+  unique = false;
+  min_length = None;
+  max_length = None;
+  minimum = None;
+  maximum = None;
+  allowed = [];
+}
+
+abbrev pub constraints_in : Kind → Json → Option Constraints
+constraints_in k value =
+    or_default truth_in false (present (codes "required") value) >>= λ required.
+    (or_default truth_in false (present (codes "unique") value) >>= λ unique.
+    (optional (length_in k) (present (codes "minLength") value) >>= λ min_length.
+    (optional (length_in k) (present (codes "maxLength") value) >>= λ max_length.
+    (optional (bound_in k) (present (codes "minimum") value) >>= λ minimum.
+    (optional (bound_in k) (present (codes "maximum") value) >>= λ maximum.
+    (or_default (allowed_in k) [] (present (codes "enum") value) >>= λ allowed.
+    Some (record {
+      required = required;
+      unique = unique;
+      min_length = min_length;
+      max_length = max_length;
+      minimum = minimum;
+      maximum = maximum;
+      allowed = allowed;
+    })))))))
+
+abbrev pub constraints_of : Kind → Json → Option Constraints
+constraints_of k item =
+    or_default (λ value. dictionary_in value >>= constraints_in k) no_constraints (present (codes "constraints") item)
+
+-- ---- a field, and all of them
+
+abbrev pub column_of : List ℕ → Kind → Json → Option Column
+column_of name k item =
+    form_in k item >>= λ spelling.
+    (constraints_of k item >>= λ constraints.
+    Some (record { name = name; form = spelling; constraints = constraints }))
+
+-- The field of this number, counted from 1, where these are the names before it. The faults come in this order: its
+-- name, a repeated name, its type, what isn't supported, and its options and constraints.
+unfoldable pub column_reading : ℕ → List (List ℕ) → Json → Result Column SchemaFault
+column_reading number names item =
+    name_reading number item >>> new_name number names >>> λ name.
+    (kind_reading number item >>> λ k.
+    (format_reading item >>> λ plain.
+    (pattern_reading item >>> λ unpatterned.
+    or_fault (BadConstraint number) (column_of name k item))))
+
+-- the fields from this number on
+abbrev pub columns_reading : ℕ → List (List ℕ) → List Json → Result (List Column) SchemaFault
+columns_reading number names [] = Ok []
+columns_reading number names (item ∷ items) =
+    column_reading number names item >>> λ column.
+    (columns_reading (suc number) (names ++ column.name ∷ []) items >>> λ columns. Ok (column ∷ columns))

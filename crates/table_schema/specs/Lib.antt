@@ -1,0 +1,14 @@
+pub mod Calendar
+pub mod Constraint
+pub mod Descriptor
+pub mod Digits
+pub mod Field
+pub mod Form
+pub mod Keys
+pub mod Number
+pub mod Printed
+pub mod Reading
+pub mod Significand
+pub mod Truth
+pub mod Values
+pub mod Written

@@ -1,0 +1,267 @@
+//! The fields of a descriptor.
+ghost use Rattle.std.specs.Prelude.{◌≡◌, ◌+◌, ◌≤◌, ◌==◌, ◌⊎◌, [], map, length, true, IfOk, Ok, Err, codes};
+ghost use Rattle.std.specs.List.{list_all, list_any};
+ghost use Rattle.std.specs.Str.{chars, bytes_eq};
+ghost use Rattle.table_schema.specs.Values.{is_map, Gives};
+ghost use Rattle.table_schema.specs.Truth.{is_among};
+ghost use Rattle.table_schema.specs.Descriptor.{field_items, is_field_name, begins_with_space, ends_with_space, begins_with_underscore, name_reading, new_name, supported, unsupported_types, kind_reading, kind_named, format_reading, pattern_reading, has_pattern, column_of, column_reading, columns_reading};
+
+use crate::constraint::Constraints;
+use crate::fault::SchemaFault;
+use crate::form::{Form, Kind};
+use crate::options::{constraints_of, form_of};
+use crate::split::{split_first, split_last};
+use crate::values::{is_map, list_in, present, text_in};
+use portal_base::json_value::Json;
+use portal_base::text::Text;
+use std::alloc::{AllocError, Global};
+
+/// The most fields of a descriptor.
+const MOST_FIELDS: usize = 500;
+
+/// The most bytes of a field's name.
+const LONGEST_FIELD_NAME: usize = 63;
+
+/// A field as its descriptor tells it.
+#[derive(Drop)]
+pub struct Column {
+    pub name: Text,
+    pub form: Form,
+    pub constraints: Constraints,
+}
+
+/// The descriptor's fields, which are 1 to 500 dictionaries.
+pub(crate) fn field_items(value: &Json) -> Result<&[Json], SchemaFault>
+    ensures { Gives (λ items. items.now) result (field_items value.now) }
+{
+    if !is_map(value) {
+        return Err(SchemaFault::NotJson);
+    }
+    let Some(fields) = present(value, "fields") else {
+        return Err(SchemaFault::NoFields);
+    };
+    let Some(items) = list_in(fields) else {
+        return Err(SchemaFault::NoFields);
+    };
+    let items = items.as_slice();
+    if items.is_empty() || items.len() > MOST_FIELDS || !are_maps(items) {
+        return Err(SchemaFault::NoFields);
+    }
+    Ok(items)
+}
+
+fn are_maps(items: &[Json]) -> bool
+    ensures { result ≡ list_all is_map items.now }
+{
+    items.iter().all(is_map)
+}
+
+/// The fields.
+pub(crate) fn columns_of(alloc: Global, items: &[Json]) -> Result<Vec<Column>, SchemaFault>
+    requires { length items.now ≤ 500 }
+    ensures { Gives (λ columns. columns.items) result (columns_reading 1 [] items.now) }
+{
+    let mut columns = Vec::new(alloc);
+    for (place, item) in items.iter().enumerate() {
+        let column = column_of(alloc, place as u32 + 1, columns.as_slice(), item)?;
+        if columns.push(column).is_err() {
+            return Err(SchemaFault::OutOfMemory);
+        }
+    }
+    Ok(columns)
+}
+
+// The field of this number, which has these before it.
+fn column_of(
+    alloc: Global,
+    number: u32,
+    before: &[Column],
+    item: &Json,
+) -> Result<Column, SchemaFault>
+    ensures { Gives (λ x. x) result (column_reading number (map (λ c. c.name) before.now) item.now) }
+{
+    let name = name_of(number, item)?;
+    if is_taken(before, name) {
+        return Err(SchemaFault::RepeatedName(number));
+    }
+    let kind = kind_of(alloc, number, item)?;
+    refuse_format(alloc, item)?;
+    refuse_pattern(alloc, item)?;
+    match described(alloc, name, kind, item)? {
+        Some(column) => Ok(column),
+        None => Err(SchemaFault::BadConstraint(number)),
+    }
+}
+
+// The field of this name and type, if its options and constraints are in order.
+fn described(
+    alloc: Global,
+    name: &Text,
+    kind: Kind,
+    item: &Json,
+) -> Result<Option<Column>, AllocError>
+    ensures { IfOk result (λ column. column ≡ column_of name.now kind item.now) }
+{
+    let Some(form) = form_of(alloc, kind, item)? else {
+        return Ok(None);
+    };
+    let Some(constraints) = constraints_of(alloc, kind, item)? else {
+        return Ok(None);
+    };
+    let name = Text::from_str(alloc, name.as_str())?;
+    Ok(Some(Column {
+        name,
+        form,
+        constraints,
+    }))
+}
+
+fn name_of(number: u32, item: &Json) -> Result<&Text, SchemaFault>
+    ensures { Gives (λ name. name.now) result (name_reading number item.now) }
+{
+    let Some(value) = present(item, "name") else {
+        return Err(SchemaFault::BadName(number));
+    };
+    match text_in(value) {
+        Some(name) if is_field_name(name.as_str()) => Ok(name),
+        _ => Err(SchemaFault::BadName(number)),
+    }
+}
+
+// Whether the text may name a field.
+fn is_field_name(name: &str) -> bool
+    ensures { result ≡ is_field_name name.now }
+{
+    !name.is_empty()
+        && name.len() <= LONGEST_FIELD_NAME
+        && !begins_with_space(name)
+        && !ends_with_space(name)
+        && !begins_with_underscore(name.as_bytes())
+        && !has_quote(name.as_bytes())
+}
+
+fn begins_with_space(name: &str) -> bool
+    ensures { result ≡ begins_with_space (chars name.now) }
+{
+    match split_first(name) {
+        Some((character, _)) => character.is_whitespace(),
+        None => false,
+    }
+}
+
+fn ends_with_space(name: &str) -> bool
+    ensures { result ≡ ends_with_space (chars name.now) }
+{
+    match split_last(name) {
+        Some((_, character)) => character.is_whitespace(),
+        None => false,
+    }
+}
+
+fn begins_with_underscore(name: &[u8]) -> bool
+    ensures { result ≡ begins_with_underscore name.now }
+{
+    match name {
+        [first, ..] => *first == b'_',
+        [] => false,
+    }
+}
+
+fn has_quote(name: &[u8]) -> bool
+    ensures { result ≡ list_any (λ c. c == 34) name.now }
+{
+    name.iter().any(|byte| *byte == b'"')
+}
+
+fn is_taken(columns: &[Column], name: &Text) -> bool
+    ensures { result ≡ list_any (λ c. bytes_eq c.name name.now) columns.now }
+{
+    columns
+        .iter()
+        .any(|column| column.name.as_str() == name.as_str())
+}
+
+fn kind_of(alloc: Global, number: u32, item: &Json) -> Result<Kind, SchemaFault>
+    ensures { Gives (λ x. x) result (kind_reading number item.now) }
+{
+    let Some(value) = present(item, "type") else {
+        return Ok(Kind::Text);
+    };
+    let Some(name) = text_in(value) else {
+        return Err(SchemaFault::UnknownKind(number));
+    };
+    match kind_named(name.as_str()) {
+        Some(kind) => Ok(kind),
+        None if is_unsupported(name.as_str()) => Err(unsupported(alloc, name.as_str())),
+        None => Err(SchemaFault::UnknownKind(number)),
+    }
+}
+
+fn kind_named(name: &str) -> Option<Kind>
+    ensures { result ≡ supported name.now }
+{
+    match name {
+        "string" | "any" => Some(Kind::Text),
+        "integer" => Some(Kind::Integer),
+        "number" => Some(Kind::Number),
+        "boolean" => Some(Kind::Boolean),
+        "date" => Some(Kind::Date),
+        "time" => Some(Kind::Time),
+        "datetime" => Some(Kind::Datetime),
+        "year" => Some(Kind::Year),
+        "yearmonth" => Some(Kind::YearMonth),
+        _ => None,
+    }
+}
+
+// Whether it is a type of Table Schema that isn't supported.
+fn is_unsupported(name: &str) -> bool
+    ensures { result ≡ is_among unsupported_types name.now }
+{
+    matches!(
+        name,
+        "object" | "array" | "duration" | "geopoint" | "geojson"
+    )
+}
+
+// The fault that names it.
+fn unsupported(alloc: Global, name: &str) -> SchemaFault
+    ensures { (result ≡ SchemaFault.OutOfMemory) ⊎ (result ≡ SchemaFault.Unsupported name.now) }
+{
+    match Text::from_str(alloc, name) {
+        Ok(name) => SchemaFault::Unsupported(name),
+        Err(_) => SchemaFault::OutOfMemory,
+    }
+}
+
+fn refuse_format(alloc: Global, item: &Json) -> Result<(), SchemaFault>
+    ensures { Gives (λ _. true) result (format_reading item.now) }
+{
+    let Some(value) = present(item, "format") else {
+        return Ok(());
+    };
+    match text_in(value) {
+        Some(format) if format.as_str() == "default" => Ok(()),
+        Some(format) => Err(unsupported(alloc, format.as_str())),
+        None => Err(unsupported(alloc, "format")),
+    }
+}
+
+fn refuse_pattern(alloc: Global, item: &Json) -> Result<(), SchemaFault>
+    ensures { Gives (λ _. true) result (pattern_reading item.now) }
+{
+    if has_pattern(item) {
+        Err(unsupported(alloc, "pattern"))
+    } else {
+        Ok(())
+    }
+}
+
+fn has_pattern(item: &Json) -> bool
+    ensures { result ≡ has_pattern item.now }
+{
+    match present(item, "constraints") {
+        Some(constraints) => present(constraints, "pattern").is_some(),
+        None => false,
+    }
+}

@@ -1,0 +1,146 @@
+//! The constraints of a field, and which of them a cell breaks first.
+ghost use Rattle.std.specs.Prelude.{◌≡◌, pos, length, option_map};
+ghost use Rattle.std.specs.Option.{option_copied};
+ghost use Rattle.std.specs.List.{list_any};
+ghost use Rattle.table_schema.specs.Constraint.{length_of, rank_of, same_cell, is_at_least, is_at_most, keeps_length, keeps_range, keeps_enum, constraint_fault};
+
+use crate::cell::{Cell, CellFault};
+use portal_base::seq::Seq;
+
+/// The constraints of a field. Each of them holds for cells other than `Null`, but `required`, which such a cell
+/// breaks.
+#[derive(Drop)]
+pub struct Constraints {
+    pub required: bool,
+    /// Whether no two rows may have equal cells other than `Null`.
+    pub unique: bool,
+    /// The fewest characters of a text.
+    pub min_length: Option<i128>,
+    /// The most characters of a text.
+    pub max_length: Option<i128>,
+    pub minimum: Option<Cell>,
+    pub maximum: Option<Cell>,
+    /// The cells that `enum` allows, or none where it isn't there.
+    pub allowed: Seq<Cell>,
+}
+
+impl Constraints {
+    /// The first constraint that the cell breaks, which isn't `Null`.
+    #[tactic(auto, unfolding(crate::specs::Constraint::constraint_fault))]
+    pub fn fault_of(&self, cell: &Cell) -> Option<CellFault>
+        ensures { result ≡ constraint_fault self.now cell.now }
+    {
+        if !self.keeps_length(cell) {
+            Some(CellFault::Length)
+        } else if !self.keeps_range(cell) {
+            Some(CellFault::Range)
+        } else if !self.keeps_enum(cell) {
+            Some(CellFault::NotInEnum)
+        } else {
+            None
+        }
+    }
+
+    fn keeps_length(&self, cell: &Cell) -> bool
+        ensures { result ≡ keeps_length self.now cell.now }
+    {
+        if self.min_length.is_none() && self.max_length.is_none() {
+            return true;
+        }
+        let length = length_of(cell) as i128;
+        is_at_least(self.min_length, length) && is_at_most(self.max_length, length)
+    }
+
+    fn keeps_range(&self, cell: &Cell) -> bool
+        ensures { result ≡ keeps_range self.now cell.now }
+    {
+        let rank = rank_of(cell);
+        is_at_least(bound_of(&self.minimum), rank) && is_at_most(bound_of(&self.maximum), rank)
+    }
+
+    fn keeps_enum(&self, cell: &Cell) -> bool
+        ensures { result ≡ keeps_enum self.now cell.now }
+    {
+        self.allowed.is_empty() || is_among(self.allowed.as_slice(), cell)
+    }
+}
+
+fn is_among(cells: &[Cell], cell: &Cell) -> bool
+    ensures { result ≡ list_any (λ a. same_cell a cell.now) cells.now }
+{
+    cells.iter().any(|allowed| is_same(allowed, cell))
+}
+
+fn bound_of(bound: &Option<Cell>) -> Option<i128>
+    ensures { result ≡ option_map rank_of bound.now }
+{
+    match bound {
+        Some(cell) => Some(rank_of(cell)),
+        None => None,
+    }
+}
+
+fn is_at_least(bound: Option<i128>, value: i128) -> bool
+    ensures { result ≡ is_at_least bound value }
+{
+    match bound {
+        Some(low) => low <= value,
+        None => true,
+    }
+}
+
+fn is_at_most(bound: Option<i128>, value: i128) -> bool
+    ensures { result ≡ is_at_most bound value }
+{
+    match bound {
+        Some(high) => value <= high,
+        None => true,
+    }
+}
+
+// How many characters a text has.
+fn length_of(cell: &Cell) -> usize
+    ensures { result ≡ length_of cell.now }
+{
+    match cell {
+        Cell::Text(text) => text.as_str().chars().count(),
+        _ => 0,
+    }
+}
+
+/// The place of a cell among the cells of its type, where the type has an order.
+pub fn rank_of(cell: &Cell) -> i128
+    ensures { result ≡ rank_of cell.now }
+{
+    match cell {
+        Cell::Null | Cell::Text(_) | Cell::Truth(_) => 0,
+        Cell::Int(number) => i128::from(*number),
+        Cell::Number(billionths) => *billionths,
+        Cell::Date(day) => i128::from(*day),
+        Cell::Time(second) => i128::from(*second),
+        Cell::Stamp(moment) => i128::from(moment.seconds()),
+        Cell::Year(year) => i128::from(*year),
+        Cell::YearMonth(year, month) => i128::from(*year) * 12 + i128::from(*month),
+    }
+}
+
+/// Whether two cells are equal.
+pub fn is_same(one: &Cell, other: &Cell) -> bool
+    ensures { result ≡ same_cell one.now other.now }
+{
+    match (one, other) {
+        (Cell::Null, Cell::Null) => true,
+        (Cell::Text(one), Cell::Text(other)) => one.as_str() == other.as_str(),
+        (Cell::Int(one), Cell::Int(other)) => *one == *other,
+        (Cell::Number(one), Cell::Number(other)) => *one == *other,
+        (Cell::Truth(one), Cell::Truth(other)) => *one == *other,
+        (Cell::Date(one), Cell::Date(other)) => *one == *other,
+        (Cell::Time(one), Cell::Time(other)) => *one == *other,
+        (Cell::Stamp(one), Cell::Stamp(other)) => one.seconds() == other.seconds(),
+        (Cell::Year(one), Cell::Year(other)) => *one == *other,
+        (Cell::YearMonth(one, month), Cell::YearMonth(other, other_month)) => {
+            *one == *other && *month == *other_month
+        }
+        _ => false,
+    }
+}

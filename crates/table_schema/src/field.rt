@@ -1,0 +1,124 @@
+//! Fields, which read texts and values as cells.
+ghost use Rattle.std.specs.Prelude.{◌≡◌, IfOk, IfErr, Ok, Err};
+ghost use Rattle.std.specs.Arc.{arc_value};
+ghost use Rattle.table_schema.specs.Printed.{IsValue};
+ghost use Rattle.table_schema.specs.Reading.{cell_reading, record_reading, null_reading, kept, Reads, IsFault};
+
+use crate::cell::{Cell, CellError, CellFault};
+use crate::column::Column;
+use crate::constraint::Constraints;
+use crate::form::Form;
+use crate::reading::{cell_of, value_of};
+use crate::truth::is_among;
+use portal_base::json_value::Json;
+use portal_base::seq::Seq;
+use portal_base::text::Text;
+use std::alloc::Global;
+use std::marker::Model;
+use std::sync::Arc;
+
+/// A field of a schema.
+#[derive(Drop)]
+pub struct Field {
+    name: Text,
+    form: Form,
+    constraints: Constraints,
+    /// The fields of a schema share one list, which may be long.
+    missing: Arc<Seq<Text>>,
+    in_key: bool,
+}
+
+impl Model for Field {
+    ghost use Rattle.table_schema.specs.Field.{FieldValue};
+    ghost use Rattle.std.specs.Arc.{arc_value};
+
+    ghost Value = { FieldValue };
+
+    ghost view = { λ f. record { name = f.name; form = f.form; constraints = f.constraints; missing = arc_value f.missing; in_key = f.in_key } };
+}
+
+impl Field {
+    pub fn name(&self) -> &Text
+        ensures { result.now ≡ self.now.name }
+    {
+        &self.name
+    }
+
+    /// Its type, with the options that hold for it.
+    pub fn form(&self) -> &Form
+        ensures { result.now ≡ self.now.form }
+    {
+        &self.form
+    }
+
+    pub fn constraints(&self) -> &Constraints
+        ensures { result.now ≡ self.now.constraints }
+    {
+        &self.constraints
+    }
+
+    /// Reads a text, as it stands in a file.
+    pub fn read_cell(&self, alloc: Global, text: &str) -> Result<Cell, CellError>
+        ensures cell { IfOk result (Reads self.now text.now) }
+        ensures value { IfOk result IsValue }
+        ensures fault { IfErr result (IsFault (cell_reading self.now text.now)) }
+    {
+        if is_among(self.missing.as_slice(), text) {
+            return null_of(self.constraints.required || self.in_key);
+        }
+        kept(&self.constraints, cell_of(alloc, &self.form, text)?)
+    }
+
+    /// Reads a value, as it stands in a record.
+    pub fn of_json(&self, alloc: Global, value: &Json) -> Result<Cell, CellError>
+        ensures cell { IfOk result (λ cell. record_reading self.now value.now ≡ Ok cell) }
+        ensures value { IfOk result IsValue }
+        ensures fault { IfErr result (IsFault (record_reading self.now value.now)) }
+    {
+        match value {
+            Json::Null => null_of(self.constraints.required),
+            _ => kept(&self.constraints, value_of(alloc, self.form.kind(), value)?),
+        }
+    }
+}
+
+impl Field {
+    /// The field of these parts.
+    pub(crate) fn of_column(column: Column, missing: Arc<Seq<Text>>, in_key: bool) -> Field
+        ensures { result ≡ record { name = column.name; form = column.form; constraints = column.constraints; missing = arc_value missing; in_key = in_key } }
+    {
+        Field {
+            name: column.name,
+            form: column.form,
+            constraints: column.constraints,
+            missing,
+            in_key,
+        }
+    }
+}
+
+// No value, unless one is wanted.
+fn null_of(wanted: bool) -> Result<Cell, CellError>
+    ensures cell { IfOk result (λ cell. null_reading wanted ≡ Ok cell) }
+    ensures fault { IfErr result (IsFault (null_reading wanted)) }
+{
+    if wanted {
+        Err(CellError::Fault(CellFault::Required))
+    } else {
+        Ok(Cell::Null)
+    }
+}
+
+// The cell, if there is one and it keeps the constraints.
+fn kept(constraints: &Constraints, cell: Option<Cell>) -> Result<Cell, CellError>
+    ensures cell { IfOk result (λ read. kept constraints.now cell ≡ Ok read) }
+    ensures fault { IfErr result (IsFault (kept constraints.now cell)) }
+{
+    let Some(cell) = cell else {
+        return Err(CellError::Fault(CellFault::NotOfType));
+    };
+    match constraints.fault_of(&cell) {
+        Some(fault) => Err(CellError::Fault(fault)),
+        None => Ok(cell),
+    }
+}

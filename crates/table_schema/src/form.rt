@@ -1,0 +1,72 @@
+//! The types of fields, and how their texts are spelled.
+ghost use Rattle.std.specs.Prelude.{◌≡◌};
+ghost use Rattle.table_schema.specs.Form.{kind_of};
+
+use portal_base::seq::Seq;
+use portal_base::text::Text;
+
+/// A type of fields (Table Schema v1, "Types and formats"). The type `any` is `Text`.
+#[derive(Clone, Copy, Debug, PartialEq, Eq)]
+pub enum Kind {
+    Text,
+    Integer,
+    Number,
+    Boolean,
+    Date,
+    Time,
+    Datetime,
+    Year,
+    YearMonth,
+}
+
+/// How numbers are spelled: `decimalChar`, `groupChar` and `bareNumber`.
+#[derive(Clone, Copy, Debug, PartialEq, Eq)]
+pub struct NumberForm {
+    /// What stands between the whole part and the fraction.
+    pub decimal: char,
+    /// What may stand between two digits of the whole part.
+    pub group: Option<char>,
+    /// Whether nothing else may stand around the number.
+    pub bare: bool,
+}
+
+/// How truth values are spelled: `trueValues` and `falseValues`.
+#[derive(Drop)]
+pub struct Truths {
+    pub true_values: Seq<Text>,
+    pub false_values: Seq<Text>,
+}
+
+/// A type with the options that hold for it.
+#[derive(Drop)]
+pub enum Form {
+    Text,
+    /// Whether nothing else may stand around the number.
+    Integer(bool),
+    Number(NumberForm),
+    Boolean(Truths),
+    Date,
+    Time,
+    Datetime,
+    Year,
+    YearMonth,
+}
+
+impl Form {
+    /// The type without its options.
+    pub fn kind(&self) -> Kind
+        ensures { result ≡ kind_of self.now }
+    {
+        match self {
+            Form::Text => Kind::Text,
+            Form::Integer(_) => Kind::Integer,
+            Form::Number(_) => Kind::Number,
+            Form::Boolean(_) => Kind::Boolean,
+            Form::Date => Kind::Date,
+            Form::Time => Kind::Time,
+            Form::Datetime => Kind::Datetime,
+            Form::Year => Kind::Year,
+            Form::YearMonth => Kind::YearMonth,
+        }
+    }
+}

@@ -1,0 +1,9 @@
+//! Laws of the definitions: functions with an empty body, whose contracts are the laws.
+ghost use Rattle.std.specs.Prelude.{ℕ, List};
+ghost use Rattle.table_schema.specs.Field.{FieldValue};
+ghost use Rattle.table_schema.specs.Reading.{HasOneAnswer};
+
+/// In each field each text is read as one cell, or fails with one fault, and never both.
+pub fn texts_have_one_answer()
+    ensures { (field : FieldValue) (text : List ℕ) → HasOneAnswer field text }
+{}

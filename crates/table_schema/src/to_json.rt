@@ -1,0 +1,265 @@
+//! The descriptor that a schema is written as.
+ghost use Rattle.std.specs.Prelude.{◌≡◌, ◌++◌, All, map, IfSome, IfOk, OnOk};
+ghost use Rattle.portal_base.specs.declared.json_value.Json.{Whole as whole_value, List as list_value};
+ghost use Rattle.table_schema.specs.Printed.{IsValue, HasValues, cell_value};
+ghost use Rattle.table_schema.specs.Written.{texts_value, kind_name, member_where, member_if, allowed_member, constraints_value, bare_member, character_value, options_before_format, options_before_name, options_before_type, field_value, name_at, names_value, reference_value, foreign_value};
+
+use crate::cell::Cell;
+use crate::constraint::Constraints;
+use crate::field::Field;
+use crate::foreign::Foreign;
+use crate::form::{Form, Kind};
+use crate::print::cell_json;
+use portal_base::json_value::Json;
+use portal_base::members::Members;
+use portal_base::seq::Seq;
+use portal_base::text::Text;
+use std::alloc::{AllocError, Global};
+
+/// The fields.
+pub(crate) fn fields_json(alloc: Global, fields: &[Field]) -> Result<Json, AllocError>
+    requires { All (λ f. HasValues f.constraints) fields.now }
+    ensures { IfOk result (λ value. value ≡ list_value (map field_value fields.now)) }
+{
+    let mut list = Vec::with_capacity(alloc, fields.len())?;
+    for field in fields {
+        list.push(field_json(alloc, field)?)?;
+    }
+    Ok(Json::List(Seq::from(list)))
+}
+
+fn field_json(alloc: Global, field: &Field) -> Result<Json, AllocError>
+    requires { HasValues field.now.constraints }
+    ensures { IfOk result (λ value. value ≡ field_value field.now) }
+{
+    let form = field.form();
+    let mut members = Members::new(alloc);
+    add_bare(&mut members, form)?;
+    members.add("constraints", constraints_json(alloc, field.constraints())?)?;
+    add_before_format(alloc, &mut members, form)?;
+    members.add_text("format", "default")?;
+    add_before_name(alloc, &mut members, form)?;
+    members.add_text("name", field.name().as_str())?;
+    add_before_type(alloc, &mut members, form)?;
+    members.add_text("type", kind_name(form.kind()))?;
+    Ok(members.into_json())
+}
+
+fn add_bare(members: &mut Members, form: &Form) -> Result<(), AllocError>
+    ensures { OnOk result (members.new ≡ members.old ++ bare_member form.now) }
+{
+    match form {
+        Form::Integer(bare) => members.add("bareNumber", Json::Truth(*bare)),
+        Form::Number(spelling) => members.add("bareNumber", Json::Truth(spelling.bare)),
+        _ => Ok(()),
+    }
+}
+
+fn add_before_format(alloc: Global, members: &mut Members, form: &Form) -> Result<(), AllocError>
+    ensures { OnOk result (members.new ≡ members.old ++ options_before_format form.now) }
+{
+    match form {
+        Form::Number(spelling) => {
+            members.add("decimalChar", character_json(alloc, spelling.decimal)?)
+        }
+        Form::Boolean(truths) => members.add(
+            "falseValues",
+            texts_json(alloc, truths.false_values.as_slice())?,
+        ),
+        _ => Ok(()),
+    }
+}
+
+fn add_before_name(alloc: Global, members: &mut Members, form: &Form) -> Result<(), AllocError>
+    ensures { OnOk result (members.new ≡ members.old ++ options_before_name form.now) }
+{
+    let Form::Number(spelling) = form else {
+        return Ok(());
+    };
+    match spelling.group {
+        Some(group) => members.add("groupChar", character_json(alloc, group)?),
+        None => Ok(()),
+    }
+}
+
+fn add_before_type(alloc: Global, members: &mut Members, form: &Form) -> Result<(), AllocError>
+    ensures { OnOk result (members.new ≡ members.old ++ options_before_type form.now) }
+{
+    match form {
+        Form::Boolean(truths) => members.add(
+            "trueValues",
+            texts_json(alloc, truths.true_values.as_slice())?,
+        ),
+        _ => Ok(()),
+    }
+}
+
+/// The name of a type.
+pub fn kind_name(kind: Kind) -> &'static str
+    ensures { result.now ≡ kind_name kind }
+{
+    match kind {
+        Kind::Text => "string",
+        Kind::Integer => "integer",
+        Kind::Number => "number",
+        Kind::Boolean => "boolean",
+        Kind::Date => "date",
+        Kind::Time => "time",
+        Kind::Datetime => "datetime",
+        Kind::Year => "year",
+        Kind::YearMonth => "yearmonth",
+    }
+}
+
+fn character_json(alloc: Global, character: char) -> Result<Json, AllocError>
+    ensures { IfOk result (λ value. value ≡ character_value character) }
+{
+    let mut text = String::new(alloc);
+    text.push(character)?;
+    Ok(Json::Text(Text::from(text)))
+}
+
+/// A list of texts.
+pub(crate) fn texts_json(alloc: Global, texts: &[Text]) -> Result<Json, AllocError>
+    ensures { IfOk result (λ value. value ≡ texts_value texts.now) }
+{
+    let mut list = Vec::with_capacity(alloc, texts.len())?;
+    for text in texts {
+        list.push(Json::Text(Text::from_str(alloc, text.as_str())?))?;
+    }
+    Ok(Json::List(Seq::from(list)))
+}
+
+fn constraints_json(alloc: Global, constraints: &Constraints) -> Result<Json, AllocError>
+    requires { HasValues constraints.now }
+    ensures { IfOk result (λ value. value ≡ constraints_value constraints.now) }
+{
+    let mut members = Members::new(alloc);
+    add_allowed(alloc, &mut members, constraints.allowed.as_slice())?;
+    add_length(&mut members, "maxLength", constraints.max_length)?;
+    add_bound(alloc, &mut members, "maximum", &constraints.maximum)?;
+    add_length(&mut members, "minLength", constraints.min_length)?;
+    add_bound(alloc, &mut members, "minimum", &constraints.minimum)?;
+    add_truth(&mut members, "required", constraints.required)?;
+    add_truth(&mut members, "unique", constraints.unique)?;
+    Ok(members.into_json())
+}
+
+fn add_allowed(alloc: Global, members: &mut Members, cells: &[Cell]) -> Result<(), AllocError>
+    requires { All IsValue cells.now }
+    ensures { OnOk result (members.new ≡ members.old ++ allowed_member cells.now) }
+{
+    if cells.is_empty() {
+        return Ok(());
+    }
+    members.add("enum", cells_json(alloc, cells)?)
+}
+
+fn cells_json(alloc: Global, cells: &[Cell]) -> Result<Json, AllocError>
+    requires { All IsValue cells.now }
+    ensures { IfOk result (λ value. value ≡ list_value (map cell_value cells.now)) }
+{
+    let mut list = Vec::with_capacity(alloc, cells.len())?;
+    for cell in cells {
+        list.push(cell_json(alloc, cell)?)?;
+    }
+    Ok(Json::List(Seq::from(list)))
+}
+
+// Adds a length, if there is one.
+fn add_length(members: &mut Members, key: &str, length: Option<i128>) -> Result<(), AllocError>
+    ensures { OnOk result (members.new ≡ members.old ++ member_where key.now whole_value length) }
+{
+    match length {
+        Some(length) => members.add(key, Json::Whole(length)),
+        None => Ok(()),
+    }
+}
+
+// Adds a cell, if there is one.
+fn add_bound(
+    alloc: Global,
+    members: &mut Members,
+    key: &str,
+    bound: &Option<Cell>,
+) -> Result<(), AllocError>
+    requires { IfSome bound.now IsValue }
+    ensures { OnOk result (members.new ≡ members.old ++ member_where key.now cell_value bound.now) }
+{
+    match bound {
+        Some(cell) => members.add(key, cell_json(alloc, cell)?),
+        None => Ok(()),
+    }
+}
+
+// Adds a truth value, if it is true.
+fn add_truth(members: &mut Members, key: &str, truth: bool) -> Result<(), AllocError>
+    ensures { OnOk result (members.new ≡ members.old ++ member_if key.now truth) }
+{
+    if truth {
+        members.add(key, Json::Truth(true))
+    } else {
+        Ok(())
+    }
+}
+
+/// The foreign keys.
+pub(crate) fn foreigns_json(
+    alloc: Global,
+    fields: &[Field],
+    foreigns: &[Foreign],
+) -> Result<Json, AllocError>
+    ensures { IfOk result (λ value. value ≡ list_value (map (foreign_value fields.now) foreigns.now)) }
+{
+    let mut list = Vec::with_capacity(alloc, foreigns.len())?;
+    for foreign in foreigns {
+        list.push(foreign_json(alloc, fields, foreign)?)?;
+    }
+    Ok(Json::List(Seq::from(list)))
+}
+
+fn foreign_json(alloc: Global, fields: &[Field], foreign: &Foreign) -> Result<Json, AllocError>
+    ensures { IfOk result (λ value. value ≡ foreign_value fields.now foreign.now) }
+{
+    let mut members = Members::new(alloc);
+    members.add(
+        "fields",
+        names_json(alloc, fields, foreign.fields.as_slice())?,
+    )?;
+    members.add("reference", reference_json(alloc, foreign)?)?;
+    Ok(members.into_json())
+}
+
+fn reference_json(alloc: Global, foreign: &Foreign) -> Result<Json, AllocError>
+    ensures { IfOk result (λ value. value ≡ reference_value foreign.now) }
+{
+    let mut members = Members::new(alloc);
+    members.add("fields", texts_json(alloc, foreign.target.as_slice())?)?;
+    members.add_text("resource", foreign.resource.as_str())?;
+    Ok(members.into_json())
+}
+
+/// The names of the fields at these places.
+pub(crate) fn names_json(
+    alloc: Global,
+    fields: &[Field],
+    places: &[u32],
+) -> Result<Json, AllocError>
+    ensures { IfOk result (λ value. value ≡ names_value fields.now places.now) }
+{
+    let mut list = Vec::with_capacity(alloc, places.len())?;
+    for place in places {
+        let name = Text::from_str(alloc, name_at(fields, *place))?;
+        list.push(Json::Text(name))?;
+    }
+    Ok(Json::List(Seq::from(list)))
+}
+
+fn name_at(fields: &[Field], place: u32) -> &str
+    ensures { result.now ≡ name_at fields.now place }
+{
+    match fields.get(place as usize) {
+        Some(field) => field.name().as_str(),
+        None => "",
+    }
+}

@@ -1,0 +1,43 @@
+//! The texts of truth values, and lists of texts.
+ghost use Rattle.std.specs.Prelude.{◌≡◌, true, false};
+ghost use Rattle.table_schema.specs.Truth.{is_among, truth_reading, default_trues, default_falses};
+
+use crate::form::Truths;
+use portal_base::text::Text;
+
+/// `trueValues` where it isn't given.
+pub(crate) const DEFAULT_TRUES: [&str; 4] = ["true", "True", "TRUE", "1"];
+
+/// `falseValues` where it isn't given.
+pub(crate) const DEFAULT_FALSES: [&str; 4] = ["false", "False", "FALSE", "0"];
+
+/// Whether the text is one of the list.
+pub(crate) fn is_among(texts: &[Text], text: &str) -> bool
+    ensures { result ≡ is_among texts.now text.now }
+{
+    texts.iter().any(|listed| listed.as_str() == text)
+}
+
+/// The truth value of a text. A text in both lists is true.
+pub(crate) fn truth_of(truths: &Truths, text: &str) -> Option<bool>
+    ensures { result ≡ truth_reading truths.now.true_values truths.now.false_values text.now }
+{
+    if is_among(truths.true_values.as_slice(), text) {
+        Some(true)
+    } else if is_among(truths.false_values.as_slice(), text) {
+        Some(false)
+    } else {
+        None
+    }
+}
+
+/// The truth value of a text by the lists that hold where none are given.
+pub(crate) fn default_truth_of(text: &str) -> Option<bool>
+    ensures { result ≡ truth_reading default_trues default_falses text.now }
+{
+    match text {
+        "true" | "True" | "TRUE" | "1" => Some(true),
+        "false" | "False" | "FALSE" | "0" => Some(false),
+        _ => None,
+    }
+}

@@ -1,0 +1,107 @@
+//! The values of a descriptor's keys, by their kinds.
+ghost use Rattle.std.specs.Prelude.{◌≡◌, ◌∷◌, [], IfOk};
+ghost use Rattle.std.specs.Option.{option_copied};
+ghost use Rattle.table_schema.specs.Values.{present, is_map, text_in, truth_in, list_in, all_of, texts_in, names_in, or_default};
+
+use portal_base::json_value::Json;
+use portal_base::seq::Seq;
+use portal_base::text::Text;
+use std::alloc::{AllocError, Global};
+
+/// The value of a key. One that is null counts as absent.
+pub(crate) fn present<'a>(value: &'a Json, key: &str) -> Option<&'a Json>
+    ensures { option_copied result ≡ present key.now value.now }
+{
+    match value.get(key) {
+        Some(Json::Null) => None,
+        found => found,
+    }
+}
+
+pub(crate) fn is_map(value: &Json) -> bool
+    ensures { result ≡ is_map value.now }
+{
+    match value {
+        Json::Map(_) => true,
+        _ => false,
+    }
+}
+
+pub(crate) fn text_in(value: &Json) -> Option<&Text>
+    ensures { option_copied result ≡ text_in value.now }
+{
+    match value {
+        Json::Text(text) => Some(text),
+        _ => None,
+    }
+}
+
+pub(crate) fn list_in(value: &Json) -> Option<&Seq<Json>>
+    ensures { option_copied result ≡ list_in value.now }
+{
+    match value {
+        Json::List(items) => Some(items),
+        _ => None,
+    }
+}
+
+fn truth_in(value: &Json) -> Option<bool>
+    ensures { result ≡ truth_in value.now }
+{
+    match value {
+        Json::Truth(truth) => Some(*truth),
+        _ => None,
+    }
+}
+
+/// The truth value of a key, or this one where it is absent.
+pub(crate) fn truth_at(value: &Json, key: &str, otherwise: bool) -> Option<bool>
+    ensures { result ≡ or_default truth_in otherwise (present key.now value.now) }
+{
+    match present(value, key) {
+        Some(value) => truth_in(value),
+        None => Some(otherwise),
+    }
+}
+
+fn texts_of(alloc: Global, items: &[Json]) -> Result<Option<Seq<Text>>, AllocError>
+    ensures { IfOk result (λ texts. texts ≡ all_of text_in items.now) }
+{
+    let mut texts = Vec::new(alloc);
+    for item in items {
+        let Some(text) = text_in(item) else {
+            return Ok(None);
+        };
+        texts.push(Text::from_str(alloc, text.as_str())?)?;
+    }
+    Ok(Some(Seq::from(texts)))
+}
+
+/// A list of texts.
+pub(crate) fn texts_in(alloc: Global, value: &Json) -> Result<Option<Seq<Text>>, AllocError>
+    ensures { IfOk result (λ texts. texts ≡ texts_in value.now) }
+{
+    match list_in(value) {
+        Some(items) => texts_of(alloc, items.as_slice()),
+        None => Ok(None),
+    }
+}
+
+/// A text, or a list of texts.
+pub(crate) fn names_in(alloc: Global, value: &Json) -> Result<Option<Seq<Text>>, AllocError>
+    ensures { IfOk result (λ names. names ≡ names_in value.now) }
+{
+    match value {
+        Json::Text(text) => Ok(Some(one_text(alloc, text)?)),
+        Json::List(items) => texts_of(alloc, items.as_slice()),
+        _ => Ok(None),
+    }
+}
+
+fn one_text(alloc: Global, text: &Text) -> Result<Seq<Text>, AllocError>
+    ensures { IfOk result (λ texts. texts ≡ text.now ∷ []) }
+{
+    let mut texts = Vec::new(alloc);
+    texts.push(Text::from_str(alloc, text.as_str())?)?;
+    Ok(Seq::from(texts))
+}
