@@ -1,0 +1,144 @@
+-- A text that is cut between two records.
+use Rattle.std.proofs.Common.{◌≡◌, ◌≤◌, ◌<◌, get_or, ◌+◌, ℕ, Bool, true, false, List, [], ◌∷◌, ◌++◌, length, take, if◌then◌else◌, refl, sym, ap, subst, ◌∙◌, arith}
+use Rattle.std.proofs.lemmas.Bool.Decides.{nat_tests}
+use Rattle.std.proofs.lemmas.List.{take_more}
+use Rattle.csv.specs.Machine.{field_after, fields_after, is_end, step}
+use Rattle.csv.specs.Reading.{default_config, is_bom, records, strip_bom}
+use Rattle.csv.specs.declared.parser.Action.{Action}
+use Rattle.csv.specs.declared.parser.Action.TheVariants as act
+use Rattle.csv.specs.declared.parser.State.{State}
+use Rattle.csv.specs.declared.parser.State.TheVariants as st
+use Rattle.typed_csv.proofs.RecordLemmas.{all_records, records-all}
+use Rattle.typed_csv.specs.Places.{next_place, place_after}
+use Rattle.typed_csv.specs.declared.scan.Place.{Place}
+use Rattle.typed_csv.specs.declared.scan.Place.TheVariants as place
+
+-- ---- places behind more bytes
+
+pub place_after-append : (start : Place) (front back : List ℕ) → place_after start (front ++ back) ≡ place_after (place_after start front) back
+place_after-append start [] back = refl
+place_after-append start (c ∷ front) back = place_after-append (next_place start c) front back
+
+pub place_after_more : (start : Place) (bytes : List ℕ) (i : ℕ) → i < length bytes
+    → place_after start (take (i + 1) bytes) ≡ next_place (place_after start (take i bytes)) (get_or bytes i 0)
+place_after_more start bytes i h =
+    ap (place_after start) (take_more bytes i 0 h) ∙ place_after-append start (take i bytes) (get_or bytes i 0 ∷ [])
+
+-- ---- places and the states of the machine
+
+-- the place at which a state of the machine stands
+abbrev place_of : State → Place
+place_of st.StartRecord = place.RecordStart
+place_of st.AfterCr = place.RecordStart
+place_of st.StartField = place.FieldStart
+place_of st.InField = place.Plain
+place_of st.InQuoted = place.Quoted
+place_of st.AfterQuote = place.AfterQuote
+place_of st.InEscape = place.Plain
+place_of st.InComment = place.Plain
+
+-- the state comes with the default settings, under which there are no escapes and no comments
+abbrev Comes : State → Type 0
+Comes st.StartRecord = Unit {0}
+Comes st.AfterCr = Unit {0}
+Comes st.StartField = Unit {0}
+Comes st.InField = Unit {0}
+Comes st.InQuoted = Unit {0}
+Comes st.AfterQuote = Unit {0}
+Comes st.InEscape = ⊥
+Comes st.InComment = ⊥
+
+-- one byte goes to the place of its state, which comes too, and to a record's start only from one or by a record's end
+record Steps (s : State) (c : ℕ) (t : State) (action : Action) : Type 0 where
+  goes : next_place (place_of s) c ≡ place_of t
+  comes : Comes t
+  starts : is_end action ≡ false → place_of t ≡ place.RecordStart → (place_of s ≡ place.RecordStart) × (action ≡ act.Skip)
+
+stepped : (s : State) (c : ℕ) → Comes s → Steps s c (step default_config s c).0 (step default_config s c).1
+stepped st.StartRecord c h = grind (arith, nat_tests)
+stepped st.AfterCr c h = grind (arith, nat_tests)
+stepped st.StartField c h = grind (arith, nat_tests)
+stepped st.InField c h = grind (arith, nat_tests)
+stepped st.InQuoted c h = grind (arith, nat_tests)
+stepped st.AfterQuote c h = grind (arith, nat_tests)
+stepped st.InEscape c h = absurd h
+stepped st.InComment c h = absurd h
+
+-- ---- records of a text that is cut
+
+after_return : (c : ℕ) → step default_config st.AfterCr c ≡ step default_config st.StartRecord c
+after_return c = grind (arith, nat_tests)
+
+-- behind a carriage return the records are those of a start
+all_records-return : (f : List (List ℕ)) (p bytes : List ℕ) → all_records st.AfterCr f p bytes ≡ all_records st.StartRecord f p bytes
+unfolding all_records
+all_records-return f p [] = refl
+all_records-return f p (c ∷ rest) =
+    ap (λ (q : State × Action). if is_end q.1 then fields_after q.1 f p ∷ all_records q.0 [] [] rest
+    else all_records q.0 (fields_after q.1 f p) (field_after q.1 c p) rest) (after_return c)
+
+-- at a start no field is begun
+IsClear : State → List (List ℕ) → List ℕ → Type 0
+IsClear s f p = place_of s ≡ place.RecordStart → (f ≡ []) × (p ≡ [])
+
+at_start : (s : State) (f : List (List ℕ)) (p back : List ℕ) → IsClear s f p → place_of s ≡ place.RecordStart
+    → all_records s f p back ≡ all_records s f p [] ++ all_records st.StartRecord [] [] back
+unfolding all_records IsClear
+at_start st.StartRecord f p back k e = rw ((k refl).0, (k refl).1) refl
+at_start st.AfterCr f p back k e = rw ((k refl).0, (k refl).1) (all_records-return [] [] back)
+at_start st.StartField f p back k e = cc
+at_start st.InField f p back k e = cc
+at_start st.InQuoted f p back k e = cc
+at_start st.AfterQuote f p back k e = cc
+at_start st.InEscape f p back k e = cc
+at_start st.InComment f p back k e = cc
+
+skipped : (action : Action) (f : List (List ℕ)) (p : List ℕ) (c : ℕ) → action ≡ act.Skip → (f ≡ []) × (p ≡ [])
+    → (fields_after action f p ≡ []) × (field_after action c p ≡ [])
+skipped act.Skip f p c e k = k
+skipped act.Copy f p c e k = absurd cc
+skipped act.EndField f p c e k = absurd cc
+skipped act.EndRecord f p c e k = absurd cc
+
+at_byte : (b : Bool) (row : List (List ℕ)) (ended ended' going going' last : List (List (List ℕ)))
+    → (b ≡ true → ended ≡ ended' ++ last) → (b ≡ false → going ≡ going' ++ last)
+    → (if b then row ∷ ended else going) ≡ (if b then row ∷ ended' else going') ++ last
+at_byte true row ended ended' going going' last e g = ap (λ (more : List (List (List ℕ))). row ∷ more) (e refl)
+at_byte false row ended ended' going going' last e g = g refl
+
+all_records-cut : (front back : List ℕ) (s : State) (f : List (List ℕ)) (p : List ℕ) → Comes s → IsClear s f p
+    → place_after (place_of s) front ≡ place.RecordStart
+    → all_records s f p (front ++ back) ≡ all_records s f p front ++ all_records st.StartRecord [] [] back
+unfolding all_records IsClear
+all_records-cut [] back s f p h k e = at_start s f p back k e
+all_records-cut (c ∷ front) back s f p h k e =
+    let t = (step default_config s c).0 in
+    let action = (step default_config s c).1 in
+    let q : Steps s c t action = stepped s c h in
+    let ends : place_after (place_of t) front ≡ place.RecordStart = subst (λ x. place_after x front ≡ place.RecordStart) q.goes e in
+    at_byte (is_end action) (fields_after action f p) _ _ _ _ (all_records st.StartRecord [] [] back)
+    (λ _. all_records-cut front back t [] [] q.comes (λ _. (refl, refl)) ends)
+    (λ going. all_records-cut front back t (fields_after action f p) (field_after action c p) q.comes
+    (λ at. let start = q.starts going at in skipped action f p c start.1 (k start.0)) ends)
+
+-- A text that is cut between two records has the records of both parts.
+pub records-cut : (front back : List ℕ) → place_after place.RecordStart front ≡ place.RecordStart
+    → records default_config (front ++ back) ≡ records default_config front ++ records default_config back
+unfolding IsClear
+records-cut front back e =
+    records-all (front ++ back) ∙ all_records-cut front back st.StartRecord [] [] tt (λ _. (refl, refl)) e
+    ∙ sym (ap (λ more. more ++ records default_config back) (records-all front) ∙ ap (λ more. all_records st.StartRecord [] [] front ++ more) (records-all back))
+
+-- ---- a byte order mark
+
+mark_off : (b : Bool) (x y rest : List ℕ) → (if b then x ++ rest else y ++ rest) ≡ (if b then x else y) ++ rest
+mark_off true x y rest = refl
+mark_off false x y rest = refl
+
+-- Three bytes tell whether there is a byte order mark.
+pub strip_bom-append : (held rest : List ℕ) → 3 ≤ length held → strip_bom (held ++ rest) ≡ strip_bom held ++ rest
+unfolding strip_bom
+strip_bom-append [] rest h = absurd (omega arith)
+strip_bom-append (a ∷ []) rest h = absurd (omega arith)
+strip_bom-append (a ∷ b ∷ []) rest h = absurd (omega arith)
+strip_bom-append (a ∷ b ∷ c ∷ text) rest h = mark_off (is_bom a b c) text (a ∷ b ∷ c ∷ text) rest

@@ -1,0 +1,15 @@
+use Rattle.std.proofs.Common.{◌≡◌, ◌-◌, ◌≤◌, ◌^◌}
+use Rattle.typed_csv.specs.Reading.{records_ahead, Receives}
+use Rattle.typed_csv.proofs.record_reader.RecordReader.next.Given as goal
+
+-- pieces came, whose records are all still to come
+abbrev pub invariant-loop-next : goal.invariant-loop-next
+invariant-loop-next g l = record {
+  ahead : records_ahead g.S.Source.to_come l.self ≡ records_ahead g.S.Source.to_come l.fn.self;
+  received : Receives g.S.Source.to_come l.fn.self l.self;
+  counts : g.S.Source.faults l.fn.self.source ≤ g.S.Source.faults l.self.source;
+  within : l.self.given ≤ 2 ^ 40;
+}
+
+abbrev pub decreases-loop-next : goal.decreases-loop-next
+decreases-loop-next g l = 2 ^ 40 - l.self.given

@@ -1,0 +1,33 @@
+-- Rows by the place of each field, for the laws.
+use Rattle.std.specs.Prelude.{◌≡◌, ◌≤◌, ℕ, List, length, Option, Some, slice_get}
+use Rattle.table_schema.specs.Field.{FieldValue}
+use Rattle.table_schema.specs.Reading.{Fails, Reads}
+use Rattle.table_schema.specs.declared.cell.Cell.{Cell}
+use Rattle.typed_csv.specs.declared.row.BadCell.{BadCell}
+use Rattle.typed_csv.specs.Records.{text_in}
+use Rattle.typed_csv.specs.Rows.{rank_of}
+
+-- The field at this place, counted from 0, fails on the text in its column, and this is its bad cell.
+pub record IsBadAt (width : ℕ) (texts : List (List ℕ)) (fields : List FieldValue) (columns : List (Option ℕ)) (place : ℕ) (bad : BadCell) : Type 0 where
+  pub field : FieldValue
+  pub column : Option ℕ
+  pub stands : slice_get fields place ≡ Some field
+  pub is_read : slice_get columns place ≡ Some column
+  pub fails : Fails field (text_in texts column) bad.fault
+  pub name : bad.name ≡ field.name
+  pub rank : bad.rank ≡ rank_of width column
+
+-- It is a bad cell, none has a lower rank, and none of the same rank has a field that stands earlier in the schema.
+abbrev pub IsFirstBad : ℕ → List (List ℕ) → List FieldValue → List (Option ℕ) → BadCell → Type 0
+IsFirstBad width texts fields columns bad =
+    (place : ℕ) × IsBadAt width texts fields columns place bad
+    × ((later : ℕ) (other : BadCell) → IsBadAt width texts fields columns later other →
+    (bad.rank ≤ other.rank) × (bad.rank ≡ other.rank → place ≤ later))
+
+-- There is a cell for each field, in the same order, and it is what the text in the field's column reads as.
+abbrev pub AreCellsOf : List (List ℕ) → List FieldValue → List (Option ℕ) → List Cell → Type 0
+AreCellsOf texts fields columns cells =
+    (length cells ≡ length fields)
+    × ((place : ℕ) (field : FieldValue) (column : Option ℕ) (cell : Cell) →
+    slice_get fields place ≡ Some field → slice_get columns place ≡ Some column → slice_get cells place ≡ Some cell →
+    Reads field (text_in texts column) cell)

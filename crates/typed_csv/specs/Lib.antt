@@ -1,0 +1,11 @@
+pub mod Calls
+pub mod Chunk
+pub mod Faults
+pub mod Header
+pub mod Laws
+pub mod Loading
+pub mod Pieces
+pub mod Places
+pub mod Reading
+pub mod Records
+pub mod Rows

@@ -1,0 +1,191 @@
+//! The loader: the rows of a source, one after the other.
+ghost use Rattle.std.specs.Prelude.{◌≡◌, ◌↔◌, ◌≢◌, ◌<◌, ◌≤◌, ◌^◌, ◌+◌, ℕ, List, [], length, Ok, Err, None, All, IfOk, IfErr, IfSome, OnOk, OnErr};
+ghost use Rattle.portal_base.specs.Outside.{Gives, Rose};
+ghost use Rattle.table_schema.specs.Printed.{IsValue};
+ghost use Rattle.typed_csv.specs.Calls.{Reads, RefusesRecords, TakesHeader, rows_left};
+ghost use Rattle.typed_csv.specs.Loading.{Answers, Begins, IsHeaderFault, IsLayout, IsRow, IsRowFault, RefusesHeader, number_after, rows_ahead};
+ghost use Rattle.typed_csv.specs.Reading.{Receives, records_ahead};
+
+use crate::chunk::Next;
+use crate::fault::LoadFault;
+use crate::header::{Layout, layout_of};
+use crate::record_reader::RecordReader;
+use crate::row::row_of;
+use csv::StringRecord;
+use portal_base::outside::Source;
+use portal_base::seq::Seq;
+use std::alloc::Global;
+use std::marker::Model;
+use table_schema::{Cell, Field, Schema};
+
+/// How far a loader is.
+#[derive(Clone, Copy, Debug, PartialEq, Eq)]
+pub(crate) enum Stage {
+    /// Rows may come.
+    Reading,
+    /// No row was left.
+    Ended,
+    /// A call answered a fault, or memory ran out in it.
+    Spent,
+}
+
+/// Reads the rows of a source of CSV (RFC 4180) by a schema of Table Schema v1. The records are those that the crate
+/// `csv` reads with its default settings, save that they may differ in width. A byte order mark at the start is dropped.
+/// The first record is the header; a column without a name is skipped, and a field without a column reads the empty text.
+#[derive(Drop)]
+pub struct Loader<S> {
+    alloc: Global,
+    schema: Schema,
+    layout: Layout,
+    records: RecordReader<S>,
+    row: StringRecord,
+    number: u64,
+    stage: Stage,
+}
+
+impl<S> Model for Loader<S> {
+    ghost use Rattle.typed_csv.specs.Loading.{IsWithin, Loading};
+
+    ghost Value = { Loading S };
+
+    ghost view = { λ l. record { fields = l.schema.fields; layout = l.layout; reading = l.records; number = l.number; stage = l.stage } };
+
+    ghost invariant = { λ l. IsWithin l.stage l.records.given };
+}
+
+impl<S: Source> Loader<S> {
+    /// Reads the header. A refusal hands the source back, as far as it was read.
+    ///
+    /// The faults are `NotUtf8(0)`, `Header`, `ReadFault`, `TooLong` and `OutOfMemory`.
+    pub fn start(alloc: Global, schema: Schema, source: S) -> Result<Loader<S>, (LoadFault, S)>
+        ensures begins { IfOk result (λ loader. Begins schema.fields (S.to_come source) (rows_ahead S.to_come loader)) }
+        ensures stage { IfOk result (λ loader. (loader.fields ≡ schema.fields) × (loader.number ≡ 0) × (loader.stage ≡ Stage.Reading)) }
+        ensures header { IfOk result (λ loader. IsLayout schema.fields loader.layout) }
+        ensures received { IfOk result (λ loader. (bytes : List ℕ) × Gives (S.to_come source) bytes (S.to_come loader.reading.source)
+            × (loader.reading.given ≡ length bytes) × (length bytes ≤ 2 ^ 40)) }
+        ensures counts { IfOk result (λ loader. S.faults source ≤ S.faults loader.reading.source) }
+
+        ensures refused { IfErr result (λ back. RefusesHeader schema.fields (S.to_come source) back.0) }
+        ensures cause { IfErr result (λ back. IsHeaderFault schema.fields back.0) }
+        ensures returned { IfErr result (λ back. (bytes : List ℕ) × Gives (S.to_come source) bytes (S.to_come back.1)
+            × ((back.0 ≡ LoadFault.TooLong) ↔ (2 ^ 40 < length bytes))) }
+        ensures failed { IfErr result (λ back. back.0 ≡ LoadFault.ReadFault → Rose (S.faults source) (S.faults back.1)) }
+        ensures counted { IfErr result (λ back. S.faults source ≤ S.faults back.1) }
+    {
+        let mut records = RecordReader::new(alloc, source);
+        let mut row = StringRecord::new(alloc);
+        match read_header(alloc, schema.fields().as_slice(), &mut records, &mut row) {
+            Ok(layout) => Ok(Loader {
+                alloc,
+                schema,
+                layout,
+                records,
+                row,
+                number: 0,
+                stage: Stage::Reading,
+            }),
+            Err(fault) => Err((fault, records.into_source())),
+        }
+    }
+
+    /// The next row, with a cell for each field in the schema's order, or none at the end.
+    ///
+    /// In a row the faults are tried in this order: `NotUtf8`, `Width`, `Cell` of the first bad cell in the header's
+    /// order, and last of fields without a column in the schema's order. `ReadFault`, `TooLong` and `OutOfMemory` may come
+    /// at any row. After a fault each call answers `Spent`.
+    pub fn next(&mut self) -> Result<Option<Seq<Cell>>, LoadFault>
+        ensures answers { Answers (rows_ahead S.to_come self.old) result (rows_ahead S.to_come self.new) }
+        ensures row { IfOk result (λ row. IfSome row (IsRow self.old)) }
+        ensures value { IfOk result (λ row. IfSome row (λ cells. All IsValue cells)) }
+        ensures cause { IfErr result (IsRowFault self.old) }
+        ensures number { self.new.number ≡ number_after self.old.number result }
+        ensures spent { (result ≡ Err LoadFault.Spent) ↔ (self.old.stage ≡ Stage.Spent) }
+        ensures fault { OnErr result (self.new.stage ≡ Stage.Spent) }
+        ensures end { (result ≡ Ok None) ↔ (self.new.stage ≡ Stage.Ended) }
+        ensures ended { self.old.stage ≡ Stage.Ended → result ≡ Ok None }
+        ensures still { self.old.stage ≢ Stage.Reading → self.new ≡ self.old }
+        ensures kept { (self.new.fields ≡ self.old.fields) × (self.new.layout ≡ self.old.layout) }
+        ensures received { Receives S.to_come self.old.reading self.new.reading }
+        ensures failed { result ≡ Err LoadFault.ReadFault → Rose (S.faults self.old.reading.source) (S.faults self.new.reading.source) }
+        ensures counts { S.faults self.old.reading.source ≤ S.faults self.new.reading.source }
+        ensures much { result ≢ Err LoadFault.Spent → ((result ≡ Err LoadFault.TooLong) ↔ (2 ^ 40 < self.new.reading.given)) }
+    {
+        match self.stage {
+            Stage::Reading => {}
+            Stage::Ended => return Ok(None),
+            Stage::Spent => return Err(LoadFault::Spent),
+        }
+        self.stage = Stage::Spent;
+        let row = self.read_row()?;
+        self.stage = match &row {
+            Some(_) => Stage::Reading,
+            None => Stage::Ended,
+        };
+        Ok(row)
+    }
+
+    /// The source, as far as it was read.
+    pub fn into_source(self) -> S
+        ensures { result ≡ self.reading.source }
+    {
+        self.records.into_source()
+    }
+
+    // The next row, or none at the end. The loader is marked spent meanwhile, so that a fault leaves it so.
+    fn read_row(&mut self) -> Result<Option<Seq<Cell>>, LoadFault>
+        requires { self.old.stage ≡ Stage.Spent }
+        ensures reads { Reads (rows_left S.to_come self.old) result (rows_left S.to_come self.new) }
+        ensures row { IfOk result (λ row. IfSome row (IsRow self.old)) }
+        ensures value { IfOk result (λ row. IfSome row (λ cells. All IsValue cells)) }
+        ensures cause { IfErr result (IsRowFault self.old) }
+        ensures number { self.new.number ≡ number_after self.old.number result }
+        ensures fault { result ≢ Err LoadFault.Spent }
+        ensures kept { (self.new.fields ≡ self.old.fields) × (self.new.layout ≡ self.old.layout) × (self.new.stage ≡ self.old.stage) }
+        ensures received { Receives S.to_come self.old.reading self.new.reading }
+        ensures failed { result ≡ Err LoadFault.ReadFault → Rose (S.faults self.old.reading.source) (S.faults self.new.reading.source) }
+        ensures counts { S.faults self.old.reading.source ≤ S.faults self.new.reading.source }
+        ensures much { (result ≡ Err LoadFault.TooLong) ↔ (2 ^ 40 < self.new.reading.given) }
+    {
+        let next = self.records.next(&mut self.row)?;
+        let Some(number) = self.number.checked_add(1) else {
+            return Err(LoadFault::OutOfMemory);
+        };
+        match next {
+            Next::Record => {}
+            Next::NotText => return Err(LoadFault::NotUtf8(number)),
+            Next::End => return Ok(None),
+        }
+        let cells = row_of(
+            self.alloc,
+            self.schema.fields().as_slice(),
+            &self.layout,
+            number,
+            &self.row,
+        )?;
+        self.number = number;
+        Ok(Some(cells))
+    }
+}
+
+// The columns of the first record.
+fn read_header<S: Source>(
+    alloc: Global,
+    fields: &[Field],
+    records: &mut RecordReader<S>,
+    row: &mut StringRecord,
+) -> Result<Layout, LoadFault>
+    ensures begins { IfOk result (λ layout. TakesHeader fields.now (records_ahead S.to_come records.old) layout (records_ahead S.to_come records.new)) }
+    ensures refused { IfErr result (RefusesRecords fields.now (records_ahead S.to_come records.old)) }
+    ensures header { IfOk result (IsLayout fields.now) }
+    ensures cause { IfErr result (IsHeaderFault fields.now) }
+    ensures received { Receives S.to_come records.old records.new }
+    ensures failed { result ≡ Err LoadFault.ReadFault → Rose (S.faults records.old.source) (S.faults records.new.source) }
+    ensures counts { S.faults records.old.source ≤ S.faults records.new.source }
+    ensures much { (result ≡ Err LoadFault.TooLong) ↔ (2 ^ 40 < records.new.given) }
+{
+    match records.next(row)? {
+        Next::Record => layout_of(alloc, fields, row),
+        Next::NotText => Err(LoadFault::NotUtf8(0)),
+        Next::End => Err(LoadFault::Header(1)),
+    }
+}
