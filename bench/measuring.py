@@ -13,22 +13,44 @@ CRATES = Path(__file__).resolve().parent.parent / "crates"
 def built(crate):
     """The program of the crate, which `rt run` proves, compiles and links, and runs once."""
     folder = CRATES / crate
+    words = folder / "args"
+    command = ["rt", "run", "--", *words.read_text().splitlines()] if words.exists() else ["rt", "run"]
     with open(folder / "stdin", "rb") as given:
-        run = subprocess.run(["rt", "run"], cwd=folder, stdin=given, stdout=subprocess.PIPE, stderr=subprocess.STDOUT)
+        run = subprocess.run(command, cwd=folder, stdin=given, stdout=subprocess.PIPE, stderr=subprocess.STDOUT)
     if run.returncode != 0:
         sys.stderr.buffer.write(run.stdout)
         sys.exit(1)
     return folder / "out" / crate
 
 
-def measured(program, write):
+def filled(given, write):
+    """Fills the file in a process of its own, and gives the line that is wanted.
+
+    The host counts to the peak memory of a program what the process had that started it. So this one stays small, some
+    14 MiB, below which no peak is told.
+    """
+    receiver, sender = os.pipe()
+    child = os.fork()
+    if child == 0:
+        wanted = write(given)
+        given.flush()
+        os.write(sender, wanted.encode())
+        os._exit(0)
+    os.close(sender)
+    with open(receiver, "rb") as told:
+        wanted = told.read().decode()
+    os.waitpid(child, 0)
+    return wanted
+
+
+def measured(program, write, *words):
     """Bytes of the input, seconds, and peak memory in MiB. `write` fills the input and gives the line that is wanted."""
     with tempfile.TemporaryFile("w+b") as given, tempfile.TemporaryFile("w+b") as taken:
-        wanted = write(given)
-        length = given.tell()
-        given.seek(0)
+        wanted = filled(given, write)
+        length = os.fstat(given.fileno()).st_size
+        os.lseek(given.fileno(), 0, os.SEEK_SET)
         start = time.monotonic()
-        process = subprocess.Popen([program], stdin=given, stdout=taken)
+        process = subprocess.Popen([program, *words], stdin=given, stdout=taken)
         _, status, usage = os.wait4(process.pid, 0)
         seconds = time.monotonic() - start
         taken.seek(0)

@@ -1,0 +1,43 @@
+#!/bin/sh
+# Loads rows of four typed columns from standard input, and prints thousands of rows per second and peak memory, for
+# 100,000 and for 400,000 rows, so that growth is seen. Needs python3 to write the files and to measure.
+cd "$(dirname "$0")" || exit 1
+exec python3 -B - <<'PY'
+import datetime
+import json
+
+from measuring import built, measured
+
+START = datetime.date(1970, 1, 1)
+
+DESCRIPTOR = json.dumps({
+    "fields": [
+        {"name": "id", "type": "integer"},
+        {"name": "value", "type": "number"},
+        {"name": "day", "type": "date"},
+        {"name": "note", "constraints": {"maxLength": 40}},
+    ],
+    "primaryKey": "id",
+})
+
+
+def row(place):
+    day = (START + datetime.timedelta(days=place % 20000)).isoformat()
+    return f'{place},{place % 1000}.{place % 100:02d},{day},"Station {place % 40}, ""Nord"""\n'
+
+
+def rows_of(count):
+    def write(file):
+        file.write(b"id,value,day,note\n")
+        file.write("".join(row(place) for place in range(count)).encode())
+        return f"{count} rows"
+
+    return write
+
+
+program = built("row_count")
+print(f"{'rows':>9} {'MiB':>7} {'seconds':>9} {'k rows/s':>9} {'peak MiB':>9}")
+for count in (100_000, 400_000):
+    length, seconds, peak = measured(program, rows_of(count), DESCRIPTOR)
+    print(f"{count:>9} {length / 2**20:>7.2f} {seconds:>9.3f} {count / seconds / 1000:>9.1f} {peak:>9.1f}")
+PY
