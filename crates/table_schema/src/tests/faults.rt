@@ -55,99 +55,33 @@ fn tells_faults_of_types(rt: HostRuntime) -> Result<(), Fail> {
 
 #[test]
 fn tells_bad_constraints(rt: HostRuntime) -> Result<(), Fail> {
-    let rows: [(&str, &str); 22] = [
-        (
-            "{\"fields\":[{\"name\":\"a\",\"constraints\":{\"minimum\":1}}]}",
-            "BadConstraint(1)",
-        ),
-        (
-            "{\"fields\":[{\"name\":\"a\",\"constraints\":[]}]}",
-            "BadConstraint(1)",
-        ),
-        (
-            "{\"fields\":[{\"name\":\"a\",\"constraints\":{\"required\":\"true\"}}]}",
-            "BadConstraint(1)",
-        ),
-        (
-            "{\"fields\":[{\"name\":\"a\",\"constraints\":{\"unique\":1}}]}",
-            "BadConstraint(1)",
-        ),
-        (
-            "{\"fields\":[{\"name\":\"a\",\"constraints\":{\"minLength\":-1}}]}",
-            "BadConstraint(1)",
-        ),
-        (
-            "{\"fields\":[{\"name\":\"a\",\"constraints\":{\"maxLength\":\"1\"}}]}",
-            "BadConstraint(1)",
-        ),
-        (
-            "{\"fields\":[{\"name\":\"a\",\"constraints\":{\"enum\":[]}}]}",
-            "BadConstraint(1)",
-        ),
-        (
-            "{\"fields\":[{\"name\":\"a\",\"constraints\":{\"enum\":[\"a\",null]}}]}",
-            "BadConstraint(1)",
-        ),
-        (
-            "{\"fields\":[{\"name\":\"a\",\"constraints\":{\"enum\":[1]}}]}",
-            "BadConstraint(1)",
-        ),
-        (
-            "{\"fields\":[{\"name\":\"a\",\"type\":\"integer\",\"constraints\":{\"minLength\":1}}]}",
-            "BadConstraint(1)",
-        ),
-        (
-            "{\"fields\":[{\"name\":\"a\",\"type\":\"boolean\",\"constraints\":{\"maximum\":true}}]}",
-            "BadConstraint(1)",
-        ),
-        (
-            "{\"fields\":[{\"name\":\"a\",\"type\":\"date\",\"constraints\":{\"minimum\":\"2023-02-29\"}}]}",
-            "BadConstraint(1)",
-        ),
-        (
-            "{\"fields\":[{\"name\":\"a\",\"type\":\"year\",\"constraints\":{\"minimum\":10000}}]}",
-            "BadConstraint(1)",
-        ),
-        (
-            "{\"fields\":[{\"name\":\"a\",\"type\":\"number\",\"groupChar\":\".\"}]}",
-            "BadConstraint(1)",
-        ),
-        (
-            "{\"fields\":[{\"name\":\"a\",\"type\":\"number\",\"decimalChar\":\"1\"}]}",
-            "BadConstraint(1)",
-        ),
-        (
-            "{\"fields\":[{\"name\":\"a\",\"type\":\"number\",\"decimalChar\":\"e\"}]}",
-            "BadConstraint(1)",
-        ),
-        (
-            "{\"fields\":[{\"name\":\"a\",\"type\":\"number\",\"decimalChar\":\"\"}]}",
-            "BadConstraint(1)",
-        ),
-        (
-            "{\"fields\":[{\"name\":\"a\",\"type\":\"number\",\"decimalChar\":\"..\"}]}",
-            "BadConstraint(1)",
-        ),
-        (
-            "{\"fields\":[{\"name\":\"a\",\"type\":\"number\",\"groupChar\":\"+\"}]}",
-            "BadConstraint(1)",
-        ),
-        (
-            "{\"fields\":[{\"name\":\"a\",\"type\":\"number\",\"bareNumber\":\"x\"}]}",
-            "BadConstraint(1)",
-        ),
-        (
-            "{\"fields\":[{\"name\":\"a\",\"type\":\"boolean\",\"trueValues\":\"yes\"}]}",
-            "BadConstraint(1)",
-        ),
-        (
-            "{\"fields\":[{\"name\":\"a\",\"type\":\"boolean\",\"falseValues\":[0]}]}",
-            "BadConstraint(1)",
-        ),
+    let descriptors: [&str; 22] = [
+        r#"{"fields":[{"name":"a","constraints":{"minimum":1}}]}"#,
+        r#"{"fields":[{"name":"a","constraints":[]}]}"#,
+        r#"{"fields":[{"name":"a","constraints":{"required":"true"}}]}"#,
+        r#"{"fields":[{"name":"a","constraints":{"unique":1}}]}"#,
+        r#"{"fields":[{"name":"a","constraints":{"minLength":-1}}]}"#,
+        r#"{"fields":[{"name":"a","constraints":{"maxLength":"1"}}]}"#,
+        r#"{"fields":[{"name":"a","constraints":{"enum":[]}}]}"#,
+        r#"{"fields":[{"name":"a","constraints":{"enum":["a",null]}}]}"#,
+        r#"{"fields":[{"name":"a","constraints":{"enum":[1]}}]}"#,
+        r#"{"fields":[{"name":"a","type":"integer","constraints":{"minLength":1}}]}"#,
+        r#"{"fields":[{"name":"a","type":"boolean","constraints":{"maximum":true}}]}"#,
+        r#"{"fields":[{"name":"a","type":"date","constraints":{"minimum":"2023-02-29"}}]}"#,
+        r#"{"fields":[{"name":"a","type":"year","constraints":{"minimum":10000}}]}"#,
+        r#"{"fields":[{"name":"a","type":"number","groupChar":"."}]}"#,
+        r#"{"fields":[{"name":"a","type":"number","decimalChar":"1"}]}"#,
+        r#"{"fields":[{"name":"a","type":"number","decimalChar":"e"}]}"#,
+        r#"{"fields":[{"name":"a","type":"number","decimalChar":""}]}"#,
+        r#"{"fields":[{"name":"a","type":"number","decimalChar":".."}]}"#,
+        r#"{"fields":[{"name":"a","type":"number","groupChar":"+"}]}"#,
+        r#"{"fields":[{"name":"a","type":"number","bareNumber":"x"}]}"#,
+        r#"{"fields":[{"name":"a","type":"boolean","trueValues":"yes"}]}"#,
+        r#"{"fields":[{"name":"a","type":"boolean","falseValues":[0]}]}"#,
     ];
-    for (descriptor, wanted) in rows.iter() {
+    for descriptor in descriptors.iter() {
         let read = rewritten(rt.alloc(), descriptor)?;
-        assert_eq!(rt; read.as_str(), *wanted, "{descriptor}");
+        assert_eq!(rt; read.as_str(), "BadConstraint(1)", "{descriptor}");
     }
     Ok(())
 }
@@ -195,76 +129,28 @@ fn tells_faults_of_names_before_others(rt: HostRuntime) -> Result<(), Fail> {
 
 #[test]
 fn tells_bad_keys(rt: HostRuntime) -> Result<(), Fail> {
-    let rows: [(&str, &str); 17] = [
-        (
-            "{\"fields\":[{\"name\":\"a\"}],\"primaryKey\":\"b\"}",
-            "BadKey",
-        ),
-        (
-            "{\"fields\":[{\"name\":\"a\"}],\"primaryKey\":[\"a\",\"a\"]}",
-            "BadKey",
-        ),
-        ("{\"fields\":[{\"name\":\"a\"}],\"primaryKey\":1}", "BadKey"),
-        (
-            "{\"fields\":[{\"name\":\"a\"}],\"missingValues\":\"\"}",
-            "BadKey",
-        ),
-        (
-            "{\"fields\":[{\"name\":\"a\"}],\"missingValues\":[1]}",
-            "BadKey",
-        ),
-        (
-            "{\"fields\":[{\"name\":\"a\"}],\"foreignKeys\":{}}",
-            "BadKey",
-        ),
-        (
-            "{\"fields\":[{\"name\":\"a\"}],\"foreignKeys\":[1]}",
-            "BadKey",
-        ),
-        (
-            "{\"fields\":[{\"name\":\"a\"}],\"foreignKeys\":[{\"fields\":\"a\"}]}",
-            "BadKey",
-        ),
-        (
-            "{\"fields\":[{\"name\":\"a\"}],\"foreignKeys\":[{\"fields\":\"b\",\"reference\":{\"resource\":\"r\",\"fields\":\"x\"}}]}",
-            "BadKey",
-        ),
-        (
-            "{\"fields\":[{\"name\":\"a\"}],\"foreignKeys\":[{\"fields\":[\"a\",\"a\"],\"reference\":{\"resource\":\"r\",\"fields\":[\"x\",\"y\"]}}]}",
-            "BadKey",
-        ),
-        (
-            "{\"fields\":[{\"name\":\"a\"}],\"foreignKeys\":[{\"fields\":\"a\",\"reference\":{\"resource\":\"r\",\"fields\":[\"x\",\"y\"]}}]}",
-            "BadKey",
-        ),
-        (
-            "{\"fields\":[{\"name\":\"a\"}],\"foreignKeys\":[{\"fields\":\"a\",\"reference\":{\"resource\":1,\"fields\":\"x\"}}]}",
-            "BadKey",
-        ),
-        (
-            "{\"fields\":[{\"name\":\"a\"}],\"foreignKeys\":[{\"fields\":\"a\",\"reference\":{\"fields\":\"a\"}}]}",
-            "BadKey",
-        ),
-        (
-            "{\"fields\":[{\"name\":\"a\"},{\"name\":\"b\",\"type\":\"integer\"}],\"primaryKey\":\"a\",\"foreignKeys\":[{\"fields\":\"b\",\"reference\":{\"fields\":\"a\"}}]}",
-            "BadKey",
-        ),
-        (
-            "{\"fields\":[{\"name\":\"a\"},{\"name\":\"b\"}],\"primaryKey\":\"a\",\"foreignKeys\":[{\"fields\":\"a\",\"reference\":{\"fields\":\"b\"}}]}",
-            "BadKey",
-        ),
-        (
-            "{\"fields\":[{\"name\":\"a\"},{\"name\":\"b\"},{\"name\":\"c\"},{\"name\":\"d\"}],\"primaryKey\":[\"a\",\"b\"],\"foreignKeys\":[{\"fields\":[\"c\",\"d\"],\"reference\":{\"fields\":[\"b\",\"a\"]}}]}",
-            "BadKey",
-        ),
-        (
-            "{\"fields\":[{\"name\":\"a\"},{\"name\":\"b\"}],\"primaryKey\":[\"a\",\"b\"],\"foreignKeys\":[{\"fields\":\"b\",\"reference\":{\"fields\":\"a\"}}]}",
-            "BadKey",
-        ),
+    let descriptors: [&str; 17] = [
+        r#"{"fields":[{"name":"a"}],"primaryKey":"b"}"#,
+        r#"{"fields":[{"name":"a"}],"primaryKey":["a","a"]}"#,
+        r#"{"fields":[{"name":"a"}],"primaryKey":1}"#,
+        r#"{"fields":[{"name":"a"}],"missingValues":""}"#,
+        r#"{"fields":[{"name":"a"}],"missingValues":[1]}"#,
+        r#"{"fields":[{"name":"a"}],"foreignKeys":{}}"#,
+        r#"{"fields":[{"name":"a"}],"foreignKeys":[1]}"#,
+        r#"{"fields":[{"name":"a"}],"foreignKeys":[{"fields":"a"}]}"#,
+        r#"{"fields":[{"name":"a"}],"foreignKeys":[{"fields":"b","reference":{"resource":"r","fields":"x"}}]}"#,
+        r#"{"fields":[{"name":"a"}],"foreignKeys":[{"fields":["a","a"],"reference":{"resource":"r","fields":["x","y"]}}]}"#,
+        r#"{"fields":[{"name":"a"}],"foreignKeys":[{"fields":"a","reference":{"resource":"r","fields":["x","y"]}}]}"#,
+        r#"{"fields":[{"name":"a"}],"foreignKeys":[{"fields":"a","reference":{"resource":1,"fields":"x"}}]}"#,
+        r#"{"fields":[{"name":"a"}],"foreignKeys":[{"fields":"a","reference":{"fields":"a"}}]}"#,
+        r#"{"fields":[{"name":"a"},{"name":"b","type":"integer"}],"primaryKey":"a","foreignKeys":[{"fields":"b","reference":{"fields":"a"}}]}"#,
+        r#"{"fields":[{"name":"a"},{"name":"b"}],"primaryKey":"a","foreignKeys":[{"fields":"a","reference":{"fields":"b"}}]}"#,
+        r#"{"fields":[{"name":"a"},{"name":"b"},{"name":"c"},{"name":"d"}],"primaryKey":["a","b"],"foreignKeys":[{"fields":["c","d"],"reference":{"fields":["b","a"]}}]}"#,
+        r#"{"fields":[{"name":"a"},{"name":"b"}],"primaryKey":["a","b"],"foreignKeys":[{"fields":"b","reference":{"fields":"a"}}]}"#,
     ];
-    for (descriptor, wanted) in rows.iter() {
+    for descriptor in descriptors.iter() {
         let read = rewritten(rt.alloc(), descriptor)?;
-        assert_eq!(rt; read.as_str(), *wanted, "{descriptor}");
+        assert_eq!(rt; read.as_str(), "BadKey", "{descriptor}");
     }
     Ok(())
 }

@@ -155,74 +155,31 @@ fn reads_integers(rt: HostRuntime) -> Result<(), Fail> {
 #[test]
 fn reads_spelled_numbers(rt: HostRuntime) -> Result<(), Fail> {
     let rows: [(&str, &str, &str); 16] = [
+        (r#""bareNumber":false"#, "Nr.5", r#""0.5""#),
+        (r#""bareNumber":false"#, "\u{20AC}1.5e1 %", r#""15""#),
+        (r#""bareNumber":false"#, "5.", r#""5""#),
+        (r#""bareNumber":false"#, "5-", r#""5""#),
+        (r#""decimalChar":",""#, "1,5", r#""1.5""#),
+        (r#""decimalChar":",""#, "1.5", "NotOfType"),
         (
-            "\"type\":\"number\",\"bareNumber\":false",
-            "Nr.5",
-            "\"0.5\"",
-        ),
-        (
-            "\"type\":\"number\",\"bareNumber\":false",
-            "\u{20AC}1.5e1 %",
-            "\"15\"",
-        ),
-        ("\"type\":\"number\",\"bareNumber\":false", "5.", "\"5\""),
-        ("\"type\":\"number\",\"bareNumber\":false", "5-", "\"5\""),
-        (
-            "\"type\":\"number\",\"decimalChar\":\",\"",
-            "1,5",
-            "\"1.5\"",
-        ),
-        (
-            "\"type\":\"number\",\"decimalChar\":\",\"",
-            "1.5",
-            "NotOfType",
-        ),
-        (
-            "\"type\":\"number\",\"decimalChar\":\"\u{066B}\",\"groupChar\":\"\u{00A0}\"",
+            "\"decimalChar\":\"\u{066B}\",\"groupChar\":\"\u{00A0}\"",
             "1\u{00A0}000\u{066B}5",
-            "\"1000.5\"",
+            r#""1000.5""#,
         ),
-        (
-            "\"type\":\"number\",\"groupChar\":\",\"",
-            "1,234,567.5",
-            "\"1234567.5\"",
-        ),
-        (
-            "\"type\":\"number\",\"groupChar\":\",\"",
-            "1,2,3",
-            "\"123\"",
-        ),
-        ("\"type\":\"number\",\"groupChar\":\",\"", ",1", "NotOfType"),
-        ("\"type\":\"number\",\"groupChar\":\",\"", "1,", "NotOfType"),
-        (
-            "\"type\":\"number\",\"groupChar\":\",\"",
-            "1,,0",
-            "NotOfType",
-        ),
-        (
-            "\"type\":\"number\",\"groupChar\":\",\"",
-            "1,.5",
-            "NotOfType",
-        ),
-        (
-            "\"type\":\"number\",\"groupChar\":\",\"",
-            "1.5,5",
-            "NotOfType",
-        ),
-        (
-            "\"type\":\"number\",\"groupChar\":\",\"",
-            "1e1,0",
-            "NotOfType",
-        ),
-        (
-            "\"type\":\"number\",\"groupChar\":\",\"",
-            "-,1",
-            "NotOfType",
-        ),
+        (r#""groupChar":",""#, "1,234,567.5", r#""1234567.5""#),
+        (r#""groupChar":",""#, "1,2,3", r#""123""#),
+        (r#""groupChar":",""#, ",1", "NotOfType"),
+        (r#""groupChar":",""#, "1,", "NotOfType"),
+        (r#""groupChar":",""#, "1,,0", "NotOfType"),
+        (r#""groupChar":",""#, "1,.5", "NotOfType"),
+        (r#""groupChar":",""#, "1.5,5", "NotOfType"),
+        (r#""groupChar":",""#, "1e1,0", "NotOfType"),
+        (r#""groupChar":",""#, "-,1", "NotOfType"),
     ];
-    for (field, text, wanted) in rows.iter() {
-        let read = read_as(rt.alloc(), field, text)?;
-        assert_eq!(rt; read.as_str(), *wanted, "{field}: {text}");
+    for (options, text, wanted) in rows.iter() {
+        let field = format!(in rt.alloc(); "\"type\":\"number\",{options}")?;
+        let read = read_as(rt.alloc(), field.as_str(), text)?;
+        assert_eq!(rt; read.as_str(), *wanted, "{options}: {text}");
     }
     Ok(())
 }
