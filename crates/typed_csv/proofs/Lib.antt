@@ -1,4 +1,5 @@
 pub mod ChunkLemmas
+pub mod ColumnLemmas
 pub mod HeaderLemmas
 pub mod LawLemmas
 pub mod LoadingLemmas

@@ -1,10 +1,11 @@
--- Rows by the place of each field, for the laws.
-use Rattle.std.specs.Prelude.{◌≡◌, ◌≤◌, ℕ, List, length, Option, Some, slice_get}
+-- Headers by the place of each column, and rows by the place of each field, for the laws.
+use Rattle.std.specs.Prelude.{◌≡◌, ◌<◌, ◌≤◌, ℕ, false, List, length, take, Option, Some, slice_get}
 use Rattle.table_schema.specs.Field.{FieldValue}
 use Rattle.table_schema.specs.Reading.{Fails, Reads}
 use Rattle.table_schema.specs.declared.cell.Cell.{Cell}
 use Rattle.typed_csv.specs.declared.row.BadCell.{BadCell}
-use Rattle.typed_csv.specs.Records.{text_in}
+use Rattle.typed_csv.specs.Header.{is_in_order}
+use Rattle.typed_csv.specs.Records.{text_at, text_in}
 use Rattle.typed_csv.specs.Rows.{rank_of}
 
 -- The field at this place, counted from 0, fails on the text in its column, and this is its bad cell.
@@ -31,3 +32,13 @@ AreCellsOf texts fields columns cells =
     × ((place : ℕ) (field : FieldValue) (column : Option ℕ) (cell : Cell) →
     slice_get fields place ≡ Some field → slice_get columns place ≡ Some column → slice_get cells place ≡ Some cell →
     Reads field (text_in texts column) cell)
+
+-- The column, counted from 0, has a name that is out of order behind the names before it.
+abbrev pub IsOutOfOrder : List FieldValue → List (List ℕ) → ℕ → Type 0
+IsOutOfOrder fields names column =
+    (column < length names) × (is_in_order fields (take column names) (text_at names column) ≡ false)
+
+-- It is out of order, and no column before it is.
+abbrev pub IsFirstOutOfOrder : List FieldValue → List (List ℕ) → ℕ → Type 0
+IsFirstOutOfOrder fields names column =
+    IsOutOfOrder fields names column × ((earlier : ℕ) → earlier < column → IsOutOfOrder fields names earlier → ⊥)
