@@ -9,7 +9,6 @@ mod JsonLevels
 mod JsonReading
 mod JsonSame
 mod JsonTurns
-pub mod LineLemmas
 mod MomentExamples
 pub mod MomentTextLemmas
 mod NameExamples

@@ -1,15 +1,7 @@
--- Computed examples of lines, of counters and of the devices in memory.
+-- Computed examples of counters and of the devices in memory.
 use Rattle.std.proofs.Common.{◌≡◌, [], ◌∷◌, refl, Some, pos}
-use Rattle.std.specs.Str.Lines.{lines}
 use Rattle.portal_base.specs.Counted.{next_count, numbers_to, script_moments, told_below_last}
 use Rattle.portal_base.specs.Memory.{after_read, after_write}
-
--- ab CR LF, an empty line, and a last line that keeps its CR
-lines-of-three : lines (97 ∷ 98 ∷ 13 ∷ 10 ∷ 10 ∷ 99 ∷ 13 ∷ []) ≡ (97 ∷ 98 ∷ []) ∷ [] ∷ (99 ∷ 13 ∷ []) ∷ []
-lines-of-three = refl
-
-lines-of-none : lines [] ≡ []
-lines-of-none = refl
 
 next_count-at-last : next_count 18446744073709551615 ≡ 18446744073709551615
 next_count-at-last = refl

@@ -1,9 +1,7 @@
 pub mod Counted
-pub mod Drafts
 pub mod formers
 pub mod Json
 pub mod Id
-pub mod Lines
 pub mod Memory
 pub mod Moment
 pub mod MomentReading

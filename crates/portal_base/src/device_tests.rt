@@ -1,35 +1,12 @@
-// Tests of the devices, of lines and of whole pieces.
+// Tests of the devices.
 use crate::counted::{CountNonces, ScriptClock};
-use crate::lines::{LineFault, LineReader, NextLine};
-use crate::memory::{MemorySink, MemorySource};
+use crate::memory::MemorySink;
 use crate::outside::{Clock, Failed, Nonces, Sink, Source};
 use crate::seq::Seq;
 use crate::std_adapters::{StdSink, StdSource};
-use crate::write::write_whole;
 use std::alloc::{AllocError, Global};
 use std::io;
-use std::io::{Cursor, ErrorKind, Read, Write};
-
-// A source that gives one byte at a time.
-#[derive(Drop)]
-struct OneByOne {
-    inner: MemorySource,
-}
-
-impl Source for OneByOne {
-    ghost use Rattle.std.specs.Prelude.{None};
-
-    ghost to_come = { λ _. None };
-
-    ghost faults = { λ s. s.inner.plan.faults };
-
-    fn read(&mut self, into: &mut [u8]) -> Result<usize, Failed> {
-        if into.is_empty() {
-            return Ok(0);
-        }
-        self.inner.read(&mut into[..1])
-    }
-}
+use std::io::{ErrorKind, Read, Write};
 
 #[derive(Drop)]
 struct Broken;
@@ -54,112 +31,6 @@ fn numbers(alloc: Global, items: &[u64]) -> Result<Seq<u64>, AllocError> {
     Ok(Seq::from(items.to_vec(alloc)?))
 }
 
-fn memory(alloc: Global, text: &str, failing: &[u64]) -> Result<MemorySource, AllocError> {
-    let bytes = Seq::from(text.as_bytes().to_vec(alloc)?);
-    Ok(MemorySource::new(bytes, numbers(alloc, failing)?))
-}
-
-// What up to twelve calls of `next` answer: each line in brackets, `!` for one that is too long, `.` at the end, and
-// a letter for a fault.
-fn told<S: Source>(
-    alloc: Global,
-    source: &mut S,
-    longest: usize,
-    most: u64,
-) -> Result<Vec<u8>, AllocError> {
-    let mut told = Vec::new(alloc);
-    let mut reader = LineReader::new(alloc, longest, most)?;
-    for _ in 0..12 {
-        match reader.next(source) {
-            Ok(NextLine::Line) => {
-                told.push(b'[')?;
-                told.extend_from_slice(reader.line())?;
-                told.push(b']')?;
-            }
-            Ok(NextLine::TooLong) => told.push(b'!')?,
-            Ok(NextLine::End) => {
-                told.push(b'.')?;
-                return Ok(told);
-            }
-            Err(LineFault::Failed) => told.push(b'F')?,
-            Err(LineFault::TooMuch) => {
-                told.push(b'M')?;
-                return Ok(told);
-            }
-            Err(LineFault::OutOfMemory) => return Err(AllocError),
-        }
-    }
-    Ok(told)
-}
-
-#[test]
-fn lines_end_as_in_std(rt: HostRuntime) -> Result<(), AllocError> {
-    let alloc = rt.alloc();
-    for (text, longest, want) in [
-        ("", 4, "."),
-        ("\n", 4, "[]."),
-        ("\n\n", 4, "[][]."),
-        ("ab\ncd\n", 4, "[ab][cd]."),
-        ("ab\ncd", 4, "[ab][cd]."),
-        ("ab\r\ncd\r\n", 4, "[ab][cd]."),
-        ("ab\r\r\n", 4, "[ab\r]."),
-        ("a\rb\n", 4, "[a\rb]."),
-        ("ab\r", 4, "[ab\r]."),
-        ("\r\n\r", 4, "[][\r]."),
-        ("abcd\nx\n", 4, "[abcd][x]."),
-        ("abcd\r\nx\n", 4, "[abcd][x]."),
-        ("abcde\nx\n", 4, "![x]."),
-        ("abcd\r\r\nx\n", 4, "![x]."),
-        ("abcdefgh\r\nx", 4, "![x]."),
-        ("abcde", 4, "!."),
-        ("abcd\r", 4, "!."),
-        ("abcd", 4, "[abcd]."),
-        ("\na\n", 0, "[]!."),
-    ] {
-        let mut source = memory(alloc, text, &[])?;
-        let whole = told(alloc, &mut source, longest, 100)?;
-        assert_eq!(rt; whole.as_slice(), want.as_bytes(), "at {text:?}");
-        let inner = memory(alloc, text, &[])?;
-        let single = told(alloc, &mut OneByOne { inner }, longest, 100)?;
-        assert_eq!(rt;
-            single.as_slice(),
-            want.as_bytes(),
-            "byte by byte at {text:?}"
-        );
-    }
-    Ok(())
-}
-
-#[test]
-fn a_source_may_fail_or_give_too_much(rt: HostRuntime) -> Result<(), AllocError> {
-    let alloc = rt.alloc();
-    for (failing, most, want) in [
-        (&[][..], 6, "[ab][cd]."),
-        (&[1, 3], 6, "F[ab][cd]F."),
-        (&[], 5, "M"),
-    ] {
-        let mut source = memory(alloc, "ab\ncd\n", failing)?;
-        let all = told(alloc, &mut source, 4, most)?;
-        assert_eq!(rt; all.as_slice(), want.as_bytes(), "at most {most}");
-    }
-    Ok(())
-}
-
-#[test]
-fn a_line_crosses_the_window(rt: HostRuntime) -> Result<(), AllocError> {
-    let alloc = rt.alloc();
-    let mut bytes = vec![in alloc; b'x'; 70_000]?;
-    bytes.extend_from_slice(b"\ny\n")?;
-    let mut source = MemorySource::new(Seq::from(bytes), Seq::new(alloc));
-    let mut reader = LineReader::new(alloc, 70_000, 1_000_000)?;
-    assert_eq!(rt; reader.next(&mut source), Ok(NextLine::Line));
-    assert_eq!(rt; reader.line().len(), 70_000);
-    assert_eq!(rt; reader.next(&mut source), Ok(NextLine::Line));
-    assert_eq!(rt; reader.line(), "y".as_bytes());
-    assert_eq!(rt; reader.next(&mut source), Ok(NextLine::End));
-    Ok(())
-}
-
 #[test]
 fn a_memory_sink_takes_what_fits(rt: HostRuntime) -> Result<(), AllocError> {
     let alloc = rt.alloc();
@@ -169,25 +40,6 @@ fn a_memory_sink_takes_what_fits(rt: HostRuntime) -> Result<(), AllocError> {
     assert_eq!(rt; sink.write(b"def"), Ok(2));
     assert_eq!(rt; sink.write(b"f"), Err(Failed));
     assert_eq!(rt; sink.taken(), "abcde".as_bytes());
-    Ok(())
-}
-
-#[test]
-fn a_whole_piece_is_written(rt: HostRuntime) -> Result<(), AllocError> {
-    let alloc = rt.alloc();
-    for (room, failing, is_ok, want) in [
-        (5, &[][..], true, "abcde"),
-        (4, &[], false, "abcd"),
-        (9, &[1], false, ""),
-    ] {
-        let mut sink = MemorySink::new(alloc, room, numbers(alloc, failing)?)?;
-        assert_eq!(rt;
-            write_whole(&mut sink, b"abcde").is_ok(),
-            is_ok,
-            "at room {room}"
-        );
-        assert_eq!(rt; sink.taken(), want.as_bytes(), "at room {room}");
-    }
     Ok(())
 }
 
@@ -204,20 +56,20 @@ fn counters_go_on(rt: HostRuntime) {
 #[test]
 fn std_readers_and_writers_are_adapted(rt: HostRuntime) -> Result<(), AllocError> {
     let alloc = rt.alloc();
-    let mut slice = StdSource::new(&b"ab\ncd"[..]);
-    let lines = told(alloc, &mut slice, 4, 100)?;
-    assert_eq!(rt; lines.as_slice(), "[ab][cd].".as_bytes());
-    let mut cursor = StdSource::new(Cursor::new(&b"ab\r\n"[..]));
-    let lines = told(alloc, &mut cursor, 4, 100)?;
-    assert_eq!(rt; lines.as_slice(), "[ab].".as_bytes());
-    let lines = told(alloc, &mut StdSource::new(Broken), 4, 100)?;
-    assert_eq!(rt; lines.as_slice(), "FFFFFFFFFFFF".as_bytes());
+    let mut into = [0; 4];
+    let mut source = StdSource::new(&b"abcde"[..]);
+    assert_eq!(rt; source.read(&mut into), Ok(4));
+    assert_eq!(rt; &into, b"abcd");
+    assert_eq!(rt; source.read(&mut into), Ok(1));
+    assert_eq!(rt; into[0], b'e');
+    assert_eq!(rt; source.read(&mut into), Ok(0));
+    assert_eq!(rt; StdSource::new(Broken).read(&mut into), Err(Failed));
 
     let mut bytes = Vec::new(alloc);
     let mut sink = StdSink::new(&mut bytes);
-    assert_eq!(rt; write_whole(&mut sink, b"abc"), Ok(()));
+    assert_eq!(rt; sink.write(b"abc"), Ok(3));
     drop(sink);
-    assert_eq!(rt; bytes.as_slice(), "abc".as_bytes());
-    assert_eq!(rt; write_whole(&mut StdSink::new(Broken), b"abc"), Err(Failed));
+    assert_eq!(rt; bytes.as_slice(), b"abc".as_slice());
+    assert_eq!(rt; StdSink::new(Broken).write(b"abc"), Err(Failed));
     Ok(())
 }

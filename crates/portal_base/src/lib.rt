@@ -7,7 +7,6 @@ pub mod counted;
 #[cfg(test)]
 mod device_tests;
 pub mod json_value;
-pub mod lines;
 pub mod members;
 pub mod memory;
 pub mod moment;
@@ -18,4 +17,3 @@ pub mod seq;
 pub mod std_adapters;
 pub mod text;
 pub mod value_laws;
-pub mod write;

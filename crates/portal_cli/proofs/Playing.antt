@@ -5,7 +5,7 @@ use Rattle.std.specs.Prelude.{filter}
 use Rattle.std.specs.Str.Lines.{lines}
 use Rattle.portal_base.proofs.OutsideLemmas.{Takes-none, Takes-append}
 use Rattle.portal_base.specs.Outside.{Gives, IsAtEnd}
-use Rattle.portal_base.specs.Lines.{Reading, EndsLine, TakesLine}
+use Rattle.portal_lines.specs.Lines.{Reading, EndsLine, TakesLine}
 use Rattle.portal_cli.proofs.Working.{works_none, works_more, before_more, wrote_more, written_for-append, DrawsAll-none, DrawsAll-more, begins_nothing}
 use Rattle.portal_cli.specs.Played.{Works, StopsLines, TakesTurn, EndsTurn, StopsTurn, EndsAll, Running, unless_empty}
 use Rattle.portal_cli.specs.Script.{script_lines, is_nonempty}

@@ -1,7 +1,7 @@
 -- What a part of a run has done: the lines that it worked, and what passed the devices meanwhile.
 use Rattle.std.specs.Prelude.{◌≡◌, ◌⊎◌, ℕ, ◌+◌, ℤ, List, [], ◌∷◌, ◌++◌, length, filter, Some}
 use Rattle.std.specs.Str.Lines.{lines}
-use Rattle.portal_base.specs.Lines.{Reading, TakesLine, FindsEnd}
+use Rattle.portal_lines.specs.Lines.{Reading, TakesLine, FindsEnd}
 use Rattle.portal_base.specs.Outside.{Gives, Takes}
 use Rattle.portal_cli.specs.Run.{Begins, Devices, Outlet, outlet_of, DrawsAll, standing}
 use Rattle.portal_cli.specs.Script.{script_lines, is_nonempty}

@@ -1,6 +1,6 @@
 -- Why work on a line, and a run, may stop.
-use Rattle.portal_base.specs.declared.lines.LineFault.{LineFault}
-use Rattle.portal_base.specs.declared.lines.LineFault.TheVariants.{Failed as source_failed, TooMuch as too_much, OutOfMemory as no_memory}
+use Rattle.portal_lines.specs.declared.lines.LineFault.{LineFault}
+use Rattle.portal_lines.specs.declared.lines.LineFault.TheVariants.{Failed as source_failed, TooMuch as too_much, OutOfMemory as no_memory}
 use Rattle.std.specs.Prelude.{◌≡◌, ◌⊎◌, codes}
 use Rattle.portal_cli.specs.declared.run.Status.{Status}
 use Rattle.portal_cli.specs.declared.run.Status.TheVariants as ended

@@ -4,7 +4,7 @@ ghost use Rattle.portal_base.specs.Outside.{Rose, Takes, TakesPrefix};
 ghost use Rattle.portal_cli.specs.Played.{WorksLines, StopsLines, TakesTurn, EndsTurn, StopsTurn, unless_empty};
 ghost use Rattle.portal_cli.specs.Stopped.{IsOfLine, stop_for};
 ghost use Rattle.portal_cli.specs.Run.{outlet, devices};
-ghost use Rattle.portal_base.specs.Lines.{bytes_left};
+ghost use Rattle.portal_lines.specs.Lines.{bytes_left};
 ghost use Rattle.portal_cli.specs.Reply.{not_built_line};
 ghost use Rattle.portal_cli.specs.Run.{PlaysAll, PlaysPart, GaveTooMuch};
 ghost use Rattle.portal_cli.specs.Script.{call_of_line};
@@ -17,9 +17,9 @@ use crate::portal::Portal;
 use crate::reply::line_of_reply;
 use crate::script::{LONGEST_LINE, ScriptCall, read_call};
 use crate::stated::stated_portal;
-use portal_base::lines::{LineFault, LineReader, NextLine};
 use portal_base::outside::{Clock, Nonces, Sink, Source};
-use portal_base::write::write_whole;
+use portal_lines::lines::{LineFault, LineReader, NextLine};
+use portal_lines::write::write_whole;
 use std::alloc::{AllocError, Global};
 
 /// The most bytes that input may give: 2^40.

@@ -1,5 +1,5 @@
 use Rattle.std.proofs.Common.{◌≤◌}
-use Rattle.portal_base.specs.Lines.{bytes_left}
+use Rattle.portal_lines.specs.Lines.{bytes_left}
 use Rattle.portal_cli.proofs.Playing.{Keeps}
 use Rattle.portal_cli.specs.Run.{devices}
 use Rattle.portal_cli.proofs.play.play.Given as goal

@@ -2,10 +2,10 @@
 ghost use Rattle.std.specs.Prelude.{◌≡◌, ◌↔◌, ◌<◌, ◌≤◌, ◌+◌, ◌≢◌, ◌==◌, ℕ, List, [], ◌++◌, ◌∷◌, length, drop, position, false, Ok, Err, IfOk, OnOk, OnErr};
 ghost use Rattle.std.specs.Str.Lines.{strip_carriage_return};
 ghost use Rattle.portal_base.specs.Outside.{Gives, Rose, IsAtEnd};
-ghost use Rattle.portal_base.specs.Lines.{TakesLine, SkipsLine, FindsEnd, Receives, bytes_left};
-ghost use Rattle.portal_base.specs.Drafts.{KeepsRaw, TakesPiece};
+ghost use Rattle.portal_lines.specs.Lines.{TakesLine, SkipsLine, FindsEnd, Receives, bytes_left};
+ghost use Rattle.portal_lines.specs.Drafts.{KeepsRaw, TakesPiece};
 
-use crate::outside::{Failed, Source};
+use portal_base::outside::{Failed, Source};
 use std::alloc::{AllocError, Global};
 use std::marker::Model;
 
@@ -35,7 +35,7 @@ pub enum LineFault {
 
 impl From<Failed> for LineFault {
     ghost use Rattle.std.specs.Prelude.{◌≡◌};
-    ghost use Rattle.portal_base.specs.declared.lines.LineFault.TheVariants.{Failed as failed};
+    ghost use Rattle.portal_lines.specs.declared.lines.LineFault.TheVariants.{Failed as failed};
 
     ghost from_gives = { λ _ fault. fault ≡ failed };
 
@@ -46,7 +46,7 @@ impl From<Failed> for LineFault {
 
 impl From<AllocError> for LineFault {
     ghost use Rattle.std.specs.Prelude.{◌≡◌};
-    ghost use Rattle.portal_base.specs.declared.lines.LineFault.TheVariants.{OutOfMemory};
+    ghost use Rattle.portal_lines.specs.declared.lines.LineFault.TheVariants.{OutOfMemory};
 
     ghost from_gives = { λ _ fault. fault ≡ OutOfMemory };
 
@@ -228,7 +228,7 @@ pub struct LineReader {
 }
 
 impl Model for LineReader {
-    ghost use Rattle.portal_base.specs.Lines.{Reading};
+    ghost use Rattle.portal_lines.specs.Lines.{Reading};
 
     ghost Value = { Reading };
 

@@ -1,6 +1,6 @@
 use Rattle.std.proofs.Common.{List, ◌++◌, ◌≤◌, ◌≡◌, ℕ, length}
 use Rattle.portal_base.specs.Outside.{Takes}
-use Rattle.portal_base.proofs.write.write_whole.Given as goal
+use Rattle.portal_lines.proofs.write.write_whole.Given as goal
 
 -- the sink took the part of the piece before the rest
 abbrev pub invariant-loop-rest : goal.invariant-loop-rest

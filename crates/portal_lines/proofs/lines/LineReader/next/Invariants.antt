@@ -1,6 +1,6 @@
 use Rattle.std.proofs.Common.{◌≡◌, ◌+◌, ◌-◌, ◌≤◌}
-use Rattle.portal_base.proofs.LineLemmas.{UnderWay}
-use Rattle.portal_base.proofs.lines.LineReader.next.Given as goal
+use Rattle.portal_lines.proofs.LineLemmas.{UnderWay}
+use Rattle.portal_lines.proofs.lines.LineReader.next.Given as goal
 
 -- part of a line came
 abbrev pub invariant-loop-self : goal.invariant-loop-self

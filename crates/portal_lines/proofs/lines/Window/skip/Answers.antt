@@ -1,6 +1,6 @@
 use Rattle.std.proofs.Common.{arith, ◌-◌, ap, ◌∙◌, drop, length, length-take}
-use Rattle.portal_base.proofs.LineLemmas.{range-drop}
-use Rattle.portal_base.proofs.lines.Window.skip.Goals as goal
+use Rattle.portal_lines.proofs.LineLemmas.{range-drop}
+use Rattle.portal_lines.proofs.lines.Window.skip.Goals as goal
 
 pub returns : goal.returns
 returns c =

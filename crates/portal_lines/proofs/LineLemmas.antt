@@ -12,8 +12,8 @@ use Rattle.std.proofs.lemmas.Bool.{eqb-true, ne_eqb}
 use Rattle.std.proofs.lemmas.Bool.Decides.{nat_tests}
 use Rattle.std.proofs.lemmas.Grind.{common_steps}
 use Rattle.portal_base.specs.Outside.{Gives, IsAtEnd}
-use Rattle.portal_base.specs.Lines.{Reading, EndsLine, TakesLine, SkipsLine, FindsEnd, bytes_left}
-use Rattle.portal_base.specs.Drafts.{HasNoFeed, KeepsRaw, TakesPiece}
+use Rattle.portal_lines.specs.Lines.{Reading, EndsLine, TakesLine, SkipsLine, FindsEnd, bytes_left}
+use Rattle.portal_lines.specs.Drafts.{HasNoFeed, KeepsRaw, TakesPiece}
 use Rattle.portal_base.proofs.OutsideLemmas.{Gives-none, Gives-append}
 
 lines_of_parts-cons : (x : List ℕ) (parts : List (List ℕ)) → 0 < length parts → lines_of_parts (x ∷ parts) ≡ strip_carriage_return x ∷ lines_of_parts parts

@@ -2,7 +2,7 @@
 ghost use Rattle.std.specs.Prelude.{◌≤◌, OnOk, OnErr};
 ghost use Rattle.portal_base.specs.Outside.{Takes, TakesPrefix, Rose};
 
-use crate::outside::{Failed, Sink};
+use portal_base::outside::{Failed, Sink};
 
 /// Writes the whole piece. After a fault the sink has taken some bytes from its front.
 pub fn write_whole<O: Sink>(output: &mut O, piece: &[u8]) -> Result<(), Failed>

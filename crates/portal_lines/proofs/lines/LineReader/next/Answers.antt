@@ -1,7 +1,7 @@
 use Rattle.std.proofs.Common.{◌≡◌, ◌∙◌, ◌<◌, ◌+◌, sym, ap, subst, arith, Ok, length}
-use Rattle.portal_base.specs.declared.lines.NextLine.TheVariants.{Line, TooLong, End}
-use Rattle.portal_base.proofs.LineLemmas.{UnderWay-read, TakesLine-ended, SkipsLine-ended, AtLast, AtLast-read, SomeLine-last, TakesLine-last, SkipsLine-last, FindsEnd-last, bytes_left-falls}
-use Rattle.portal_base.proofs.lines.LineReader.next.Goals as goal
+use Rattle.portal_lines.specs.declared.lines.NextLine.TheVariants.{Line, TooLong, End}
+use Rattle.portal_lines.proofs.LineLemmas.{UnderWay-read, TakesLine-ended, SkipsLine-ended, AtLast, AtLast-read, SomeLine-last, TakesLine-last, SkipsLine-last, FindsEnd-last, bytes_left-falls}
+use Rattle.portal_lines.proofs.lines.LineReader.next.Goals as goal
 
 pub returns-then-branch-clause-line : goal.returns-then-branch-clause-line
 returns-then-branch-clause-line g c is =

@@ -1,9 +1,9 @@
 use Rattle.std.proofs.Common.{◌≡◌, ◌∙◌, ◌++◌, refl, ap, subst, take, length, arith, Some, None}
 use Rattle.std.specs.Prelude.{position, ◌==◌}
 use Rattle.std.proofs.lemmas.List.{drop_all}
-use Rattle.portal_base.specs.Drafts.{KeepsRaw}
-use Rattle.portal_base.proofs.LineLemmas.{TakesPiece-at, HasNoFeed-all}
-use Rattle.portal_base.proofs.lines.Draft.take_from.Goals as goal
+use Rattle.portal_lines.specs.Drafts.{KeepsRaw}
+use Rattle.portal_lines.proofs.LineLemmas.{TakesPiece-at, HasNoFeed-all}
+use Rattle.portal_lines.proofs.lines.Draft.take_from.Goals as goal
 
 pub returns-in_ok-add-in-Some : goal.returns-in_ok-add-in-Some
 returns-in_ok-add-in-Some c =

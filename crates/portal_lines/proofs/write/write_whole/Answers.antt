@@ -1,8 +1,9 @@
 use Rattle.std.proofs.Common.{arith, subst, sym, ◌++◌, take}
 use Rattle.std.proofs.lemmas.Result.{err_from_is_err_and}
-use Rattle.portal_base.proofs.OutsideLemmas.{TakesPrefix-front, Takes-append, take_on}
+use Rattle.portal_base.proofs.OutsideLemmas.{Takes-append}
+use Rattle.portal_lines.proofs.PieceLemmas.{TakesPrefix-front, take_on}
 use Rattle.portal_base.specs.Outside.{Takes}
-use Rattle.portal_base.proofs.write.write_whole.Goals as goal
+use Rattle.portal_lines.proofs.write.write_whole.Goals as goal
 
 pub returns-in_err-count-clause-failed : goal.returns-in_err-count-clause-failed
 returns-in_err-count-clause-failed g c =
