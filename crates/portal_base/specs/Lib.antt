@@ -8,3 +8,4 @@ pub mod MomentReading
 pub mod MomentText
 pub mod Name
 pub mod Outside
+pub mod Text

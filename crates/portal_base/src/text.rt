@@ -1,4 +1,4 @@
-//! Owned text, which contracts see as the list of its bytes.
+//! Texts, which contracts see as the lists of their bytes.
 ghost use Rattle.std.specs.Prelude.{◌≡◌, ◌↔◌, [], IsTrue, IfOk, length, Some, nat_eq, refl};
 ghost use Rattle.std.specs.Ordering.{nat_cmp};
 ghost use Rattle.std.specs.Cmp.{partial_equiv_from_equiv};
@@ -9,27 +9,45 @@ use std::alloc::{AllocError, Global};
 use std::cmp::Ordering;
 use std::marker::Model;
 
-/// A string that owns its bytes, which are UTF-8. A contract sees it as the list of its bytes.
+/// A string whose bytes, which are UTF-8, it owns or stand in the program. A contract sees it as the list of them.
 #[derive(Debug, Drop)]
 pub struct Text {
-    string: String,
+    bytes: Bytes,
+}
+
+/// Where the bytes of a text stand.
+#[derive(Debug, Drop)]
+enum Bytes {
+    /// In memory of their own.
+    Owned(String),
+    /// In the program.
+    Static(&'static str),
 }
 
 impl Model for Text {
-    ghost use Rattle.std.specs.Prelude.{ℕ, List, string_bytes};
+    ghost use Rattle.std.specs.Prelude.{ℕ, List};
 
     ghost Value = { List ℕ };
 
-    ghost view = { λ t. string_bytes t.string };
+    ghost use Rattle.portal_base.specs.Text.{bytes_at};
+
+    ghost view = { λ t. bytes_at t.bytes };
 }
 
 impl Text {
     /// The empty text, which takes no memory.
-    pub fn new(alloc: Global) -> Text
+    pub fn new(_alloc: Global) -> Text
         ensures { result ≡ [] }
     {
+        Text::from_static("")
+    }
+
+    /// A text that stands in the program. Neither it nor a copy of it takes memory.
+    pub fn from_static(text: &'static str) -> Text
+        ensures { result ≡ text.now }
+    {
         Text {
-            string: String::new(alloc),
+            bytes: Bytes::Static(text),
         }
     }
 
@@ -38,38 +56,46 @@ impl Text {
         ensures { IfOk result (λ t. t ≡ text.now) }
     {
         let string = String::from_str(alloc, text)?;
-        Ok(Text { string })
+        Ok(Text {
+            bytes: Bytes::Owned(string),
+        })
     }
 
     pub fn as_str(&self) -> &str
         ensures { result.now ≡ self.now }
     {
-        self.string.as_str()
+        match &self.bytes {
+            Bytes::Owned(string) => string.as_str(),
+            Bytes::Static(text) => text,
+        }
     }
 
     pub fn as_bytes(&self) -> &[u8]
         ensures { result.now ≡ self.now }
     {
-        self.string.as_bytes()
+        self.as_str().as_bytes()
     }
 
     /// How many bytes it has.
     pub fn len(&self) -> usize
         ensures { result ≡ length self.now }
     {
-        self.string.len()
+        self.as_str().len()
     }
 
     pub fn is_empty(&self) -> bool
         ensures { IsTrue result ↔ (self.now ≡ []) }
     {
-        self.string.is_empty()
+        self.as_str().is_empty()
     }
 }
 
 impl TryClone for Text {
     fn try_clone(&self, alloc: Global) -> Result<Text, AllocError> {
-        Text::from_str(alloc, self.as_str())
+        match &self.bytes {
+            Bytes::Owned(string) => Text::from_str(alloc, string.as_str()),
+            Bytes::Static(text) => Ok(Text::from_static(text)),
+        }
     }
 }
 
@@ -79,7 +105,9 @@ impl From<String> for Text {
     ghost from_gives = { λ s t. t ≡ string_bytes s };
 
     fn from(string: String) -> Text {
-        Text { string }
+        Text {
+            bytes: Bytes::Owned(string),
+        }
     }
 }
 
