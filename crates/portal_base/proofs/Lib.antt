@@ -1,6 +1,8 @@
 pub mod CivilLemmas
 pub mod FormLemmas
 mod IdExamples
+mod KindExamples
+pub mod KindLemmas
 pub mod IdLemmas
 mod JsonBack
 mod JsonExamples

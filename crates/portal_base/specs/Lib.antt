@@ -1,6 +1,7 @@
 pub mod Counted
 pub mod formers
 pub mod Json
+pub mod Kinds
 pub mod Id
 pub mod Memory
 pub mod Moment

@@ -7,6 +7,7 @@ pub mod counted;
 #[cfg(test)]
 mod device_tests;
 pub mod json_value;
+pub mod kinds;
 pub mod members;
 pub mod memory;
 pub mod moment;
