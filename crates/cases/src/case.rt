@@ -3,6 +3,7 @@ use crate::escape::{EscapeFault, unescaped};
 use std::alloc::Global;
 use std::io::{self, ErrorKind};
 use std::rt::Files;
+use std::str::FromStr;
 use std::{fmt, fs};
 
 /// A case: its columns.
@@ -90,6 +91,17 @@ impl Case {
     pub fn text(&self, column: usize) -> io::Result<&str> {
         match std::str::from_utf8(self.bytes(column)) {
             Ok(text) => Ok(text),
+            Err(_) => Err(io::Error::from(ErrorKind::InvalidData)),
+        }
+    }
+
+    /// What the column is read as; `InvalidData` where its text isn't one.
+    pub fn parsed<T: FromStr>(&self, column: usize) -> io::Result<T>
+    where
+        T::Err: Drop,
+    {
+        match self.text(column)?.parse::<T>() {
+            Ok(value) => Ok(value),
             Err(_) => Err(io::Error::from(ErrorKind::InvalidData)),
         }
     }
