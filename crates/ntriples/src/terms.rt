@@ -35,7 +35,7 @@ fn literal_suffix(alloc: Global, lexical: Text, text: &str) -> Result<(Term, &st
     match split_first(text) {
         Some(('@', rest)) => {
             let (tag, rest) = langtag(alloc, rest)?;
-            let lang_string = Text::from_str(alloc, RDF_LANG_STRING)?;
+            let lang_string = Text::from_static(RDF_LANG_STRING);
             Ok((Term::Literal(lexical, lang_string, Some(tag)), rest))
         }
         Some(('^', rest)) => {
@@ -43,7 +43,7 @@ fn literal_suffix(alloc: Global, lexical: Text, text: &str) -> Result<(Term, &st
             Ok((Term::Literal(lexical, datatype, None), rest))
         }
         _ => {
-            let string = Text::from_str(alloc, XSD_STRING)?;
+            let string = Text::from_static(XSD_STRING);
             Ok((Term::Literal(lexical, string, None), text))
         }
     }
