@@ -4,8 +4,6 @@ ghost use Rattle.std.specs.Option.{option_copied};
 ghost use Rattle.portal_base.specs.Json.{json_text, json_reading, member_of, first_of, IsReadable};
 
 mod read;
-#[cfg(test)]
-mod tests;
 mod write;
 
 use crate::seq::Seq;

@@ -4,8 +4,6 @@
 pub mod caller;
 pub mod copy;
 pub mod counted;
-#[cfg(test)]
-mod device_tests;
 pub mod json_value;
 pub mod kinds;
 pub mod members;

@@ -167,6 +167,3 @@ fn seconds_of(civil: DateTime) -> i64
     let start = date(1970, 1, 1).to_datetime(Time::midnight());
     civil.duration_since(start).as_secs()
 }
-
-#[cfg(test)]
-mod tests;

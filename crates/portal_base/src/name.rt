@@ -155,6 +155,3 @@ fn is_of_id(place: usize, byte: u8) -> bool
         matches!(byte, b'0'..=b'9' | b'a'..=b'f')
     }
 }
-
-#[cfg(test)]
-mod tests;

@@ -18,6 +18,3 @@ pub fn id_of(alloc: Global, nonce: Nonce) -> Result<Text, AllocError>
     let id = Uuid::from_u128(nonce.0).hyphenated();
     Text::from_str(alloc, id.encode_lower(&mut buffer))
 }
-
-#[cfg(test)]
-mod tests;

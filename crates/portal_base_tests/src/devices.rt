@@ -1,9 +1,9 @@
-// Tests of the devices.
-use crate::counted::{CountNonces, ScriptClock};
-use crate::memory::MemorySink;
-use crate::outside::{Clock, Failed, Nonces, Sink, Source};
-use crate::seq::Seq;
-use crate::std_adapters::{StdSink, StdSource};
+//! Devices, over readers and writers that fail.
+use portal_base::counted::{CountNonces, ScriptClock};
+use portal_base::memory::MemorySink;
+use portal_base::outside::{Clock, Failed, Nonces, Sink, Source};
+use portal_base::seq::Seq;
+use portal_base::std_adapters::{StdSink, StdSource};
 use std::alloc::{AllocError, Global};
 use std::io;
 use std::io::{ErrorKind, Read, Write};

@@ -1,0 +1,29 @@
+//! Values that no text gives, and what becomes of names.
+use portal_base::json_value::Json;
+use portal_base::name::Name;
+use portal_base::seq::Seq;
+use portal_base::text::Text;
+use std::test::Fail;
+
+#[test]
+fn writes_wide_numbers_and_any_order(rt: HostRuntime) -> Result<(), Fail> {
+    let alloc = rt.alloc();
+    let mut entries = Vec::new(alloc);
+    entries.push((Text::from_str(alloc, "b")?, Json::Whole(i128::MAX)))?;
+    entries.push((Text::from_str(alloc, "a")?, Json::Whole(i128::MIN)))?;
+    let map = Json::Map(Seq::from(entries));
+    let written = map.text(alloc)?;
+    assert_eq!(rt;
+        written.as_str(),
+        "{\"b\":170141183460469231731687303715884105727,\"a\":-170141183460469231731687303715884105728}"
+    );
+    Ok(())
+}
+
+#[test]
+fn keeps_a_names_text(rt: HostRuntime) -> Result<(), Fail> {
+    let name = Name::read(rt.alloc(), "city_trees-2024", 100)?;
+    assert_eq!(rt; name.as_str(), "city_trees-2024");
+    assert_eq!(rt; name.into_text().as_str(), "city_trees-2024");
+    Ok(())
+}
