@@ -4,6 +4,7 @@ mod IdExamples
 mod KindExamples
 pub mod KindLemmas
 pub mod IdLemmas
+pub mod Inserted
 mod JsonBack
 mod JsonExamples
 mod JsonKept
@@ -16,6 +17,10 @@ pub mod MomentTextLemmas
 mod NameExamples
 mod OutsideExamples
 pub mod OutsideLemmas
+mod OrderedExamples
 pub mod ReadingBack
 pub mod ReadingLemmas
 mod JsonFirst
+pub mod Removed
+pub mod Sorted
+pub mod Unique

@@ -8,5 +8,6 @@ pub mod Moment
 pub mod MomentReading
 pub mod MomentText
 pub mod Name
+pub mod Ordered
 pub mod Outside
 pub mod Text

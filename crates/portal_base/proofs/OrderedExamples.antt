@@ -1,0 +1,41 @@
+-- Numbers in order: what is inserted, found and removed.
+use Rattle.std.proofs.Common.{◌≡◌, ℕ, true, false, List, [], ◌∷◌, Some, None, refl}
+use Rattle.std.specs.Ordering.{nat_cmp}
+use Rattle.portal_base.specs.Ordered.{inserted, ascending, are_apart, found, removed}
+
+abbrev some_numbers : List ℕ
+some_numbers = 2 ∷ 5 ∷ 7 ∷ []
+
+in_front : inserted nat_cmp 1 some_numbers ≡ 1 ∷ 2 ∷ 5 ∷ 7 ∷ []
+in_front = refl
+
+between : inserted nat_cmp 6 some_numbers ≡ 2 ∷ 5 ∷ 6 ∷ 7 ∷ []
+between = refl
+
+behind : inserted nat_cmp 9 some_numbers ≡ 2 ∷ 5 ∷ 7 ∷ 9 ∷ []
+behind = refl
+
+into_nothing : inserted nat_cmp 3 [] ≡ 3 ∷ []
+into_nothing = refl
+
+in_order : ascending nat_cmp (7 ∷ 2 ∷ 5 ∷ []) ≡ some_numbers
+in_order = refl
+
+apart : are_apart nat_cmp (7 ∷ 2 ∷ 5 ∷ []) ≡ true
+apart = refl
+
+-- Two that are alike are told also where others stand between them.
+not_apart : are_apart nat_cmp (7 ∷ 2 ∷ 7 ∷ []) ≡ false
+not_apart = refl
+
+found_there : found (λ x. nat_cmp x 5) some_numbers ≡ Some 5
+found_there = refl
+
+not_found : found (λ x. nat_cmp x 6) some_numbers ≡ None
+not_found = refl
+
+one_gone : removed (λ x. nat_cmp x 5) some_numbers ≡ 2 ∷ 7 ∷ []
+one_gone = refl
+
+none_gone : removed (λ x. nat_cmp x 6) some_numbers ≡ some_numbers
+none_gone = refl

@@ -1,0 +1,54 @@
+-- Lists in strictly ascending order by a comparison: what stands in them, and how they change by one item.
+use Rattle.std.specs.Prelude.{◌≡◌, ◌&&◌, cond, Bool, true, not, List, [], ◌∷◌, Option}
+use Rattle.std.specs.declared.cmp.Ordering.{Ordering}
+use Rattle.std.specs.declared.cmp.Ordering.TheVariants.{Less, Equal}
+use Rattle.std.specs.Ordering.{is_lt, is_eq}
+use Rattle.std.specs.Cmp.{IsTotalOrder}
+use Rattle.std.specs.List.{find, list_any}
+use Rattle.std.proofs.Common.{sym}
+use Rattle.std.proofs.lemmas.Cmp.{alike_right}
+
+-- x is below each item
+abbrev pub IsBelowAll : {X : Type 0} → (X → X → Ordering) → X → List X → Type 0
+IsBelowAll cmp x [] = Unit {0}
+IsBelowAll cmp x (y ∷ ys) = (cmp x y ≡ Less) × IsBelowAll cmp x ys
+
+-- each item is below all later ones, so that no two are alike
+abbrev pub IsAscending : {X : Type 0} → (X → X → Ordering) → List X → Type 0
+IsAscending cmp [] = Unit {0}
+IsAscending cmp (x ∷ xs) = IsBelowAll cmp x xs × IsAscending cmp xs
+
+-- x behind the items at the front that are below it
+abbrev pub inserted : {X : Type 0} → (X → X → Ordering) → X → List X → List X
+inserted cmp x [] = x ∷ []
+inserted cmp x (y ∷ ys) = cond (is_lt (cmp y x)) (y ∷ inserted cmp x ys) (x ∷ y ∷ ys)
+
+-- the items, each inserted into those after it
+abbrev pub ascending : {X : Type 0} → (X → X → Ordering) → List X → List X
+ascending cmp [] = []
+ascending cmp (x ∷ xs) = inserted cmp x (ascending cmp xs)
+
+-- no item is like a later one
+abbrev pub are_apart : {X : Type 0} → (X → X → Ordering) → List X → Bool
+are_apart cmp [] = true
+are_apart cmp (x ∷ xs) = not (list_any (λ y. is_eq (cmp y x)) xs) && are_apart cmp xs
+
+-- ---- items by a key, to which each stands as `at` says
+
+-- the first item at the key
+abbrev pub found : {X : Type 0} → (X → Ordering) → List X → Option X
+found at xs = find (λ x. is_eq (at x)) xs
+
+-- without the first item at the key
+abbrev pub removed : {X : Type 0} → (X → Ordering) → List X → List X
+removed at [] = []
+removed at (x ∷ xs) = cond (is_eq (at x)) xs (x ∷ removed at xs)
+
+-- An item at the key stands to all others as the key does.
+abbrev pub IsKey : {X : Type 0} → (X → X → Ordering) → (X → Ordering) → Type 0
+IsKey {X} cmp at = (x y : X) → at x ≡ Equal → at y ≡ cmp y x
+
+-- So does a value of the field that a total order goes by.
+pub IsKey-field : {X K : Type 0} (field : X → K) {cmp : K → K → Ordering} → IsTotalOrder cmp → (key : K)
+    → IsKey (λ x y. cmp (field x) (field y)) (λ x. cmp (field x) key)
+IsKey-field field o key x y e = sym (alike_right o (field x) key (field y) e)

@@ -1,0 +1,134 @@
+//! Lists in ascending order by a key of their items, in which no key stands twice.
+//!
+//! A change is prepared by `reserve`, which alone takes memory, and made by `put`. Places and items are found by a
+//! scan from the front, which asks nothing of the list's order.
+ghost use Rattle.std.specs.Prelude.{◌≡◌, ◌<◌, ◌≤◌, IsTrue, IfErr, IfSome, OnOk, OnErr, length, position, vec_len};
+ghost use Rattle.std.specs.Prelude.{vec_capacity};
+ghost use Rattle.std.specs.List.{list_any, prefix_len};
+ghost use Rattle.std.specs.Option.{option_copied};
+ghost use Rattle.std.specs.Ordering.{is_lt, is_eq};
+ghost use Rattle.std.specs.declared.cmp.Ordering.{Ordering};
+ghost use Rattle.portal_base.specs.Ordered.{inserted, ascending, are_apart, found, removed};
+
+use std::alloc::{AllocError, AllocFailed};
+use std::cmp::Ordering;
+
+/// What stands in a list by a key of its own.
+pub trait Ordered {
+    ghost use Rattle.std.specs.Cmp.{IsTotalOrder};
+
+    /// The order by the key. Items of one key are alike in it, whatever else they hold.
+    ghost order: { Self → Self → Ordering };
+
+    fn compare(&self, other: &Self) -> Ordering
+        ensures { result ≡ order self.now other.now };
+
+    ghost total: { IsTotalOrder order };
+}
+
+/// What items are looked up by.
+pub trait Key<T: Ordered> {
+    ghost use Rattle.portal_base.specs.Ordered.{IsKey};
+
+    /// How an item stands to the key.
+    ghost at: { Self → T → Ordering };
+
+    fn stands(&self, item: &T) -> Ordering
+        ensures { result ≡ at self.now item.now };
+
+    ghost is_key: { (key : Self) → IsKey T.order (at key) };
+}
+
+/// How many items at the front are below this one.
+pub fn place_of<T: Ordered>(items: &[T], item: &T) -> usize
+    ensures place { result ≡ prefix_len (λ other. is_lt (T.order other item.now)) items.now }
+    ensures within { result ≤ length items.now }
+{
+    items
+        .iter()
+        .take_while(|other| other.compare(item).is_lt())
+        .count()
+}
+
+/// The first item at the key.
+pub fn find<'a, T: Ordered, K: Key<T>>(items: &'a [T], key: &K) -> Option<&'a T>
+    ensures { option_copied result ≡ found (K.at key.now) items.now }
+{
+    items.iter().find(|item| key.stands(item).is_eq())
+}
+
+/// Whether no two of the items are alike.
+pub fn are_apart<T: Ordered>(items: &[T]) -> bool
+    ensures { result ≡ are_apart T.order items.now }
+{
+    let mut rest = items;
+    while let Some((first, others)) = rest.split_first() {
+        if has_like(others, first) {
+            return false;
+        }
+        rest = others;
+    }
+    true
+}
+
+/// Whether one of the items is like this one.
+fn has_like<T: Ordered>(items: &[T], item: &T) -> bool
+    ensures { result ≡ list_any (λ other. is_eq (T.order other item.now)) items.now }
+{
+    items.iter().any(|other| other.compare(item).is_eq())
+}
+
+/// Makes room for one more item.
+pub fn reserve<T>(items: &mut Vec<T>) -> Result<(), AllocError>
+    ensures room { OnOk result (vec_len items.new < vec_capacity items.new) }
+    ensures same { items.new.items ≡ items.old.items }
+{
+    items.reserve(1)
+}
+
+/// Puts an item at its place, for which there is room. It takes no memory and can't fail.
+pub fn put<T: Ordered>(items: &mut Vec<T>, item: T)
+    requires { vec_len items.old < vec_capacity items.old }
+    ensures { items.new.items ≡ inserted T.order item items.old.items }
+{
+    let place = place_of(items.as_slice(), &item);
+    items.insert(place, item).unwrap();
+}
+
+/// Puts an item at its place. For want of memory it is handed back, and nothing changes.
+pub fn insert<T: Ordered>(items: &mut Vec<T>, item: T) -> Result<(), AllocFailed<T>>
+    ensures ok { OnOk result (items.new.items ≡ inserted T.order item items.old.items) }
+    ensures err { IfErr result (λ refused. refused.value ≡ item) }
+    ensures unchanged { OnErr result (items.new.items ≡ items.old.items) }
+{
+    let place = place_of(items.as_slice(), &item);
+    items.insert(place, item)
+}
+
+/// Takes out the first item at the key. It takes no memory.
+pub fn remove<T: Ordered, K: Key<T>>(items: &mut Vec<T>, key: &K) -> Option<T>
+    ensures item { result ≡ found (K.at key.now) items.old.items }
+    ensures rest { items.new.items ≡ removed (K.at key.now) items.old.items }
+{
+    let place = place_at(items.as_slice(), key)?;
+    Some(items.remove(place))
+}
+
+/// Where the first item at the key stands.
+fn place_at<T: Ordered, K: Key<T>>(items: &[T], key: &K) -> Option<usize>
+    ensures place { result ≡ position (λ item. is_eq (K.at key.now item)) items.now }
+    ensures within { IfSome result (λ place. place < length items.now) }
+{
+    items.iter().position(|item| key.stands(item).is_eq())
+}
+
+/// Puts items in order, of which no two are alike. It takes no memory.
+pub fn sort<T: Ordered>(items: &mut Vec<T>)
+    requires { IsTrue (are_apart T.order items.old.items) }
+    ensures { items.new.items ≡ ascending T.order items.old.items }
+{
+    items.sort_unstable_by(|first, second| first.compare(second));
+}
+
+#[cfg(test)]
+mod tests;

@@ -1,0 +1,37 @@
+//! Laws of lists in ascending order: functions with an empty body, whose contracts are the laws.
+ghost use Rattle.std.specs.Prelude.{◌≡◌, false, List, Some, None};
+ghost use Rattle.std.specs.declared.cmp.Ordering.TheVariants.{Equal};
+ghost use Rattle.std.specs.Ordering.{is_eq};
+ghost use Rattle.portal_base.specs.Ordered.{IsAscending, inserted, found, removed};
+
+use crate::ordered::{Key, Ordered};
+
+/// What is inserted where nothing was at its key is found there, and the list still ascends. At other keys all is
+/// found as before.
+pub fn what_is_inserted_is_found<T: Ordered, K: Key<T>>()
+    ensures found { (key : K) (item : T) (items : List T) → K.at key item ≡ Equal → found (K.at key) items ≡ None →
+        found (K.at key) (inserted T.order item items) ≡ Some item }
+    ensures others { (key : K) (item : T) (items : List T) → is_eq (K.at key item) ≡ false →
+        found (K.at key) (inserted T.order item items) ≡ found (K.at key) items }
+    ensures ascends { (key : K) (item : T) (items : List T) → K.at key item ≡ Equal → found (K.at key) items ≡ None →
+        IsAscending T.order items → IsAscending T.order (inserted T.order item items) }
+{}
+
+/// What is removed isn't found, and the list still ascends. At other keys all is found as before.
+pub fn what_is_removed_is_not_found<T: Ordered, K: Key<T>>()
+    ensures found { (key : K) (items : List T) → IsAscending T.order items →
+        found (K.at key) (removed (K.at key) items) ≡ None }
+    ensures others { (key other : K) (items : List T) →
+        ((item : T) → K.at key item ≡ Equal → is_eq (K.at other item) ≡ false) →
+        found (K.at other) (removed (K.at key) items) ≡ found (K.at other) items }
+    ensures ascends { (key : K) (items : List T) → IsAscending T.order items →
+        IsAscending T.order (removed (K.at key) items) }
+{}
+
+/// A removal undoes an insertion, and an insertion a removal.
+pub fn insertion_and_removal_undo_each_other<T: Ordered, K: Key<T>>()
+    ensures inserted { (key : K) (item : T) (items : List T) → K.at key item ≡ Equal →
+        found (K.at key) items ≡ None → removed (K.at key) (inserted T.order item items) ≡ items }
+    ensures removed { (key : K) (item : T) (items : List T) → IsAscending T.order items →
+        found (K.at key) items ≡ Some item → inserted T.order item (removed (K.at key) items) ≡ items }
+{}
