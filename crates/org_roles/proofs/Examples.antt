@@ -8,7 +8,7 @@ use Rattle.org_roles.specs.declared.entry.Org.{Org}
 use Rattle.org_roles.specs.declared.entry.Membership.{Membership}
 use Rattle.org_roles.specs.declared.role.Role.{Role}
 use Rattle.org_roles.specs.declared.role.Role.TheVariants.{Member, Editor, Admin}
-use Rattle.org_roles.specs.Ascending.{ascending}
+use Rattle.portal_base.specs.Ordered.{ascending}
 use Rattle.org_roles.specs.Distinct.{have_distinct_names, have_distinct_org_names, have_distinct_pairs}
 use Rattle.org_roles.specs.Order.{users_ascending, membership_cmp}
 use Rattle.org_roles.specs.Peopled.{Peopled, role_in, is_sysadmin_in, is_user_in}

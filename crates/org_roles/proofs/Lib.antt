@@ -1,5 +1,4 @@
 mod Examples
 pub mod Inserted
 pub mod PeopleLemmas
-pub mod Sorted
 pub mod Unique

@@ -3,32 +3,22 @@ use Rattle.std.proofs.Common.{◌≡◌, ◌≢◌, ℕ, Bool, true, false, ◌&
 use Rattle.std.specs.declared.cmp.Ordering.{Ordering}
 use Rattle.std.specs.declared.cmp.Ordering.TheVariants.{Less, Equal, Greater}
 use Rattle.std.specs.Ordering.{nat_cmp, is_eq, ordering_then}
-use Rattle.std.specs.Cmp.{IsTotalOrder}
 use Rattle.std.specs.Cmp.Lexicographic.{slice_cmp}
 use Rattle.std.specs.List.{list_any}
 use Rattle.std.specs.Option.{option_map}
 use Rattle.std.specs.Str.{bytes_eq}
-use Rattle.std.proofs.lemmas.Cmp.{on_total, then_total, nat_list_cmp_total}
 use Rattle.std.proofs.lemmas.Map.Text.{is_eq-slice_cmp}
 use Rattle.std.proofs.lemmas.Slice.Eq.{bytes_eq-Decides}
 use Rattle.org_roles.specs.declared.entry.User.{User}
 use Rattle.org_roles.specs.declared.entry.Org.{Org}
 use Rattle.org_roles.specs.declared.entry.Membership.{Membership}
-use Rattle.org_roles.specs.Ascending.{IsAscending, inserted, ascending}
+use Rattle.portal_base.specs.Ordered.{IsAscending, inserted, ascending, are_apart}
 use Rattle.org_roles.specs.Distinct.{have_distinct_names, have_distinct_org_names, have_distinct_pairs}
+pub use Rattle.org_roles.specs.Order.{user_cmp_total, org_cmp_total, membership_cmp_total}
 use Rattle.org_roles.specs.Order.{user_cmp, org_cmp, membership_cmp}
 use Rattle.org_roles.specs.Peopled.{Peopled, IsPeopled, org_in, role_in}
-use Rattle.org_roles.proofs.Inserted.{list_any-find, list_any-same, AreApart, IsAscending-ascending, IsAscending-inserted, find-inserted_found, find-inserted_other}
-
--- The orders are total.
-pub user_cmp_total : IsTotalOrder user_cmp
-user_cmp_total = on_total (λ u. u.name) nat_list_cmp_total
-
-pub org_cmp_total : IsTotalOrder org_cmp
-org_cmp_total = on_total (λ o. o.name) nat_list_cmp_total
-
-pub membership_cmp_total : IsTotalOrder membership_cmp
-membership_cmp_total = then_total (on_total (λ m. m.org) nat_list_cmp_total) (on_total (λ m. m.user) nat_list_cmp_total)
+use Rattle.portal_base.proofs.Removed.{AreApart-are_apart}
+use Rattle.portal_base.proofs.Inserted.{list_any-find, list_any-same, IsAscending-ascending, IsAscending-inserted, find-inserted_found, find-inserted_other}
 
 is_eq-ordering_then : (r s : Ordering) → is_eq (ordering_then r s) ≡ (is_eq r && is_eq s)
 is_eq-ordering_then Less s = refl
@@ -42,28 +32,34 @@ is_eq-membership_cmp m n =
     ∙ ap (λ b. b && is_eq (slice_cmp nat_cmp m.user n.user)) (is_eq-slice_cmp m.org n.org)
     ∙ ap (λ b. bytes_eq m.org n.org && b) (is_eq-slice_cmp m.user n.user)
 
--- Where a test finds none of the items alike, none are.
-pub AreApart-distinct : {X : Type 0} (cmp : X → X → Ordering) (alike : X → X → Bool) (distinct : List X → Bool) → ((x y : X) → is_eq (cmp y x) ≡ alike y x) → ((x : X) (xs : List X) → distinct (x ∷ xs) ≡ (not (list_any (λ y. alike y x) xs) && distinct xs)) → (xs : List X) → distinct xs ≡ true → AreApart cmp xs
-AreApart-distinct cmp alike distinct same step [] d = tt
-AreApart-distinct {X} cmp alike distinct same step (x ∷ xs) d =
-    let parts : (list_any (λ y. alike y x) xs ≡ false) × (distinct xs ≡ true) = both _ _ (sym (step x xs) ∙ d) in
-    (list_any-same _ _ (same x) xs ∙ parts.0, AreApart-distinct cmp alike distinct same step xs parts.1)
-  where
-    both : (a b : Bool) → (not a && b) ≡ true → (a ≡ false) × (b ≡ true)
-    both true b h = absurd (cc)
-    both false b h = (refl, h)
+-- Where a test of two items tells whether they are alike, so does one of lists whether any are.
+are_apart-distinct : {X : Type 0} (cmp : X → X → Ordering) (alike : X → X → Bool) (distinct : List X → Bool)
+    → ((x y : X) → is_eq (cmp y x) ≡ alike y x) → distinct [] ≡ true
+    → ((x : X) (xs : List X) → distinct (x ∷ xs) ≡ (not (list_any (λ y. alike y x) xs) && distinct xs))
+    → (xs : List X) → are_apart cmp xs ≡ distinct xs
+are_apart-distinct cmp alike distinct same none step [] = sym none
+are_apart-distinct {X} cmp alike distinct same none step (x ∷ xs) =
+    ap (λ b. not b && are_apart cmp xs) (list_any-same _ _ (same x) xs)
+    ∙ ap (λ b. not (list_any (λ y. alike y x) xs) && b) (are_apart-distinct cmp alike distinct same none step xs)
+    ∙ sym (step x xs)
 
--- No user's name stands twice.
-pub AreApart-users : (us : List User) → have_distinct_names us ≡ true → AreApart user_cmp us
-AreApart-users = AreApart-distinct user_cmp (λ v u. bytes_eq v.name u.name) have_distinct_names (λ u v. is_eq-slice_cmp v.name u.name) (λ u us. refl)
+-- Users are apart where no name stands twice.
+pub are_apart-users : (us : List User) → are_apart user_cmp us ≡ have_distinct_names us
+are_apart-users =
+    are_apart-distinct user_cmp (λ v u. bytes_eq v.name u.name) have_distinct_names
+    (λ u v. is_eq-slice_cmp v.name u.name) refl (λ u us. refl)
 
--- No organization's name stands twice.
-pub AreApart-orgs : (os : List Org) → have_distinct_org_names os ≡ true → AreApart org_cmp os
-AreApart-orgs = AreApart-distinct org_cmp (λ p o. bytes_eq p.name o.name) have_distinct_org_names (λ o p. is_eq-slice_cmp p.name o.name) (λ o os. refl)
+-- So are organizations.
+pub are_apart-orgs : (os : List Org) → are_apart org_cmp os ≡ have_distinct_org_names os
+are_apart-orgs =
+    are_apart-distinct org_cmp (λ p o. bytes_eq p.name o.name) have_distinct_org_names
+    (λ o p. is_eq-slice_cmp p.name o.name) refl (λ o os. refl)
 
--- No pair of organization and user stands twice.
-pub AreApart-roles : (ms : List Membership) → have_distinct_pairs ms ≡ true → AreApart membership_cmp ms
-AreApart-roles = AreApart-distinct membership_cmp (λ n m. bytes_eq n.org m.org && bytes_eq n.user m.user) have_distinct_pairs (λ m n. is_eq-membership_cmp n m) (λ m ms. refl)
+-- Memberships are apart where no pair of organization and user stands twice.
+pub are_apart-roles : (ms : List Membership) → are_apart membership_cmp ms ≡ have_distinct_pairs ms
+are_apart-roles =
+    are_apart-distinct membership_cmp (λ n m. bytes_eq n.org m.org && bytes_eq n.user m.user) have_distinct_pairs
+    (λ m n. is_eq-membership_cmp n m) refl (λ m ms. refl)
 
 none_from_map : {A B : Type 0} (f : A → B) (o : Option A) → option_map f o ≡ None → o ≡ None
 none_from_map f None h = refl
@@ -144,7 +140,7 @@ IsPeopled-add_role us os ms ms' p m v e none was =
 -- Lists in which nothing stands twice are in order once each is put in its order.
 pub IsPeopled-ascending : (us us' : List User) (os os' : List Org) (ms ms' : List Membership) → have_distinct_names us ≡ true → have_distinct_org_names os ≡ true → have_distinct_pairs ms ≡ true → us' ≡ ascending user_cmp us → os' ≡ ascending org_cmp os → ms' ≡ ascending membership_cmp ms → IsPeopled (record { users = us'; orgs = os'; roles = ms' })
 IsPeopled-ascending us us' os os' ms ms' names org_names pairs eu eo em = record {
-  users = subst (IsAscending user_cmp) (sym eu) (IsAscending-ascending user_cmp user_cmp_total us (AreApart-users us names));
-  orgs = subst (IsAscending org_cmp) (sym eo) (IsAscending-ascending org_cmp org_cmp_total os (AreApart-orgs os org_names));
-  roles = subst (IsAscending membership_cmp) (sym em) (IsAscending-ascending membership_cmp membership_cmp_total ms (AreApart-roles ms pairs));
+  users = subst (IsAscending user_cmp) (sym eu) (IsAscending-ascending user_cmp user_cmp_total us (AreApart-are_apart user_cmp us (are_apart-users us ∙ names)));
+  orgs = subst (IsAscending org_cmp) (sym eo) (IsAscending-ascending org_cmp org_cmp_total os (AreApart-are_apart org_cmp os (are_apart-orgs os ∙ org_names)));
+  roles = subst (IsAscending membership_cmp) (sym em) (IsAscending-ascending membership_cmp membership_cmp_total ms (AreApart-are_apart membership_cmp ms (are_apart-roles ms ∙ pairs)));
 }

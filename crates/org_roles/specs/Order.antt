@@ -2,11 +2,13 @@
 use Rattle.std.specs.Prelude.{List}
 use Rattle.std.specs.declared.cmp.Ordering.{Ordering}
 use Rattle.std.specs.Ordering.{nat_cmp, ordering_then}
+use Rattle.std.specs.Cmp.{IsTotalOrder}
 use Rattle.std.specs.Cmp.Lexicographic.{slice_cmp}
+use Rattle.std.proofs.lemmas.Cmp.{on_total, then_total, nat_list_cmp_total}
 use Rattle.org_roles.specs.declared.entry.User.{User}
 use Rattle.org_roles.specs.declared.entry.Org.{Org}
 use Rattle.org_roles.specs.declared.entry.Membership.{Membership}
-use Rattle.org_roles.specs.Ascending.{ascending}
+use Rattle.portal_base.specs.Ordered.{ascending}
 
 -- by name
 abbrev pub user_cmp : User → User → Ordering
@@ -23,3 +25,14 @@ membership_cmp m n = ordering_then (slice_cmp nat_cmp m.org n.org) (slice_cmp na
 -- the users by name
 abbrev pub users_ascending : List User → List User
 users_ascending us = ascending user_cmp us
+
+-- The orders are total.
+pub user_cmp_total : IsTotalOrder user_cmp
+user_cmp_total = on_total (λ u. u.name) nat_list_cmp_total
+
+pub org_cmp_total : IsTotalOrder org_cmp
+org_cmp_total = on_total (λ o. o.name) nat_list_cmp_total
+
+pub membership_cmp_total : IsTotalOrder membership_cmp
+membership_cmp_total =
+    then_total (on_total (λ m. m.org) nat_list_cmp_total) (on_total (λ m. m.user) nat_list_cmp_total)

@@ -9,7 +9,7 @@ use Rattle.org_roles.specs.declared.role.Role.{Role}
 use Rattle.org_roles.specs.declared.entry.User.{User}
 use Rattle.org_roles.specs.declared.entry.Org.{Org}
 use Rattle.org_roles.specs.declared.entry.Membership.{Membership}
-use Rattle.org_roles.specs.Ascending.{IsAscending}
+use Rattle.portal_base.specs.Ordered.{IsAscending}
 use Rattle.org_roles.specs.Distinct.{is_name_among}
 use Rattle.org_roles.specs.Order.{user_cmp, org_cmp, membership_cmp}
 

@@ -2,6 +2,7 @@
 #![tactic(auto)]
 
 pub mod entry;
+mod order;
 pub mod people;
 pub mod role;
 #[cfg(test)]

@@ -1,21 +1,20 @@
 //! Users, organizations and roles as one value, with look-ups by name.
-ghost use Rattle.std.specs.Prelude.{◌≡◌, ◌&&◌, ◌≢◌, ◌↔◌, ◌⊎◌, ◌≤◌, ℕ, List, [], Some, None, IsTrue, OnOk, OnErr, length};
-ghost use Rattle.std.specs.List.{prefix_len, list_any};
+ghost use Rattle.std.specs.Prelude.{◌≡◌, ◌&&◌, ◌≢◌, ◌⊎◌, ℕ, List, [], Some, None, IsTrue, OnOk, OnErr};
+ghost use Rattle.std.specs.List.{list_any};
 ghost use Rattle.std.specs.Option.{option_copied};
-ghost use Rattle.std.specs.Ordering.{is_lt};
 ghost use Rattle.std.specs.Str.{bytes_eq};
-ghost use Rattle.org_roles.specs.Ascending.{inserted, ascending};
-ghost use Rattle.org_roles.specs.Distinct.{is_name_among, is_org_name_among, is_pair_among, have_distinct_names, have_distinct_org_names, have_distinct_pairs};
+ghost use Rattle.portal_base.specs.Ordered.{inserted, ascending, are_apart};
+ghost use Rattle.org_roles.specs.Distinct.{is_name_among, have_distinct_names, have_distinct_org_names, have_distinct_pairs};
 ghost use Rattle.org_roles.specs.Order.{user_cmp, org_cmp, membership_cmp, users_ascending};
 ghost use Rattle.org_roles.specs.Peopled.{is_user_in, org_in, role_in, is_sysadmin_in};
 
 use crate::entry::{Membership, Org, User};
 use crate::role::Role;
 use portal_base::caller::Caller;
+use portal_base::ordered::{Ordered, are_apart, insert, sort};
 use portal_base::seq::Seq;
 use portal_base::text::Text;
 use std::alloc::{AllocError, Global};
-use std::cmp::Ordering;
 use std::marker::Model;
 
 /// The users, organizations and roles of a portal. A contract sees three lists: the users and the organizations,
@@ -58,9 +57,9 @@ impl People {
         ensures roles { result.roles ≡ ascending membership_cmp roles }
     {
         People {
-            users: sorted_users(users),
-            orgs: sorted_orgs(orgs),
-            roles: sorted_roles(roles),
+            users: sorted(users),
+            orgs: sorted(orgs),
+            roles: sorted(roles),
         }
     }
 
@@ -131,8 +130,7 @@ impl People {
         ensures others { OnOk result ((name : List ℕ) → name ≢ org.name →
             org_in self.new name ≡ org_in self.old name) }
     {
-        let place = place_of_org(&self.orgs, &org);
-        self.orgs.insert(place, org)?;
+        insert(&mut self.orgs, org)?;
         Ok(())
     }
 
@@ -150,8 +148,7 @@ impl People {
             (org ≢ membership.org) ⊎ (user ≢ membership.user) →
             role_in self.new org user ≡ role_in self.old org user) }
     {
-        let place = place_of_membership(&self.roles, &membership);
-        self.roles.insert(place, membership)?;
+        insert(&mut self.roles, membership)?;
         Ok(())
     }
 }
@@ -160,72 +157,31 @@ impl People {
 pub fn names_are_distinct(users: &[User]) -> bool
     ensures { result ≡ have_distinct_names users.now }
 {
-    let mut rest = users;
-    while let Some((first, others)) = rest.split_first() {
-        if name_stands_among(others, first.name.as_str()) {
-            return false;
-        }
-        rest = others;
-    }
-    true
+    are_apart(users)
 }
 
 /// Whether no two of the organizations have one name.
 pub fn org_names_are_distinct(orgs: &[Org]) -> bool
     ensures { result ≡ have_distinct_org_names orgs.now }
 {
-    let mut rest = orgs;
-    while let Some((first, others)) = rest.split_first() {
-        if org_name_stands_among(others, &first.name) {
-            return false;
-        }
-        rest = others;
-    }
-    true
+    are_apart(orgs)
 }
 
 /// Whether no two of the memberships are of one user in one organization.
 pub fn pairs_are_distinct(roles: &[Membership]) -> bool
     ensures { result ≡ have_distinct_pairs roles.now }
 {
-    let mut rest = roles;
-    while let Some((first, others)) = rest.split_first() {
-        if pair_stands_among(others, &first.org, &first.user) {
-            return false;
-        }
-        rest = others;
-    }
-    true
+    are_apart(roles)
 }
 
-/// The users by name.
-fn sorted_users(users: Seq<User>) -> Vec<User>
-    requires { IsTrue (have_distinct_names users) }
-    ensures { result.items ≡ ascending user_cmp users }
+/// The items in their order.
+fn sorted<T: Ordered>(items: Seq<T>) -> Vec<T>
+    requires { IsTrue (are_apart T.order items) }
+    ensures { result.items ≡ ascending T.order items }
 {
-    let mut users = users.into_vec();
-    users.sort_unstable_by(compare_users);
-    users
-}
-
-/// The organizations by name.
-fn sorted_orgs(orgs: Seq<Org>) -> Vec<Org>
-    requires { IsTrue (have_distinct_org_names orgs) }
-    ensures { result.items ≡ ascending org_cmp orgs }
-{
-    let mut orgs = orgs.into_vec();
-    orgs.sort_unstable_by(compare_orgs);
-    orgs
-}
-
-/// The roles by organization and user.
-fn sorted_roles(roles: Seq<Membership>) -> Vec<Membership>
-    requires { IsTrue (have_distinct_pairs roles) }
-    ensures { result.items ≡ ascending membership_cmp roles }
-{
-    let mut roles = roles.into_vec();
-    roles.sort_unstable_by(compare_memberships);
-    roles
+    let mut items = items.into_vec();
+    sort(&mut items);
+    items
 }
 
 /// Whether one of the users has that name.
@@ -235,69 +191,9 @@ fn name_stands_among(users: &[User], name: &str) -> bool
     users.iter().any(|user| user.name.as_str() == name)
 }
 
-/// Whether one of the organizations has that name.
-fn org_name_stands_among(orgs: &[Org], name: &Text) -> bool
-    ensures { result ≡ is_org_name_among orgs.now name.now }
-{
-    orgs.iter().any(|org| org.name == *name)
-}
-
-/// Whether one of the memberships is of that user in that organization.
-fn pair_stands_among(roles: &[Membership], org: &Text, user: &Text) -> bool
-    ensures { result ≡ is_pair_among roles.now org.now user.now }
-{
-    roles.iter().any(|membership| membership.org == *org && membership.user == *user)
-}
-
 /// Whether one of the users has that name and is a sysadmin.
 fn is_sysadmin_among(users: &[User], name: &Text) -> bool
     ensures { result ≡ list_any (λ user. bytes_eq user.name name.now && user.sysadmin) users.now }
 {
     users.iter().any(|user| user.name == *name && user.sysadmin)
-}
-
-/// How many organizations stand before this one.
-fn place_of_org(orgs: &[Org], org: &Org) -> usize
-    ensures place { result ≡ prefix_len (λ other. is_lt (org_cmp other org.now)) orgs.now }
-    ensures within { result ≤ length orgs.now }
-{
-    orgs.iter()
-        .take_while(|other| other.name < org.name)
-        .count()
-}
-
-/// How many memberships stand before this one.
-fn place_of_membership(memberships: &[Membership], membership: &Membership) -> usize
-    ensures place { result ≡
-        prefix_len (λ other. is_lt (membership_cmp other membership.now)) memberships.now }
-    ensures within { result ≤ length memberships.now }
-{
-    memberships
-        .iter()
-        .take_while(|other| compare_memberships(other, membership).is_lt())
-        .count()
-}
-
-/// The order by name.
-fn compare_users(first: &User, second: &User) -> Ordering
-    ensures { result ≡ user_cmp first.now second.now }
-{
-    first.name.cmp(&second.name)
-}
-
-/// The order by name.
-fn compare_orgs(first: &Org, second: &Org) -> Ordering
-    ensures { result ≡ org_cmp first.now second.now }
-{
-    first.name.cmp(&second.name)
-}
-
-/// The order by organization, then by user.
-fn compare_memberships(first: &Membership, second: &Membership) -> Ordering
-    ensures { result ≡ membership_cmp first.now second.now }
-{
-    match first.org.cmp(&second.org) {
-        Ordering::Equal => first.user.cmp(&second.user),
-        unequal => unequal,
-    }
 }
