@@ -23,7 +23,8 @@ abbrev in_city : List ℕ → Role → Membership
 in_city name role = record { org = codes "city"; user = name; role = role }
 
 abbrev worked_users : List User
-worked_users = user (codes "root") true ∷ user (codes "ann") false ∷ user (codes "bob") false ∷ user (codes "cyn") false ∷ user (codes "dan") false ∷ []
+worked_users = user (codes "root") true ∷ user (codes "ann") false ∷ user (codes "bob") false ∷ user
+    (codes "cyn") false ∷ user (codes "dan") false ∷ []
 
 abbrev worked_roles : List Membership
 worked_roles = in_city (codes "cyn") Admin ∷ in_city (codes "ann") Editor ∷ in_city (codes "bob") Member ∷ []
@@ -42,11 +43,15 @@ pair_twice : have_distinct_pairs (in_city (codes "ann") Member ∷ worked_roles)
 pair_twice = refl
 
 -- One name under two titles is one name.
-org_name_twice : (t : Moment) → have_distinct_org_names (org (codes "city") (codes "City") t ∷ org (codes "lake") [] t ∷ org (codes "city") [] t ∷ []) ≡ false
+org_name_twice : (t : Moment)
+    → have_distinct_org_names
+    (org (codes "city") (codes "City") t ∷ org (codes "lake") [] t ∷ org (codes "city") [] t ∷ []) ≡ false
 org_name_twice t = refl
 
 -- The users by name: root comes last.
-by_name : users_ascending worked_users ≡ user (codes "ann") false ∷ user (codes "bob") false ∷ user (codes "cyn") false ∷ user (codes "dan") false ∷ user (codes "root") true ∷ []
+by_name : users_ascending worked_users
+    ≡ user (codes "ann") false ∷ user (codes "bob") false ∷ user (codes "cyn") false ∷ user (codes "dan") false ∷ user
+    (codes "root") true ∷ []
 by_name = refl
 
 ann_edits : role_in worked (codes "city") (codes "ann") ≡ Some Editor

@@ -1,5 +1,6 @@
 -- What the look-ups among the people find, and how their orders decide.
-use Rattle.std.proofs.Common.{◌≡◌, ◌≢◌, ℕ, Bool, true, false, ◌&&◌, not, List, [], ◌∷◌, Option, Some, None, refl, sym, ap, ◌∙◌, ◌⊎◌, inl, inr, subst}
+use Rattle.std.proofs.Common.{◌≡◌, ◌≢◌, ℕ, Bool, true, false, ◌&&◌, not, List, [], ◌∷◌, Option, Some, None, refl, sym}
+use Rattle.std.proofs.Common.{ap, ◌∙◌, ◌⊎◌, inl, inr, subst}
 use Rattle.std.specs.declared.cmp.Ordering.{Ordering}
 use Rattle.std.specs.declared.cmp.Ordering.TheVariants.{Less, Equal, Greater}
 use Rattle.std.specs.Ordering.{nat_cmp, is_eq, ordering_then}
@@ -18,7 +19,8 @@ pub use Rattle.org_roles.specs.Order.{user_cmp_total, org_cmp_total, membership_
 use Rattle.org_roles.specs.Order.{user_cmp, org_cmp, membership_cmp}
 use Rattle.org_roles.specs.Peopled.{Peopled, IsPeopled, org_in, role_in}
 use Rattle.portal_base.proofs.Removed.{AreApart-are_apart}
-use Rattle.portal_base.proofs.Inserted.{list_any-find, list_any-same, IsAscending-ascending, IsAscending-inserted, find-inserted_found, find-inserted_other}
+use Rattle.portal_base.proofs.Inserted.{list_any-find, list_any-same, IsAscending-ascending, IsAscending-inserted}
+use Rattle.portal_base.proofs.Inserted.{find-inserted_found, find-inserted_other}
 
 is_eq-ordering_then : (r s : Ordering) → is_eq (ordering_then r s) ≡ (is_eq r && is_eq s)
 is_eq-ordering_then Less s = refl
@@ -26,7 +28,8 @@ is_eq-ordering_then Equal s = refl
 is_eq-ordering_then Greater s = refl
 
 -- Memberships are alike where both names are.
-pub is_eq-membership_cmp : (m n : Membership) → is_eq (membership_cmp m n) ≡ (bytes_eq m.org n.org && bytes_eq m.user n.user)
+pub is_eq-membership_cmp : (m n : Membership)
+    → is_eq (membership_cmp m n) ≡ (bytes_eq m.org n.org && bytes_eq m.user n.user)
 is_eq-membership_cmp m n =
     is_eq-ordering_then (slice_cmp nat_cmp m.org n.org) (slice_cmp nat_cmp m.user n.user)
     ∙ ap (λ b. b && is_eq (slice_cmp nat_cmp m.user n.user)) (is_eq-slice_cmp m.org n.org)
@@ -66,7 +69,8 @@ none_from_map f None h = refl
 none_from_map f (Some x) h = absurd (cc)
 
 -- No membership is that of a pair that has no role.
-pub list_any-role : (p : Peopled) (org user : List ℕ) → role_in p org user ≡ None → list_any (λ m. bytes_eq m.org org && bytes_eq m.user user) p.roles ≡ false
+pub list_any-role : (p : Peopled) (org user : List ℕ) → role_in p org user ≡ None
+    → list_any (λ m. bytes_eq m.org org && bytes_eq m.user user) p.roles ≡ false
 list_any-role p org user none = list_any-find _ p.roles (none_from_map _ _ none)
 
 -- a name equals itself
@@ -89,58 +93,89 @@ differ a b c d (inr n) = ap (λ t. bytes_eq c a && t) (unequal d b (λ e. n (sym
     and_false false = refl
 
 -- The pair has the role that was added.
-pub role_in-add_role : (p : Peopled) (m : Membership) → role_in p m.org m.user ≡ None → role_in (record p { roles = inserted membership_cmp m p.roles }) m.org m.user ≡ Some m.role
+pub role_in-add_role : (p : Peopled) (m : Membership) → role_in p m.org m.user ≡ None
+    → role_in (record p { roles = inserted membership_cmp m p.roles }) m.org m.user ≡ Some m.role
 role_in-add_role p m none =
-    ap (option_map (λ n. n.role)) (find-inserted_found membership_cmp (λ n. bytes_eq n.org m.org && bytes_eq n.user m.user) m p.roles
+    ap (option_map (λ n. n.role))
+    (find-inserted_found membership_cmp (λ n. bytes_eq n.org m.org && bytes_eq n.user m.user) m p.roles
     (ap (λ t. t && bytes_eq m.user m.user) (equal m.org) ∙ equal m.user) (list_any-role p m.org m.user none))
 
 -- Every other pair keeps its role.
-pub role_in-add_role_other : (p : Peopled) (m : Membership) (org user : List ℕ) → (org ≢ m.org) ⊎ (user ≢ m.user) → role_in (record p { roles = inserted membership_cmp m p.roles }) org user ≡ role_in p org user
+pub role_in-add_role_other : (p : Peopled) (m : Membership) (org user : List ℕ) → (org ≢ m.org) ⊎ (user ≢ m.user)
+    → role_in (record p { roles = inserted membership_cmp m p.roles }) org user ≡ role_in p org user
 role_in-add_role_other p m org user n =
-    ap (option_map (λ n. n.role)) (find-inserted_other membership_cmp (λ n. bytes_eq n.org org && bytes_eq n.user user) m p.roles (differ org user m.org m.user n))
+    ap (option_map (λ n. n.role))
+    (find-inserted_other membership_cmp (λ n. bytes_eq n.org org && bytes_eq n.user user) m p.roles
+    (differ org user m.org m.user n))
 
 -- The organization that was added is found.
-pub org_in-add_org : (p : Peopled) (o : Org) → org_in p o.name ≡ None → org_in (record p { orgs = inserted org_cmp o p.orgs }) o.name ≡ Some o
-org_in-add_org p o none = find-inserted_found org_cmp (λ q. bytes_eq q.name o.name) o p.orgs (equal o.name) (list_any-find _ p.orgs none)
+pub org_in-add_org : (p : Peopled) (o : Org) → org_in p o.name ≡ None
+    → org_in (record p { orgs = inserted org_cmp o p.orgs }) o.name ≡ Some o
+org_in-add_org p o none =
+    find-inserted_found org_cmp (λ q. bytes_eq q.name o.name) o p.orgs (equal o.name) (list_any-find _ p.orgs none)
 
 -- Every other name finds what it found.
-pub org_in-add_org_other : (p : Peopled) (o : Org) (name : List ℕ) → name ≢ o.name → org_in (record p { orgs = inserted org_cmp o p.orgs }) name ≡ org_in p name
-org_in-add_org_other p o name n = find-inserted_other org_cmp (λ q. bytes_eq q.name name) o p.orgs (unequal o.name name (λ e. n (sym e)))
+pub org_in-add_org_other : (p : Peopled) (o : Org) (name : List ℕ) → name ≢ o.name
+    → org_in (record p { orgs = inserted org_cmp o p.orgs }) name ≡ org_in p name
+org_in-add_org_other p o name n =
+    find-inserted_other org_cmp (λ q. bytes_eq q.name name) o p.orgs (unequal o.name name (λ e. n (sym e)))
 
 -- What the value is once an organization stands at its place.
-pub after_add_org : (us : List User) (os os' : List Org) (ms : List Membership) (p : Peopled) (o : Org) → record { users = us; orgs = os; roles = ms } ≡ p → os' ≡ inserted org_cmp o os → record { users = us; orgs = os'; roles = ms } ≡ record p { orgs = inserted org_cmp o p.orgs }
+pub after_add_org : (us : List User) (os os' : List Org) (ms : List Membership) (p : Peopled) (o : Org)
+    → record { users = us; orgs = os; roles = ms } ≡ p → os' ≡ inserted org_cmp o os
+    → record { users = us; orgs = os'; roles = ms } ≡ record p { orgs = inserted org_cmp o p.orgs }
 after_add_org us os os' ms p o v e =
     let f : Peopled → Peopled = λ q. record q { orgs = inserted org_cmp o q.orgs } in
     let g : List Org → Peopled = λ l. record { users = us; orgs = l; roles = ms } in
     ap g e ∙ ap f v
 
 -- It is still in order.
-pub IsPeopled-add_org : (us : List User) (os os' : List Org) (ms : List Membership) (p : Peopled) (o : Org) → record { users = us; orgs = os; roles = ms } ≡ p → os' ≡ inserted org_cmp o os → org_in p o.name ≡ None → IsPeopled (record { users = us; orgs = os; roles = ms }) → IsPeopled (record { users = us; orgs = os'; roles = ms })
+pub IsPeopled-add_org : (us : List User) (os os' : List Org) (ms : List Membership) (p : Peopled) (o : Org)
+    → record { users = us; orgs = os; roles = ms } ≡ p → os' ≡ inserted org_cmp o os → org_in p o.name ≡ None
+    → IsPeopled (record { users = us; orgs = os; roles = ms })
+    → IsPeopled (record { users = us; orgs = os'; roles = ms })
 IsPeopled-add_org us os os' ms p o v e none was =
-    let here : org_in (record { users = us; orgs = os; roles = ms }) o.name ≡ None = ap (λ q. org_in q o.name) v ∙ none in
+    let here : org_in (record { users = us; orgs = os; roles = ms }) o.name ≡ None =
+    ap (λ q. org_in q o.name) v ∙ none in
     let up : IsAscending org_cmp (inserted org_cmp o os) =
-    IsAscending-inserted org_cmp org_cmp_total o os was.orgs (list_any-same _ _ (λ q. is_eq-slice_cmp q.name o.name) os ∙ list_any-find _ os here) in
+    IsAscending-inserted org_cmp org_cmp_total o os was.orgs
+    (list_any-same _ _ (λ q. is_eq-slice_cmp q.name o.name) os ∙ list_any-find _ os here) in
     record { users = was.users; orgs = subst (IsAscending org_cmp) (sym e) up; roles = was.roles }
 
 -- What the value is once a membership stands at its place.
-pub after_add_role : (us : List User) (os : List Org) (ms ms' : List Membership) (p : Peopled) (m : Membership) → record { users = us; orgs = os; roles = ms } ≡ p → ms' ≡ inserted membership_cmp m ms → record { users = us; orgs = os; roles = ms' } ≡ record p { roles = inserted membership_cmp m p.roles }
+pub after_add_role : (us : List User) (os : List Org) (ms ms' : List Membership) (p : Peopled) (m : Membership)
+    → record { users = us; orgs = os; roles = ms } ≡ p → ms' ≡ inserted membership_cmp m ms
+    → record { users = us; orgs = os; roles = ms' } ≡ record p { roles = inserted membership_cmp m p.roles }
 after_add_role us os ms ms' p m v e =
     let f : Peopled → Peopled = λ q. record q { roles = inserted membership_cmp m q.roles } in
     let g : List Membership → Peopled = λ l. record { users = us; orgs = os; roles = l } in
     ap g e ∙ ap f v
 
 -- It is still in order.
-pub IsPeopled-add_role : (us : List User) (os : List Org) (ms ms' : List Membership) (p : Peopled) (m : Membership) → record { users = us; orgs = os; roles = ms } ≡ p → ms' ≡ inserted membership_cmp m ms → role_in p m.org m.user ≡ None → IsPeopled (record { users = us; orgs = os; roles = ms }) → IsPeopled (record { users = us; orgs = os; roles = ms' })
+pub IsPeopled-add_role : (us : List User) (os : List Org) (ms ms' : List Membership) (p : Peopled) (m : Membership)
+    → record { users = us; orgs = os; roles = ms } ≡ p → ms' ≡ inserted membership_cmp m ms
+    → role_in p m.org m.user ≡ None → IsPeopled (record { users = us; orgs = os; roles = ms })
+    → IsPeopled (record { users = us; orgs = os; roles = ms' })
 IsPeopled-add_role us os ms ms' p m v e none was =
-    let here : role_in (record { users = us; orgs = os; roles = ms }) m.org m.user ≡ None = ap (λ q. role_in q m.org m.user) v ∙ none in
+    let here : role_in (record { users = us; orgs = os; roles = ms }) m.org m.user ≡ None =
+    ap (λ q. role_in q m.org m.user) v ∙ none in
     let up : IsAscending membership_cmp (inserted membership_cmp m ms) =
-    IsAscending-inserted membership_cmp membership_cmp_total m ms was.roles (list_any-same _ _ (λ q. is_eq-membership_cmp q m) ms ∙ list_any-role (record { users = us; orgs = os; roles = ms }) m.org m.user here) in
+    IsAscending-inserted membership_cmp membership_cmp_total m ms was.roles
+    (list_any-same _ _ (λ q. is_eq-membership_cmp q m) ms
+    ∙ list_any-role (record { users = us; orgs = os; roles = ms }) m.org m.user here) in
     record { users = was.users; orgs = was.orgs; roles = subst (IsAscending membership_cmp) (sym e) up }
 
 -- Lists in which nothing stands twice are in order once each is put in its order.
-pub IsPeopled-ascending : (us us' : List User) (os os' : List Org) (ms ms' : List Membership) → have_distinct_names us ≡ true → have_distinct_org_names os ≡ true → have_distinct_pairs ms ≡ true → us' ≡ ascending user_cmp us → os' ≡ ascending org_cmp os → ms' ≡ ascending membership_cmp ms → IsPeopled (record { users = us'; orgs = os'; roles = ms' })
+pub IsPeopled-ascending : (us us' : List User) (os os' : List Org) (ms ms' : List Membership)
+    → have_distinct_names us ≡ true → have_distinct_org_names os ≡ true → have_distinct_pairs ms ≡ true
+    → us' ≡ ascending user_cmp us → os' ≡ ascending org_cmp os → ms' ≡ ascending membership_cmp ms
+    → IsPeopled (record { users = us'; orgs = os'; roles = ms' })
 IsPeopled-ascending us us' os os' ms ms' names org_names pairs eu eo em = record {
-  users = subst (IsAscending user_cmp) (sym eu) (IsAscending-ascending user_cmp user_cmp_total us (AreApart-are_apart user_cmp us (are_apart-users us ∙ names)));
-  orgs = subst (IsAscending org_cmp) (sym eo) (IsAscending-ascending org_cmp org_cmp_total os (AreApart-are_apart org_cmp os (are_apart-orgs os ∙ org_names)));
-  roles = subst (IsAscending membership_cmp) (sym em) (IsAscending-ascending membership_cmp membership_cmp_total ms (AreApart-are_apart membership_cmp ms (are_apart-roles ms ∙ pairs)));
+  users = subst (IsAscending user_cmp) (sym eu)
+      (IsAscending-ascending user_cmp user_cmp_total us (AreApart-are_apart user_cmp us (are_apart-users us ∙ names)));
+  orgs = subst (IsAscending org_cmp) (sym eo)
+      (IsAscending-ascending org_cmp org_cmp_total os (AreApart-are_apart org_cmp os (are_apart-orgs os ∙ org_names)));
+  roles = subst (IsAscending membership_cmp) (sym em)
+      (IsAscending-ascending membership_cmp membership_cmp_total ms
+      (AreApart-are_apart membership_cmp ms (are_apart-roles ms ∙ pairs)));
 }

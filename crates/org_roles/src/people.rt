@@ -4,7 +4,8 @@ ghost use Rattle.std.specs.List.{list_any};
 ghost use Rattle.std.specs.Option.{option_copied};
 ghost use Rattle.std.specs.Str.{bytes_eq};
 ghost use Rattle.portal_base.specs.Ordered.{inserted, ascending, are_apart};
-ghost use Rattle.org_roles.specs.Distinct.{is_name_among, have_distinct_names, have_distinct_org_names, have_distinct_pairs};
+ghost use Rattle.org_roles.specs.Distinct.{is_name_among, have_distinct_names, have_distinct_org_names};
+ghost use Rattle.org_roles.specs.Distinct.{have_distinct_pairs};
 ghost use Rattle.org_roles.specs.Order.{user_cmp, org_cmp, membership_cmp, users_ascending};
 ghost use Rattle.org_roles.specs.Peopled.{is_user_in, org_in, role_in, is_sysadmin_in};
 
