@@ -1,5 +1,6 @@
 -- Counters of one `u64`, and what a clock and a drawer of numbers give that only count their calls.
-use Rattle.std.specs.Prelude.{ℕ, zero, suc, ℤ, pos, ◌+◌, ◌-◌, ◌^◌, nat_lt, if◌then◌else◌, min, List, [], ◌∷◌, ◌++◌, Option, Some, None}
+use Rattle.std.specs.Prelude.{ℕ, zero, suc, ℤ, pos, ◌+◌, ◌-◌, ◌^◌, nat_lt, if◌then◌else◌, min, Bool}
+use Rattle.std.specs.Prelude.{List, [], ◌∷◌, ◌++◌, Option, Some, None}
 
 -- one more, up to the last value of a `u64`
 abbrev pub next_count : ℕ → ℕ
@@ -22,3 +23,9 @@ script_moment n = pos (min (1704067200 + n) 253402300799)
 abbrev pub script_moments : ℕ → List ℤ
 script_moments zero = []
 script_moments (suc n) = script_moments n ++ script_moment n ∷ []
+
+-- what answers true so many times: how often it did, and whether it answered false
+pub record Ticking : Type 0 where
+  pub most : ℕ
+  pub count : ℕ
+  pub has_ended : Bool

@@ -1,10 +1,10 @@
-//! A clock and a drawer of numbers that only count their calls.
-ghost use Rattle.std.specs.Prelude.{◌≡◌};
+//! A clock, a drawer of numbers and a ticker that only count their calls.
+ghost use Rattle.std.specs.Prelude.{◌≡◌, true, false, not, nat_lt, if◌then◌else◌};
 ghost use Rattle.portal_base.specs.Counted.{script_moment, next_count};
 
 use crate::moment::Moment;
 use crate::nonce::Nonce;
-use crate::outside::{Clock, Nonces};
+use crate::outside::{Clock, Nonces, Ticker};
 use std::marker::Model;
 
 /// 2024-01-01T00:00:00, in seconds since 1970-01-01T00:00:00.
@@ -85,5 +85,57 @@ impl Nonces for CountNonces {
     {
         self.last = self.last.saturating_add(1);
         Nonce(u128::from(self.last))
+    }
+}
+
+/// A ticker that answers true so many times, and false from then on.
+#[derive(Drop)]
+pub struct CountTicker {
+    most: u64,
+    count: u64,
+    has_ended: bool,
+}
+
+impl Model for CountTicker {
+    ghost use Rattle.std.specs.Prelude.{◌≡◌, ◌≤◌, true};
+    ghost use Rattle.portal_base.specs.Counted.{Ticking};
+
+    ghost Value = { Ticking };
+
+    ghost view = { λ t. record { most = t.most; count = t.count; has_ended = t.has_ended } };
+
+    ghost invariant = { λ t. t.has_ended ≡ true → t.most ≤ t.count };
+}
+
+impl CountTicker {
+    pub fn new(count: u64) -> CountTicker
+        ensures { result ≡ record { most = count; count = 0; has_ended = false } }
+    {
+        CountTicker {
+            most: count,
+            count: 0,
+            has_ended: false,
+        }
+    }
+}
+
+impl Ticker for CountTicker {
+    ghost count = { λ t. t.count };
+
+    ghost has_ended = { λ t. t.has_ended };
+
+    fn tick(&mut self) -> bool
+        ensures answer { result ≡ nat_lt self.old.count self.old.most }
+        ensures most { self.new.most ≡ self.old.most }
+        ensures count { self.new.count ≡ (if result then next_count self.old.count else self.old.count) }
+        ensures end { self.new.has_ended ≡ not result }
+        ensures ended { self.old.has_ended ≡ true → result ≡ false }
+    {
+        if self.count >= self.most {
+            self.has_ended = true;
+            return false;
+        }
+        self.count += 1;
+        true
     }
 }

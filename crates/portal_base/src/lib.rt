@@ -6,6 +6,7 @@ pub mod copy;
 pub mod counted;
 pub mod json_value;
 pub mod kinds;
+pub mod lent;
 pub mod members;
 pub mod memory;
 pub mod moment;
@@ -14,6 +15,8 @@ pub mod nonce;
 pub mod ordered;
 pub mod ordered_laws;
 pub mod outside;
+#[cfg(test)]
+mod outside_tests;
 pub mod seq;
 pub mod split;
 pub mod std_adapters;
