@@ -397,6 +397,3 @@ pub fn required<T>(found: Option<T>) -> Result<T, KindFault>
         None => Err(KindFault::Missing),
     }
 }
-
-#[cfg(test)]
-mod tests;

@@ -15,8 +15,6 @@ pub mod nonce;
 pub mod ordered;
 pub mod ordered_laws;
 pub mod outside;
-#[cfg(test)]
-mod outside_tests;
 pub mod seq;
 pub mod split;
 pub mod std_adapters;

@@ -129,6 +129,3 @@ pub fn sort<T: Ordered>(items: &mut Vec<T>)
 {
     items.sort_unstable_by(|first, second| first.compare(second));
 }
-
-#[cfg(test)]
-mod tests;

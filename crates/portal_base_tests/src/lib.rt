@@ -5,4 +5,10 @@
 #[cfg(test)]
 mod devices;
 #[cfg(test)]
+mod kinds;
+#[cfg(test)]
+mod ordered;
+#[cfg(test)]
+mod outside;
+#[cfg(test)]
 mod values;

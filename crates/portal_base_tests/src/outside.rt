@@ -1,15 +1,15 @@
-// What generic code learns of each device of the outside, and each once at a type of its own.
+//! What generic code learns of each device of the outside, and each once at a type of its own.
 ghost use Rattle.std.specs.Prelude.{◌≡◌, ◌∷◌, [], Ok, true, false, take};
 ghost use Rattle.std.specs.Prelude.{IsTrue, IsSome, IsSomeAnd, IfSome, IfOk, OnErr};
 ghost use Rattle.portal_base.specs.Counted.{next_count};
 ghost use Rattle.portal_base.specs.Outside.{Gives, Takes, Rose, HoldsNothingAt, TakesOne};
 
-use crate::counted::CountTicker;
-use crate::lent::Lent;
-use crate::memory::{MemoryFetcher, MemoryLink, MemoryListener, MemorySource};
-use crate::outside::{Failed, FetchFault, Fetcher, Link, Listener, Source, Ticker};
-use crate::seq::Seq;
-use crate::text::Text;
+use portal_base::counted::CountTicker;
+use portal_base::lent::Lent;
+use portal_base::memory::{MemoryFetcher, MemoryLink, MemoryListener, MemorySource};
+use portal_base::outside::{Failed, FetchFault, Fetcher, Link, Listener, Source, Ticker};
+use portal_base::seq::Seq;
+use portal_base::text::Text;
 use std::alloc::{AllocError, Global};
 
 fn bytes(alloc: Global, text: &str) -> Result<Seq<u8>, AllocError>

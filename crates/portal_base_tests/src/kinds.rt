@@ -1,7 +1,7 @@
 //! What takes memory answers where there is enough: each message, and the texts of keys.
-use super::{KindFault, texts_at};
-use crate::json_value::Json;
-use crate::text::Text;
+use portal_base::kinds::{KindFault, texts_at};
+use portal_base::json_value::Json;
+use portal_base::text::Text;
 use std::alloc::{AllocError, Global};
 use std::process::Abort;
 use std::test::Fail;

@@ -1,5 +1,5 @@
 //! Words by their numbers: each call where there is enough memory.
-use super::{Key, Ordered, are_apart, find, insert, put, remove, reserve, sort};
+use portal_base::ordered::{Key, Ordered, are_apart, find, insert, put, remove, reserve, sort};
 use std::alloc::{AllocError, Global};
 use std::cmp::Ordering;
 use std::process::Abort;
