@@ -1,9 +1,9 @@
--- Texts that are names of at most a hundred characters, and the faults of others.
-use Rattle.std.proofs.Common.{◌≡◌, ◌∷◌, [], Some, None, refl}
+-- Texts that are names, of at most a hundred characters or of some bound, and the faults of others.
+use Rattle.std.proofs.Common.{◌≡◌, ◌∷◌, [], Some, None, true, false, refl}
 use Rattle.std.specs.Prelude.{codes}
 use Rattle.std.specs.Str.{chars}
 use Rattle.portal_base.specs.declared.name.NameFault.TheVariants.{Length, Character, Reserved}
-use Rattle.portal_base.specs.Name.{name_fault}
+use Rattle.portal_base.specs.Name.{name_fault, is_some_name}
 
 one_letter : name_fault (codes "a") 100 ≡ Some Length
 unfolding chars
@@ -37,3 +37,19 @@ id = refl
 too_long : name_fault (codes "trees") 4 ≡ Some Length
 unfolding chars
 too_long = refl
+
+of_some_bound : is_some_name (codes "trees") ≡ true
+unfolding chars
+of_some_bound = refl
+
+of_no_bound : is_some_name (codes "a") ≡ false
+unfolding chars
+of_no_bound = refl
+
+capital_of_no_bound : is_some_name (codes "Ab") ≡ false
+unfolding chars
+capital_of_no_bound = refl
+
+reserved_of_no_bound : is_some_name (codes "edit") ≡ false
+unfolding chars
+reserved_of_no_bound = refl

@@ -54,3 +54,7 @@ name_fault text longest =
 -- whether the text is a name of at most so many characters
 abbrev pub is_name : List ℕ → ℕ → Bool
 is_name text longest = is_none (name_fault text longest)
+
+-- whether the text is a name, however long names may be
+abbrev pub is_some_name : List ℕ → Bool
+is_some_name text = nat_le 2 (length (chars text)) && has_name_characters text && not (is_reserved text)

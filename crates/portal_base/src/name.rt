@@ -1,25 +1,30 @@
 //! Names of datasets, organizations and users, as they stand in addresses.
-ghost use Rattle.std.specs.Prelude.{◌≡◌, List, length, MatchOption, IfOk, IsOkUnless, Err};
+ghost use Rattle.std.specs.Prelude.{◌≡◌, List, length, MatchOption, IfOk, IsOkUnless, Err, IsTrue};
 ghost use Rattle.std.specs.Str.{chars};
-ghost use Rattle.portal_base.specs.Name.{name_fault, has_name_length, has_name_characters, is_name_character, is_portal_address, is_id_character, has_id_characters, is_id_shaped, is_reserved};
+ghost use Rattle.portal_base.specs.Name.{name_fault, has_name_length, has_name_characters, is_name_character, is_portal_address, is_id_character, has_id_characters, is_id_shaped, is_reserved, is_some_name};
 
 use crate::text::Text;
 use std::alloc::Global;
 use std::marker::Model;
 use thiserror::Error;
 
-/// A name: ASCII letters in lower case, digits, `-` and `_`. A contract sees it as the list of its bytes.
+/// A name: two characters at least, which are ASCII letters in lower case, digits, `-` and `_`, and not a reserved
+/// text. A contract sees it as the list of its bytes.
 #[derive(Drop)]
 pub struct Name {
     text: Text,
 }
 
 impl Model for Name {
-    ghost use Rattle.std.specs.Prelude.{ℕ, List};
+    ghost use Rattle.std.specs.Prelude.{ℕ, List, ◌≡◌, true};
 
     ghost Value = { List ℕ };
 
+    ghost use Rattle.portal_base.specs.Name.{is_some_name};
+
     ghost view = { λ name. name.text };
+
+    ghost invariant = { λ name. is_some_name name.text ≡ true };
 }
 
 /// Why a text is no name. `OutOfMemory` says nothing of the text.
@@ -57,13 +62,15 @@ impl Name {
     }
 
     pub fn as_str(&self) -> &str
-        ensures { result.now ≡ self.now }
+        ensures same { result.now ≡ self.now }
+        ensures name { IsTrue (is_some_name self.now) }
     {
         self.text.as_str()
     }
 
     pub fn into_text(self) -> Text
-        ensures { result ≡ self }
+        ensures same { result ≡ self }
+        ensures name { IsTrue (is_some_name self) }
     {
         self.text
     }
