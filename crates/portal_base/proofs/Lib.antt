@@ -21,6 +21,8 @@ mod OrderedExamples
 pub mod ReadingBack
 pub mod ReadingLemmas
 mod JsonFirst
+mod DictionaryExamples
+pub mod DictionaryLemmas
 pub mod Removed
 pub mod Sorted
 pub mod Unique

@@ -11,3 +11,4 @@ pub mod Name
 pub mod Ordered
 pub mod Outside
 pub mod Text
+pub mod Dictionary

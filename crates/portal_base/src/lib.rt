@@ -4,6 +4,7 @@
 pub mod caller;
 pub mod copy;
 pub mod counted;
+pub mod dictionary;
 pub mod json_value;
 pub mod kinds;
 pub mod lent;
