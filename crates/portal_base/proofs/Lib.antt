@@ -2,6 +2,7 @@ pub mod CivilLemmas
 pub mod FormLemmas
 mod IdExamples
 mod KindExamples
+pub mod KindLaws
 pub mod KindLemmas
 pub mod IdLemmas
 pub mod Inserted

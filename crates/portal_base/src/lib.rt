@@ -6,6 +6,7 @@ pub mod copy;
 pub mod counted;
 pub mod dictionary;
 pub mod json_value;
+pub mod kind_laws;
 pub mod kinds;
 pub mod lent;
 pub mod members;
