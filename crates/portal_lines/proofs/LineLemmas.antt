@@ -1,9 +1,12 @@
 -- A line comes together from pieces.
-use Rattle.std.proofs.Common.{◌≡◌, ℕ, List, [], ◌∷◌, ◌++◌, ◌∙◌, refl, sym, ap, subst, append_assoc, ◌+◌, ◌-◌, ◌<◌, ◌≤◌, length, take, drop, arith, Bool, true, false, cond, get_or, length-append, inl, inr, ⊎_elim, not, nat_lt, true≢false}
+use Rattle.std.proofs.Common.{◌≡◌, ℕ, List, [], ◌∷◌, ◌++◌, ◌∙◌, refl, sym, ap, subst, append_assoc, ◌+◌, ◌-◌, ◌<◌}
+use Rattle.std.proofs.Common.{◌≤◌, length, take, drop, arith, Bool, true, false, cond, get_or, length-append, inl}
+use Rattle.std.proofs.Common.{inr, ⊎_elim, not, nat_lt, true≢false}
 use Rattle.std.specs.Prelude.{Option, Some, None, position, ◌==◌}
 use Rattle.std.specs.List.{position_or_len, slice_split}
 use Rattle.std.specs.Str.Lines.{lines, lines_of_parts, strip_carriage_return}
-use Rattle.std.proofs.lemmas.List.{append-nil, get_or-take, drop_more, length-take, take-append-drop, drop-take, drop-drop, nil_from_length}
+use Rattle.std.proofs.lemmas.List.{append-nil, get_or-take, drop_more, length-take, take-append-drop, drop-take}
+use Rattle.std.proofs.lemmas.List.{drop-drop, nil_from_length}
 use Rattle.std.proofs.lemmas.List.Elements.{All-append}
 use Rattle.std.proofs.lemmas.List.Sums.{prefix_len_passes}
 use Rattle.std.proofs.lemmas.List.Quantifiers.{position-Some}
@@ -16,7 +19,8 @@ use Rattle.portal_lines.specs.Lines.{Reading, EndsLine, TakesLine, SkipsLine, Fi
 use Rattle.portal_lines.specs.Drafts.{HasNoFeed, KeepsRaw, TakesPiece}
 use Rattle.portal_base.proofs.OutsideLemmas.{Gives-none, Gives-append}
 
-lines_of_parts-cons : (x : List ℕ) (parts : List (List ℕ)) → 0 < length parts → lines_of_parts (x ∷ parts) ≡ strip_carriage_return x ∷ lines_of_parts parts
+lines_of_parts-cons : (x : List ℕ) (parts : List (List ℕ)) → 0 < length parts
+    → lines_of_parts (x ∷ parts) ≡ strip_carriage_return x ∷ lines_of_parts parts
 lines_of_parts-cons x [] some = absurd (omega arith)
 lines_of_parts-cons x (y ∷ more) some = refl
 
@@ -54,14 +58,17 @@ lines-last raw free some =
     ∙ ap (λ t. cond t [] (raw ∷ [])) (ne_eqb (length raw) 0 (λ z. omega arith))
 
 -- the place of the first line feed
-pub TakesPiece-at : (bytes : List ℕ) (place : ℕ) → position (λ b. b == 10) bytes ≡ Some place → TakesPiece true bytes (take place bytes) (drop (place + 1) bytes)
+pub TakesPiece-at : (bytes : List ℕ) (place : ℕ) → position (λ b. b == 10) bytes ≡ Some place
+    → TakesPiece true bytes (take place bytes) (drop (place + 1) bytes)
 TakesPiece-at bytes place found =
     let p = position-Some (λ b. b == 10) bytes place 0 found in (
       λ k d below. let lt : k < place = omega (arith, length-take place bytes) in
           let inside : k < length bytes = omega (arith, p.0) in
-          let at_zero : (get_or bytes k d == 10) ≡ false = subst (λ v. (v == 10) ≡ false) (grind (arith, common_steps)) (p.2 k lt) in
+          let at_zero : (get_or bytes k d == 10) ≡ false =
+          subst (λ v. (v == 10) ≡ false) (grind (arith, common_steps)) (p.2 k lt) in
           subst (λ v. (v == 10) ≡ false) (sym (get_or-take place bytes k d lt)) at_zero,
-      sym (take-append-drop place bytes) ∙ ap (λ v. take place bytes ++ v) (drop_more bytes place 0 p.0 ∙ ap (λ v. v ∷ drop (place + 1) bytes) (eqb-true _ 10 p.1)),
+      sym (take-append-drop place bytes) ∙ ap (λ v. take place bytes ++ v) (drop_more bytes place 0 p.0
+          ∙ ap (λ v. v ∷ drop (place + 1) bytes) (eqb-true _ 10 p.1)),
     )
 
 pub HasNoFeed-all : (bytes : List ℕ) → position (λ b. b == 10) bytes ≡ None → HasNoFeed bytes
@@ -70,7 +77,8 @@ HasNoFeed-all bytes found k d below =
     not_true _ (prefix_len_passes (λ b. not (b == 10)) bytes k d (omega arith))
 
 -- what is left of a part after its first n bytes
-pub range-drop : (xs : List ℕ) (start end n : ℕ) → n ≤ end - start → take (end - (start + n)) (drop (start + n) xs) ≡ drop n (take (end - start) (drop start xs))
+pub range-drop : (xs : List ℕ) (start end n : ℕ) → n ≤ end - start
+    → take (end - (start + n)) (drop (start + n) xs) ≡ drop n (take (end - start) (drop start xs))
 range-drop xs start end n within =
     let e : end - start ≡ n + (end - (start + n)) = omega arith in
     sym (ap (λ m. drop n (take m (drop start xs))) e ∙ drop-take n (end - (start + n)) (drop start xs)
@@ -78,11 +86,13 @@ range-drop xs start end n within =
 
 -- A piece goes into the draft.
 abbrev pub Adds : ℕ → List ℕ → Bool → List ℕ → List ℕ → Bool → Type 0
-Adds longest kept over piece kept' over' = (raw : List ℕ) → KeepsRaw longest raw kept over → KeepsRaw longest (raw ++ piece) kept' over'
+Adds longest kept over piece kept' over' = (raw : List ℕ) → KeepsRaw longest raw kept over
+    → KeepsRaw longest (raw ++ piece) kept' over'
 
 -- Part of a line came: what was held before the call, what the source told then and how many bytes it had given; the
 -- most bytes of a line; what is held now, what the source tells now and how many bytes it has given; and the draft.
-pub record UnderWay (held : List ℕ) (told : Option (List ℕ)) (given longest : ℕ) (window : List ℕ) (left : Option (List ℕ)) (now : ℕ) (kept : List ℕ) (over : Bool) : Type 0 where
+pub record UnderWay (held : List ℕ) (told : Option (List ℕ)) (given longest : ℕ) (window : List ℕ)
+    (left : Option (List ℕ)) (now : ℕ) (kept : List ℕ) (over : Bool) : Type 0 where
   pub bytes : List ℕ
   pub raw : List ℕ
   pub gives : Gives told bytes left
@@ -91,7 +101,8 @@ pub record UnderWay (held : List ℕ) (told : Option (List ℕ)) (given longest 
   pub free : HasNoFeed raw
   pub keeps : KeepsRaw longest raw kept over
 
-pub UnderWay-start : (held : List ℕ) (told : Option (List ℕ)) (given longest : ℕ) (kept : List ℕ) (over : Bool) → kept ≡ [] → over ≡ false → UnderWay held told given longest held told given kept over
+pub UnderWay-start : (held : List ℕ) (told : Option (List ℕ)) (given longest : ℕ) (kept : List ℕ) (over : Bool)
+    → kept ≡ [] → over ≡ false → UnderWay held told given longest held told given kept over
 UnderWay-start held told given longest kept over e f = record {
   bytes = [];
   raw = [];
@@ -104,21 +115,31 @@ UnderWay-start held told given longest kept over e f = record {
 
 module _ (held : List ℕ) (told : Option (List ℕ)) (given longest : ℕ) where
   -- what was held went into the draft, and the source gave more
-  pub UnderWay-read : (window : List ℕ) (left : Option (List ℕ)) (now : ℕ) (kept : List ℕ) (over : Bool) (found : Bool) (piece after kept' : List ℕ) (over' : Bool) (more : List ℕ) (left' : Option (List ℕ)) (now' at_most : ℕ) → UnderWay held told given longest window left now kept over → at_most ≡ longest → found ≡ false → TakesPiece found window piece after → Adds at_most kept over piece kept' over' → Gives left more left' → now' ≡ now + length more → UnderWay held told given longest more left' now' kept' over'
-  UnderWay-read window left now kept over true piece after kept' over' more left' now' at_most u same missing takes adds gives counts = absurd (true≢false missing)
-  UnderWay-read window left now kept over false piece after kept' over' more left' now' at_most u same missing takes adds gives counts = record {
-    bytes = u.bytes ++ more;
-    raw = u.raw ++ piece;
-    gives = Gives-append told left left' u.bytes more u.gives gives;
-    counts = omega (arith, u.counts, length-append u.bytes more);
-    splits = sym (append_assoc held u.bytes more) ∙ ap (λ v. v ++ more) (u.splits ∙ ap (λ v. u.raw ++ v) takes.1);
-    free = All-append (λ b. (b == 10) ≡ false) u.raw piece u.free takes.0;
-    keeps = subst (λ n. KeepsRaw n (u.raw ++ piece) kept' over') same (adds u.raw (subst (λ n. KeepsRaw n u.raw kept over) (sym same) u.keeps));
-  }
+  pub UnderWay-read : (window : List ℕ) (left : Option (List ℕ)) (now : ℕ) (kept : List ℕ) (over : Bool)
+      (found : Bool) (piece after kept' : List ℕ) (over' : Bool) (more : List ℕ) (left' : Option (List ℕ))
+      (now' at_most : ℕ) → UnderWay held told given longest window left now kept over → at_most ≡ longest
+      → found ≡ false → TakesPiece found window piece after → Adds at_most kept over piece kept' over'
+      → Gives left more left' → now' ≡ now + length more → UnderWay held told given longest more left' now' kept' over'
+  UnderWay-read window left now kept over true piece after kept' over' more left' now' at_most u same missing takes
+      adds gives counts = absurd (true≢false missing)
+  UnderWay-read window left now kept over false piece after kept' over' more left' now' at_most u same missing takes
+      adds gives counts = record {
+        bytes = u.bytes ++ more;
+        raw = u.raw ++ piece;
+        gives = Gives-append told left left' u.bytes more u.gives gives;
+        counts = omega (arith, u.counts, length-append u.bytes more);
+        splits = sym (append_assoc held u.bytes more) ∙ ap (λ v. v ++ more) (u.splits ∙ ap (λ v. u.raw ++ v) takes.1);
+        free = All-append (λ b. (b == 10) ≡ false) u.raw piece u.free takes.0;
+        keeps = subst (λ n. KeepsRaw n (u.raw ++ piece) kept' over') same
+            (adds u.raw (subst (λ n. KeepsRaw n u.raw kept over) (sym same) u.keeps));
+      }
 
 -- the line feed came
-module _ (old new : Reading) (told left : Option (List ℕ)) (window kept : List ℕ) (over : Bool) (piece kept' : List ℕ) (at_most : ℕ) (u : UnderWay old.held told old.given old.longest window left new.given kept over) (same : at_most ≡ old.longest) where
-  TakesLine-fed : TakesPiece true window piece new.held → TakesLine old told (strip_carriage_return (u.raw ++ piece)) new left
+module _ (old new : Reading) (told left : Option (List ℕ)) (window kept : List ℕ) (over : Bool)
+    (piece kept' : List ℕ) (at_most : ℕ) (u : UnderWay old.held told old.given old.longest window left new.given
+    kept over) (same : at_most ≡ old.longest) where
+  TakesLine-fed : TakesPiece true window piece new.held
+      → TakesLine old told (strip_carriage_return (u.raw ++ piece)) new left
   TakesLine-fed takes =
       let free = All-append (λ b. (b == 10) ≡ false) u.raw piece u.free takes.0 in
       record {
@@ -126,34 +147,48 @@ module _ (old new : Reading) (told left : Option (List ℕ)) (window kept : List
         front = (u.raw ++ piece) ++ 10 ∷ [];
         gives = u.gives;
         counts = u.counts;
-        splits = u.splits ∙ ap (λ v. u.raw ++ v) takes.1 ∙ sym (append_assoc u.raw piece (10 ∷ new.held)) ∙ sym (append_assoc (u.raw ++ piece) (10 ∷ []) new.held);
+        splits = u.splits ∙ ap (λ v. u.raw ++ v) takes.1 ∙ sym (append_assoc u.raw piece (10 ∷ new.held))
+            ∙ sym (append_assoc (u.raw ++ piece) (10 ∷ []) new.held);
         only = lines-fed (u.raw ++ piece) [] free;
         ended = inl (EndsLine-fed (u.raw ++ piece) free);
       }
 
   added : (over' : Bool) → Adds at_most kept over piece kept' over' → KeepsRaw old.longest (u.raw ++ piece) kept' over'
-  added over' adds = subst (λ n. KeepsRaw n (u.raw ++ piece) kept' over') same (adds u.raw (subst (λ n. KeepsRaw n u.raw kept over) (sym same) u.keeps))
+  added over' adds = subst (λ n. KeepsRaw n (u.raw ++ piece) kept' over') same
+      (adds u.raw (subst (λ n. KeepsRaw n u.raw kept over) (sym same) u.keeps))
 
-  pub TakesLine-ended : (found : Bool) → found ≡ true → TakesPiece found window piece new.held → (over' : Bool) → Adds at_most kept over piece kept' over' → over' ≡ false → (line : List ℕ) → line ≡ strip_carriage_return kept' → TakesLine old told line new left
+  pub TakesLine-ended : (found : Bool) → found ≡ true → TakesPiece found window piece new.held → (over' : Bool)
+      → Adds at_most kept over piece kept' over' → over' ≡ false → (line : List ℕ)
+      → line ≡ strip_carriage_return kept' → TakesLine old told line new left
   TakesLine-ended false is takes over' adds fits line e = absurd (true≢false (sym is))
   TakesLine-ended true is takes true adds fits line e = absurd (true≢false fits)
   TakesLine-ended true is takes false adds fits line e =
-      subst (λ v. TakesLine old told v new left) (ap strip_carriage_return (sym (added false adds)) ∙ sym e) (TakesLine-fed takes)
+      subst (λ v. TakesLine old told v new left) (ap strip_carriage_return (sym (added false adds))
+      ∙ sym e) (TakesLine-fed takes)
 
-  pub SkipsLine-ended : (found : Bool) → found ≡ true → TakesPiece found window piece new.held → (over' : Bool) → Adds at_most kept over piece kept' over' → (over' ≡ false → at_most < length (strip_carriage_return kept')) → SkipsLine old told new left
+  pub SkipsLine-ended : (found : Bool) → found ≡ true → TakesPiece found window piece new.held → (over' : Bool)
+      → Adds at_most kept over piece kept' over' → (over' ≡ false → at_most < length (strip_carriage_return kept'))
+      → SkipsLine old told new left
   SkipsLine-ended false is takes over' adds long = absurd (true≢false (sym is))
-  SkipsLine-ended true is takes true adds long =
-      (strip_carriage_return (u.raw ++ piece), TakesLine-fed takes, omega (arith, length-strip (u.raw ++ piece), added true adds))
+  SkipsLine-ended true is takes true adds long = (
+    strip_carriage_return (u.raw ++ piece),
+    TakesLine-fed takes,
+    omega (arith, length-strip (u.raw ++ piece), added true adds),
+  )
   SkipsLine-ended true is takes false adds long =
-      let longer : old.longest < length (strip_carriage_return kept') = omega (arith, same, long refl) in
-      (strip_carriage_return (u.raw ++ piece), TakesLine-fed takes, subst (λ v. old.longest < length (strip_carriage_return v)) (added false adds) longer)
+      let longer : old.longest < length (strip_carriage_return kept') = omega (arith, same, long refl) in (
+        strip_carriage_return (u.raw ++ piece),
+        TakesLine-fed takes,
+        subst (λ v. old.longest < length (strip_carriage_return v)) (added false adds) longer,
+      )
 
 IsAtEnd-same : (told left : Option (List ℕ)) → Gives told [] left → left ≡ told
 IsAtEnd-same None left gives = gives
 IsAtEnd-same (Some all) left gives = gives.1 ∙ ap Some (sym gives.2)
 
 -- no byte came from a source at its end
-IsAtEnd-after : (told left : Option (List ℕ)) (more : List ℕ) → Gives told more left → length more ≡ 0 → IsAtEnd told → IsAtEnd left
+IsAtEnd-after : (told left : Option (List ℕ)) (more : List ℕ) → Gives told more left → length more ≡ 0
+    → IsAtEnd told → IsAtEnd left
 IsAtEnd-after told left more gives none end =
     subst IsAtEnd (sym (IsAtEnd-same told left (subst (λ v. Gives told v left) (nil_from_length more none) gives))) end
 
@@ -163,15 +198,22 @@ pub record AtLast (old new : Reading) (told left : Option (List ℕ)) (kept : Li
   pub none : new.held ≡ []
   pub at_end : IsAtEnd left
 
-pub AtLast-read : (old new : Reading) (told left : Option (List ℕ)) (window kept : List ℕ) (over found : Bool) (piece after kept' : List ℕ) (over' : Bool) (left' : Option (List ℕ)) (at_most : ℕ) → UnderWay old.held told old.given old.longest window left new.given kept over → at_most ≡ old.longest → found ≡ false → TakesPiece found window piece after → Adds at_most kept over piece kept' over' → Gives left new.held left' → length new.held ≡ 0 → IsAtEnd left → AtLast old new told left' kept' over'
-AtLast-read old new told left window kept over found piece after kept' over' left' at_most u same missing takes adds gives none end = record {
-  under_way = UnderWay-read old.held told old.given old.longest window left new.given kept over found piece after kept' over' new.held left' new.given at_most u same missing takes adds gives (omega (arith, none));
-  none = nil_from_length new.held none;
-  at_end = IsAtEnd-after left left' new.held gives none end;
-}
+pub AtLast-read : (old new : Reading) (told left : Option (List ℕ)) (window kept : List ℕ) (over found : Bool)
+    (piece after kept' : List ℕ) (over' : Bool) (left' : Option (List ℕ)) (at_most : ℕ)
+    → UnderWay old.held told old.given old.longest window left new.given kept over → at_most ≡ old.longest
+    → found ≡ false → TakesPiece found window piece after → Adds at_most kept over piece kept' over'
+    → Gives left new.held left' → length new.held ≡ 0 → IsAtEnd left → AtLast old new told left' kept' over'
+AtLast-read old new told left window kept over found piece after kept' over' left' at_most u same missing takes adds
+    gives none end = record {
+      under_way = UnderWay-read old.held told old.given old.longest window left new.given kept over found piece after
+          kept' over' new.held left' new.given at_most u same missing takes adds gives (omega (arith, none));
+      none = nil_from_length new.held none;
+      at_end = IsAtEnd-after left left' new.held gives none end;
+    }
 
 module _ (old new : Reading) (told left : Option (List ℕ)) (kept : List ℕ) where
-  TakesLine-rest : (over : Bool) (last : AtLast old new told left kept over) → 0 < length last.under_way.raw → TakesLine old told last.under_way.raw new left
+  TakesLine-rest : (over : Bool) (last : AtLast old new told left kept over) → 0 < length last.under_way.raw
+      → TakesLine old told last.under_way.raw new left
   TakesLine-rest over last some =
       let u = last.under_way in
       record {
@@ -184,18 +226,24 @@ module _ (old new : Reading) (told left : Option (List ℕ)) (kept : List ℕ) w
         ended = inr (last.none, last.at_end);
       }
 
-  pub SomeLine-last : (over : Bool) → AtLast old new told left kept over → (over ≡ false → kept ≡ [] → ⊥) → (line : List ℕ) × TakesLine old told line new left
+  pub SomeLine-last : (over : Bool) → AtLast old new told left kept over → (over ≡ false → kept ≡ [] → ⊥)
+      → (line : List ℕ) × TakesLine old told line new left
   SomeLine-last true last some = (last.under_way.raw, TakesLine-rest true last (omega (arith, last.under_way.keeps)))
-  SomeLine-last false last some =
-      (last.under_way.raw, TakesLine-rest false last (some_length last.under_way.raw (λ z. some refl (last.under_way.keeps ∙ z))))
+  SomeLine-last false last some = (
+    last.under_way.raw,
+    TakesLine-rest false last
+        (some_length last.under_way.raw (λ z. some refl (last.under_way.keeps ∙ z))),
+  )
 
-  pub TakesLine-last : (over : Bool) → AtLast old new told left kept over → over ≡ false → (kept ≡ [] → ⊥) → TakesLine old told kept new left
+  pub TakesLine-last : (over : Bool) → AtLast old new told left kept over → over ≡ false → (kept ≡ [] → ⊥)
+      → TakesLine old told kept new left
   TakesLine-last true last fits some = absurd (true≢false fits)
   TakesLine-last false last fits some =
       subst (λ v. TakesLine old told v new left) (sym last.under_way.keeps)
       (TakesLine-rest false last (some_length last.under_way.raw (λ z. some (last.under_way.keeps ∙ z))))
 
-  pub SkipsLine-last : (over : Bool) → AtLast old new told left kept over → (over ≡ false → old.longest < length kept) → SkipsLine old told new left
+  pub SkipsLine-last : (over : Bool) → AtLast old new told left kept over
+      → (over ≡ false → old.longest < length kept) → SkipsLine old told new left
   SkipsLine-last true last long =
       let u = last.under_way in
       (u.raw, TakesLine-rest true last (omega (arith, u.keeps)), omega (arith, u.keeps))
@@ -204,13 +252,15 @@ module _ (old new : Reading) (told left : Option (List ℕ)) (kept : List ℕ) w
       let longer : old.longest < length u.raw = subst (λ v. old.longest < length v) u.keeps (long refl) in
       (u.raw, TakesLine-rest false last (omega arith), longer)
 
-  pub FindsEnd-last : (over : Bool) → AtLast old new told left kept over → over ≡ false → kept ≡ [] → FindsEnd old told new left
+  pub FindsEnd-last : (over : Bool) → AtLast old new told left kept over → over ≡ false → kept ≡ []
+      → FindsEnd old told new left
   FindsEnd-last true last fits e = absurd (true≢false fits)
   FindsEnd-last false last fits e =
       let u = last.under_way in
       let no_raw : u.raw ≡ [] = sym u.keeps ∙ e in
       let nothing : old.held ++ u.bytes ≡ [] = u.splits ∙ ap (λ v. v ++ new.held) no_raw ∙ last.none in
-      let no_bytes : u.bytes ≡ [] = nil_from_length u.bytes (omega (arith, length-append old.held u.bytes, ap length nothing)) in
+      let no_bytes : u.bytes ≡ [] = nil_from_length u.bytes
+      (omega (arith, length-append old.held u.bytes, ap length nothing)) in
       let same : left ≡ told = IsAtEnd-same told left (subst (λ v. Gives told v left) no_bytes u.gives) in
       record {
         held_before = nil_from_length old.held (omega (arith, length-append old.held u.bytes, ap length nothing));
@@ -221,23 +271,37 @@ module _ (old new : Reading) (told left : Option (List ℕ)) (kept : List ℕ) w
       }
 
 -- with each line fewer bytes are left
-pub bytes_left-falls : (old new : Reading) (told left : Option (List ℕ)) (line : List ℕ) → TakesLine old told line new left → new.most ≡ old.most → new.given ≤ new.most → bytes_left new < bytes_left old
+pub bytes_left-falls : (old new : Reading) (told left : Option (List ℕ)) (line : List ℕ)
+    → TakesLine old told line new left → new.most ≡ old.most → new.given ≤ new.most → bytes_left new < bytes_left old
 bytes_left-falls old new told left line takes same within =
     let some : 0 < length takes.front = front_some takes.front line takes.only in
-    omega (arith, takes.counts, some, length-append old.held takes.bytes, length-append takes.front new.held, ap length takes.splits)
+    omega (
+      arith,
+      takes.counts,
+      some,
+      length-append old.held takes.bytes,
+      length-append takes.front new.held,
+      ap length takes.splits,
+    )
 
-lines-end : (front line held rest : List ℕ) → lines front ≡ line ∷ [] → held ≡ [] → rest ≡ [] → lines (front ++ (held ++ rest)) ≡ line ∷ lines (held ++ rest)
+lines-end : (front line held rest : List ℕ) → lines front ≡ line ∷ [] → held ≡ [] → rest ≡ []
+    → lines (front ++ (held ++ rest)) ≡ line ∷ lines (held ++ rest)
 lines-end front line held rest only none ended =
     let nothing : held ++ rest ≡ [] = ap (λ v. v ++ rest) none ∙ ended in
     ap (λ v. lines (front ++ v)) nothing ∙ ap lines (append-nil front) ∙ only ∙ ap (λ v. line ∷ lines v) (sym nothing)
 
 -- Where the source tells, the lines of all that was to come are this line and then the lines of what is left.
-pub TakesLine-lines : (old new : Reading) (told left : Option (List ℕ)) (line rest after : List ℕ) → TakesLine old told line new left → told ≡ Some rest → left ≡ Some after → lines (old.held ++ rest) ≡ line ∷ lines (new.held ++ after)
+pub TakesLine-lines : (old new : Reading) (told left : Option (List ℕ)) (line rest after : List ℕ)
+    → TakesLine old told line new left → told ≡ Some rest → left ≡ Some after
+    → lines (old.held ++ rest) ≡ line ∷ lines (new.held ++ after)
 TakesLine-lines old new told left line rest after takes tells leaves =
-    let gives : Gives (Some rest) takes.bytes (Some after) = subst (λ o. Gives o takes.bytes (Some after)) tells (subst (λ o. Gives told takes.bytes o) leaves takes.gives) in
+    let gives : Gives (Some rest) takes.bytes (Some after) =
+    subst (λ o. Gives o takes.bytes (Some after)) tells
+    (subst (λ o. Gives told takes.bytes o) leaves takes.gives) in
     let same : after ≡ gives.0 = cc in
     let whole : old.held ++ rest ≡ takes.front ++ (new.held ++ after) =
-    ap (λ v. old.held ++ v) (gives.2 ∙ ap (λ v. takes.bytes ++ v) (sym same)) ∙ sym (append_assoc old.held takes.bytes after)
+    ap (λ v. old.held ++ v) (gives.2 ∙ ap (λ v. takes.bytes ++ v) (sym same))
+    ∙ sym (append_assoc old.held takes.bytes after)
     ∙ ap (λ v. v ++ after) takes.splits ∙ append_assoc takes.front new.held after in
     ap lines whole ∙ ⊎_elim
     (λ ends. ends (new.held ++ after))

@@ -19,8 +19,10 @@ abbrev pub EndsLine : List ℕ → List ℕ → Type 0
 EndsLine front line = (more : List ℕ) → lines (front ++ more) ≡ line ∷ lines more
 
 -- One line came off the front of what the reader held and what the source gave in this call. It has its line feed,
--- or it is the last line, and nothing is left. `told` and `left` are what the source says is to come, before and after.
-pub record TakesLine (old : Reading) (told : Option (List ℕ)) (line : List ℕ) (new : Reading) (left : Option (List ℕ)) : Type 0 where
+-- or it is the last line, and nothing is left. `told` and `left` are what the source says is to come, before and
+-- after.
+pub record TakesLine (old : Reading) (told : Option (List ℕ)) (line : List ℕ) (new : Reading)
+    (left : Option (List ℕ)) : Type 0 where
   -- what the source gave in this call
   pub bytes : List ℕ
   -- the line with its end

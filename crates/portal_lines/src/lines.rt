@@ -1,5 +1,6 @@
 //! Lines of a source of bytes, each of bounded length.
-ghost use Rattle.std.specs.Prelude.{◌≡◌, ◌↔◌, ◌<◌, ◌≤◌, ◌+◌, ◌≢◌, ◌==◌, ℕ, List, [], ◌++◌, ◌∷◌, length, drop, position, false, Ok, Err, IfOk, OnOk, OnErr};
+ghost use Rattle.std.specs.Prelude.{◌≡◌, ◌↔◌, ◌<◌, ◌≤◌, ◌+◌, ◌≢◌, ◌==◌, ℕ, List, [], ◌++◌, ◌∷◌, length, drop};
+ghost use Rattle.std.specs.Prelude.{position, false, Ok, Err, IfOk, OnOk, OnErr};
 ghost use Rattle.std.specs.Str.Lines.{strip_carriage_return};
 ghost use Rattle.portal_base.specs.Outside.{Gives, Rose, IsAtEnd};
 ghost use Rattle.portal_lines.specs.Lines.{TakesLine, SkipsLine, FindsEnd, Receives, bytes_left};
@@ -105,6 +106,7 @@ impl Window {
         ensures end { result ≡ Ok 0 → IsAtEnd (S.to_come source.old) }
         ensures empty { OnErr result (self.new ≡ []) }
         ensures kept { OnErr result (S.to_come source.new ≡ S.to_come source.old) }
+        ensures loan { S.loan source.new ≡ S.loan source.old }
         ensures failed { OnErr result (Rose (S.faults source.old) (S.faults source.new)) }
         ensures counts { S.faults source.old ≤ S.faults source.new }
     {
@@ -232,14 +234,26 @@ impl Model for LineReader {
 
     ghost Value = { Reading };
 
-    ghost view = { λ r. record { held = r.window; line = r.draft.kept.items; given = r.given; longest = r.longest; most = r.most } };
+    ghost view = { λ r. record {
+      held = r.window;
+      line = r.draft.kept.items;
+      given = r.given;
+      longest = r.longest;
+      most = r.most;
+    } };
 }
 
 impl LineReader {
     /// A reader that has read nothing. `longest` is the most bytes of a line without its end, and `most` the most
     /// bytes that the source may give in all.
     pub fn new(alloc: Global, longest: usize, most: u64) -> Result<LineReader, AllocError>
-        ensures { IfOk result (λ reader. reader ≡ record { held = []; line = []; given = 0; longest = longest; most = most }) }
+        ensures { IfOk result (λ reader. reader ≡ record {
+          held = [];
+          line = [];
+          given = 0;
+          longest = longest;
+          most = most;
+        }) }
     {
         let window = Window::new(alloc)?;
         Ok(LineReader {
@@ -266,6 +280,7 @@ impl LineReader {
         ensures longest { self.new.longest ≡ self.old.longest }
         ensures most { self.new.most ≡ self.old.most }
         ensures counts { S.faults source.old ≤ S.faults source.new }
+        ensures loan { S.loan source.new ≡ S.loan source.old }
 
         ensures line { result ≡ Ok NextLine.Line →
             TakesLine self.old (S.to_come source.old) self.new.line self.new (S.to_come source.new) }

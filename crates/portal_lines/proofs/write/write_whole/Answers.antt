@@ -10,7 +10,8 @@ returns-in_err-count-clause-failed g c =
     let inv = c.loop-rest.invariant in
     let p = err_from_is_err_and c.from_residual.result c.from_residual.ensures.1 in
     let kept : Takes (g.O.Sink.taken c.args.output.now) inv.front (g.O.Sink.taken c.write.new.self) =
-    subst (λ told. Takes (g.O.Sink.taken c.args.output.now) inv.front told) (sym c.in_err-count.ensures.kept) inv.takes in
+    subst (λ told. Takes (g.O.Sink.taken c.args.output.now) inv.front told) (sym c.in_err-count.ensures.kept)
+    inv.takes in
     rw p.1 (TakesPrefix-front _ _ c.args.piece.now inv.front c.loop-rest.rest.now inv.splits kept)
 
 pub loop-rest-preserved : goal.loop-rest-preserved
@@ -19,6 +20,8 @@ loop-rest-preserved g c =
     record {
       front = inv.front ++ take c.in_ok-count.count c.loop-rest.rest.now;
       splits = take_on c.args.piece.now inv.front c.loop-rest.rest.now c.in_ok-count.count inv.splits;
-      takes = Takes-append (g.O.Sink.taken c.args.output.now) (g.O.Sink.taken c.loop-rest.output) (g.O.Sink.taken c.write.new.self) inv.front (take c.in_ok-count.count c.loop-rest.rest.now) inv.takes c.in_ok-count.ensures.bytes;
+      takes = Takes-append (g.O.Sink.taken c.args.output.now) (g.O.Sink.taken c.loop-rest.output)
+          (g.O.Sink.taken c.write.new.self) inv.front (take c.in_ok-count.count c.loop-rest.rest.now) inv.takes
+          c.in_ok-count.ensures.bytes;
       counts = omega (arith, inv.counts, c.in_ok-count.ensures.counts);
     }

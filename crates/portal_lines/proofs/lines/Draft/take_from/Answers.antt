@@ -12,15 +12,24 @@ returns-in_ok-add-in-Some c =
       take c.in-Some.place c.args.window.now,
       (piece.0, rw c.skip.ensures piece.1),
       λ raw keeps.
-          let same : take c.in-Some.place c.bytes-bytes.result.now ≡ take c.in-Some.place c.args.window.now = ap (take c.in-Some.place) c.bytes-bytes.ensures in
-          subst (λ v. KeepsRaw c.args.longest (raw ++ v) c.add.new.self.kept.items c.add.new.self.is_over) same (c.in_ok-add-in-Some.ensures raw keeps),
+          let same : take c.in-Some.place c.bytes-bytes.result.now ≡ take c.in-Some.place c.args.window.now =
+          ap (take c.in-Some.place) c.bytes-bytes.ensures in
+          subst (λ v. KeepsRaw c.args.longest (raw ++ v) c.add.new.self.kept.items c.add.new.self.is_over) same
+          (c.in_ok-add-in-Some.ensures raw keeps),
     )
 
 pub returns-in_ok-add-in-None : goal.returns-in_ok-add-in-None
 returns-in_ok-add-in-None c =
     let found : position (λ b. b == 10) c.args.window.now ≡ None = grind arith in (
       c.args.window.now,
-      (HasNoFeed-all c.args.window.now found, refl, c.skip-in-None.ensures ∙ drop_all (length c.bytes-bytes.result.now) c.args.window.now (omega (arith, ap length c.bytes-bytes.ensures))),
+      (
+        HasNoFeed-all c.args.window.now found,
+        refl,
+        c.skip-in-None.ensures
+            ∙ drop_all (length c.bytes-bytes.result.now) c.args.window.now
+            (omega (arith, ap length c.bytes-bytes.ensures)),
+      ),
       λ raw keeps.
-          subst (λ v. KeepsRaw c.args.longest (raw ++ v) c.add-in-None.new.self.kept.items c.add-in-None.new.self.is_over) c.bytes-bytes.ensures (c.in_ok-add-in-None.ensures raw keeps),
+          subst (λ v. KeepsRaw c.args.longest (raw ++ v) c.add-in-None.new.self.kept.items
+          c.add-in-None.new.self.is_over) c.bytes-bytes.ensures (c.in_ok-add-in-None.ensures raw keeps),
     )

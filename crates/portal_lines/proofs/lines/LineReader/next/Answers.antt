@@ -1,6 +1,8 @@
 use Rattle.std.proofs.Common.{◌≡◌, ◌∙◌, ◌<◌, ◌+◌, sym, ap, subst, arith, Ok, length}
 use Rattle.portal_lines.specs.declared.lines.NextLine.TheVariants.{Line, TooLong, End}
-use Rattle.portal_lines.proofs.LineLemmas.{UnderWay-read, TakesLine-ended, SkipsLine-ended, AtLast, AtLast-read, SomeLine-last, TakesLine-last, SkipsLine-last, FindsEnd-last, bytes_left-falls}
+use Rattle.portal_lines.proofs.LineLemmas.{UnderWay-read, TakesLine-ended, SkipsLine-ended, AtLast, AtLast-read}
+use Rattle.portal_lines.proofs.LineLemmas.{SomeLine-last, TakesLine-last, SkipsLine-last, FindsEnd-last}
+use Rattle.portal_lines.proofs.LineLemmas.{bytes_left-falls}
 use Rattle.portal_lines.proofs.lines.LineReader.next.Goals as goal
 
 pub returns-then-branch-clause-line : goal.returns-then-branch-clause-line
@@ -9,7 +11,8 @@ returns-then-branch-clause-line g c is =
     let taken = c.in_ok-take_from.ensures in
     let line : c.measure.result ≡ Line = cc in
     TakesLine-ended c.args.self.now _ (g.S.Source.to_come c.args.source.now) (g.S.Source.to_come c.loop-self.source)
-    c.loop-self.self-inside.window c.loop-self.self-inside.draft.kept.items c.loop-self.self-inside.draft.is_over taken.0 c.take_from.new.self.kept.items
+    c.loop-self.self-inside.window c.loop-self.self-inside.draft.kept.items c.loop-self.self-inside.draft.is_over
+    taken.0 c.take_from.new.self.kept.items
     c.loop-self.self-inside.longest inv.under_way inv.longest
     c.in_ok-take_from.field-0 c.if-branch.true taken.1 c.take_from.new.self.is_over taken.2
     (sym c.strip.ensures.over ∙ (c.measure.ensures.line line).0) c.strip.new.self.kept.items c.strip.ensures.kept
@@ -20,42 +23,62 @@ returns-then-branch-clause-long g c is =
     let taken = c.in_ok-take_from.ensures in
     let long : c.measure.result ≡ TooLong = cc in
     SkipsLine-ended c.args.self.now _ (g.S.Source.to_come c.args.source.now) (g.S.Source.to_come c.loop-self.source)
-    c.loop-self.self-inside.window c.loop-self.self-inside.draft.kept.items c.loop-self.self-inside.draft.is_over taken.0 c.take_from.new.self.kept.items
+    c.loop-self.self-inside.window c.loop-self.self-inside.draft.kept.items c.loop-self.self-inside.draft.is_over
+    taken.0 c.take_from.new.self.kept.items
     c.loop-self.self-inside.longest inv.under_way inv.longest
     c.in_ok-take_from.field-0 c.if-branch.true taken.1 c.take_from.new.self.is_over taken.2
-    (λ fits. subst (λ v. c.loop-self.self-inside.longest < length v) c.strip.ensures.kept (c.measure.ensures.long long (c.strip.ensures.over ∙ fits)))
+    (λ fits. subst (λ v. c.loop-self.self-inside.longest < length v) c.strip.ensures.kept
+    (c.measure.ensures.long long (c.strip.ensures.over ∙ fits)))
 
 pub loop-self-preserved : goal.loop-self-preserved
 loop-self-preserved g c =
     let inv = c.loop-self.invariant in
     let taken = c.in_ok-take_from.ensures in
     record {
-      under_way = UnderWay-read c.args.self.now.held (g.S.Source.to_come c.args.source.now) c.args.self.now.given c.args.self.now.longest
-          c.loop-self.self-inside.window (g.S.Source.to_come c.loop-self.source) c.loop-self.self-inside.given c.loop-self.self-inside.draft.kept.items c.loop-self.self-inside.draft.is_over
-          c.in_ok-take_from.field-0 taken.0 c.take_from.new.window c.take_from.new.self.kept.items c.take_from.new.self.is_over
-          c.fill.new.self (g.S.Source.to_come c.fill.new.source) (c.loop-self.self-inside.given + c.in_ok-count.count) c.loop-self.self-inside.longest
-          inv.under_way inv.longest c.if-branch.false taken.1 taken.2 c.in_ok-count.ensures.bytes (ap (λ n. c.loop-self.self-inside.given + n) c.in_ok-count.ensures.count);
+      under_way = UnderWay-read c.args.self.now.held (g.S.Source.to_come c.args.source.now) c.args.self.now.given
+          c.args.self.now.longest
+          c.loop-self.self-inside.window (g.S.Source.to_come c.loop-self.source) c.loop-self.self-inside.given
+          c.loop-self.self-inside.draft.kept.items c.loop-self.self-inside.draft.is_over
+          c.in_ok-take_from.field-0 taken.0 c.take_from.new.window c.take_from.new.self.kept.items
+          c.take_from.new.self.is_over
+          c.fill.new.self (g.S.Source.to_come c.fill.new.source)
+          (c.loop-self.self-inside.given + c.in_ok-count.count) c.loop-self.self-inside.longest
+          inv.under_way inv.longest c.if-branch.false taken.1 taken.2 c.in_ok-count.ensures.bytes
+          (ap (λ n. c.loop-self.self-inside.given + n) c.in_ok-count.ensures.count);
       longest = inv.longest;
       most = inv.most;
       counts = omega (arith, inv.counts, c.in_ok-count.ensures.counts);
+      loan = c.in_ok-count.ensures.loan ∙ inv.loan;
     }
 
 -- what came is all
-last : (g : _) (c : goal.After-measure_last g) → AtLast c.args.self.now (record { held = c.fill.new.self; line = c.take_from.new.self.kept.items; given = c.loop-self.self-inside.given; longest = c.loop-self.self-inside.longest; most = c.loop-self.self-inside.most }) (g.S.Source.to_come c.args.source.now) (g.S.Source.to_come c.fill.new.source) c.take_from.new.self.kept.items c.take_from.new.self.is_over
+last : (g : _) (c : goal.After-measure_last g)
+    → AtLast c.args.self.now (record {
+      held = c.fill.new.self;
+      line = c.take_from.new.self.kept.items;
+      given = c.loop-self.self-inside.given;
+      longest = c.loop-self.self-inside.longest;
+      most = c.loop-self.self-inside.most;
+    }) (g.S.Source.to_come c.args.source.now)
+    (g.S.Source.to_come c.fill.new.source) c.take_from.new.self.kept.items c.take_from.new.self.is_over
 last g c =
     let inv = c.loop-self.invariant in
     let taken = c.in_ok-take_from.ensures in
     AtLast-read c.args.self.now _ (g.S.Source.to_come c.args.source.now) (g.S.Source.to_come c.loop-self.source)
-    c.loop-self.self-inside.window c.loop-self.self-inside.draft.kept.items c.loop-self.self-inside.draft.is_over c.in_ok-take_from.field-0
-    taken.0 c.take_from.new.window c.take_from.new.self.kept.items c.take_from.new.self.is_over (g.S.Source.to_come c.fill.new.source)
-    c.loop-self.self-inside.longest inv.under_way inv.longest c.if-branch.false taken.1 taken.2 c.in_ok-count.ensures.bytes
+    c.loop-self.self-inside.window c.loop-self.self-inside.draft.kept.items c.loop-self.self-inside.draft.is_over
+    c.in_ok-take_from.field-0
+    taken.0 c.take_from.new.window c.take_from.new.self.kept.items c.take_from.new.self.is_over
+    (g.S.Source.to_come c.fill.new.source)
+    c.loop-self.self-inside.longest inv.under_way inv.longest c.if-branch.false taken.1 taken.2
+    c.in_ok-count.ensures.bytes
     (sym c.in_ok-count.ensures.count ∙ c.if-count-eq0.true) (c.in_ok-count.ensures.end (ap Ok c.if-count-eq0.true))
 
 pub returns-then-count-eq0-clause-line : goal.returns-then-count-eq0-clause-line
 returns-then-count-eq0-clause-line g c is =
     let line : c.measure_last.result ≡ Line = cc in
     TakesLine-last _ _ _ _ _ c.take_from.new.self.is_over (last g c) (c.measure_last.ensures.line line).0
-    (λ e. let end : c.measure_last.result ≡ End = c.measure_last.ensures.end.1 ((c.measure_last.ensures.line line).0, e) in cc)
+    (λ e. let end : c.measure_last.result ≡ End =
+    c.measure_last.ensures.end.1 ((c.measure_last.ensures.line line).0, e) in cc)
 
 pub returns-then-count-eq0-clause-long : goal.returns-then-count-eq0-clause-long
 returns-then-count-eq0-clause-long g c is =
@@ -71,5 +94,7 @@ returns-then-count-eq0-clause-end g c is =
 
 pub returns-then-count-eq0-clause-falls : goal.returns-then-count-eq0-clause-falls
 returns-then-count-eq0-clause-falls g c some =
-    let taken = SomeLine-last _ _ _ _ _ c.take_from.new.self.is_over (last g c) (λ fits e. some (c.measure_last.ensures.end.1 (fits, e))) in
-    bytes_left-falls _ _ _ _ taken.0 taken.1 c.loop-self.invariant.most (omega (arith, c.if-self-from.false, c.from.ensures))
+    let taken = SomeLine-last _ _ _ _ _ c.take_from.new.self.is_over (last g c)
+    (λ fits e. some (c.measure_last.ensures.end.1 (fits, e))) in
+    bytes_left-falls _ _ _ _ taken.0 taken.1 c.loop-self.invariant.most
+    (omega (arith, c.if-self-from.false, c.from.ensures))

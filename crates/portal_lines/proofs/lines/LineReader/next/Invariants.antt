@@ -5,10 +5,13 @@ use Rattle.portal_lines.proofs.lines.LineReader.next.Given as goal
 -- part of a line came
 abbrev pub invariant-loop-self : goal.invariant-loop-self
 invariant-loop-self g l = record {
-  under_way : UnderWay l.fn.self.held (g.S.Source.to_come l.fn.source) l.fn.self.given l.fn.self.longest l.self-inside.window (g.S.Source.to_come l.source) l.self-inside.given l.self-inside.draft.kept.items l.self-inside.draft.is_over;
+  under_way : UnderWay l.fn.self.held (g.S.Source.to_come l.fn.source) l.fn.self.given l.fn.self.longest
+      l.self-inside.window (g.S.Source.to_come l.source) l.self-inside.given l.self-inside.draft.kept.items
+      l.self-inside.draft.is_over;
   longest : l.self-inside.longest ≡ l.fn.self.longest;
   most : l.self-inside.most ≡ l.fn.self.most;
   counts : g.S.Source.faults l.fn.source ≤ g.S.Source.faults l.source;
+  loan : g.S.Source.loan l.source ≡ g.S.Source.loan l.fn.source;
 }
 
 abbrev pub decreases-loop-self : goal.decreases-loop-self
