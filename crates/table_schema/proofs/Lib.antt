@@ -7,6 +7,7 @@ mod DescriptorLemmas
 mod Examples
 mod KeyLemmas
 mod NumberLemmas
+mod OrderLemmas
 mod PartLemmas
 mod PrintLemmas
 mod ReadingLemmas

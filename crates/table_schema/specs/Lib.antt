@@ -5,7 +5,9 @@ pub mod Digits
 pub mod Field
 pub mod Form
 pub mod Keys
+pub mod Messages
 pub mod Number
+pub mod Order
 pub mod Printed
 pub mod Reading
 pub mod Significand

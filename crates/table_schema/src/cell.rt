@@ -3,7 +3,9 @@
 use portal_base::moment::Moment;
 use portal_base::text::Text;
 use std::alloc::AllocError;
-use thiserror::Error;
+use std::cmp::Ordering;
+use std::error::Error;
+use std::fmt;
 
 /// A value of a table.
 #[derive(Drop, PartialEq, Eq)]
@@ -25,34 +27,155 @@ pub enum Cell {
     YearMonth(u16, u8),
 }
 
+impl Cell {
+    ghost use Rattle.std.specs.Prelude.{◌≡◌, ◌↔◌, IsTrue};
+    ghost use Rattle.std.specs.declared.cmp.Ordering.TheVariants.{Equal};
+    ghost use Rattle.table_schema.specs.Order.{rank_of, same_cell, cell_cmp, type_place, bytes_of};
+    ghost use Rattle.table_schema.specs.Printed.{IsValue};
+
+    /// Whether two cells are equal.
+    pub fn is_same(&self, other: &Cell) -> bool
+        ensures same { result ≡ same_cell self.now other.now }
+        ensures equal { IsTrue result ↔ (self.now ≡ other.now) }
+    {
+        self.is_same_value(other)
+    }
+
+    /// How the cell stands to another. Cells of one type are ordered by their values: texts by their bytes, and false
+    /// before true. Null comes behind all others.
+    #[tactic(auto, unfolding(crate::specs::Order::cell_cmp))]
+    pub fn order(&self, other: &Cell) -> Ordering
+        ensures order { result ≡ cell_cmp self.now other.now }
+        ensures equal { IsValue self.now → IsValue other.now → ((result ≡ Equal) ↔ (self.now ≡ other.now)) }
+    {
+        self.type_place()
+            .cmp(&other.type_place())
+            .then(self.rank().cmp(&other.rank()))
+            .then(self.text().cmp(other.text()))
+    }
+
+    /// The place among the cells of its type, of which those of `Null` and `Text` have one place.
+    pub fn rank(&self) -> i128
+        ensures { result ≡ rank_of self.now }
+    {
+        match self {
+            Cell::Null | Cell::Text(_) => 0,
+            Cell::Int(number) => i128::from(*number),
+            Cell::Number(billionths) => *billionths,
+            Cell::Truth(truth) => i128::from(*truth),
+            Cell::Date(day) => i128::from(*day),
+            Cell::Time(second) => i128::from(*second),
+            Cell::Stamp(moment) => i128::from(moment.seconds()),
+            Cell::Year(year) => i128::from(*year),
+            Cell::YearMonth(year, month) => i128::from(*year) * 12 + i128::from(*month),
+        }
+    }
+
+    fn is_same_value(&self, other: &Cell) -> bool
+        ensures { result ≡ same_cell self.now other.now }
+    {
+        match (self, other) {
+            (Cell::Null, Cell::Null) => true,
+            (Cell::Text(one), Cell::Text(other)) => one.as_str() == other.as_str(),
+            (Cell::Int(one), Cell::Int(other)) => *one == *other,
+            (Cell::Number(one), Cell::Number(other)) => *one == *other,
+            (Cell::Truth(one), Cell::Truth(other)) => *one == *other,
+            (Cell::Date(one), Cell::Date(other)) => *one == *other,
+            (Cell::Time(one), Cell::Time(other)) => *one == *other,
+            (Cell::Stamp(one), Cell::Stamp(other)) => one.seconds() == other.seconds(),
+            (Cell::Year(one), Cell::Year(other)) => *one == *other,
+            (Cell::YearMonth(one, month), Cell::YearMonth(other, other_month)) => {
+                *one == *other && *month == *other_month
+            }
+            _ => false,
+        }
+    }
+
+    // The place of its type in the order of all cells.
+    fn type_place(&self) -> u8
+        ensures { result ≡ type_place self.now }
+    {
+        match self {
+            Cell::Text(_) => 0,
+            Cell::Int(_) => 1,
+            Cell::Number(_) => 2,
+            Cell::Truth(_) => 3,
+            Cell::Date(_) => 4,
+            Cell::Time(_) => 5,
+            Cell::Stamp(_) => 6,
+            Cell::Year(_) => 7,
+            Cell::YearMonth(_, _) => 8,
+            Cell::Null => 9,
+        }
+    }
+
+    // A text's text; what is no text has none.
+    fn text(&self) -> &str
+        ensures { result.now ≡ bytes_of self.now }
+    {
+        match self {
+            Cell::Text(text) => text.as_str(),
+            _ => "",
+        }
+    }
+}
+
 /// Which rule a text or a value breaks first.
-#[derive(Clone, Copy, Debug, Drop, Error, PartialEq, Eq)]
+#[derive(Clone, Copy, Debug, Drop, PartialEq, Eq)]
 pub enum CellFault {
     /// It is no text or value of the field's type.
-    #[error("not of the type")]
     NotOfType,
     /// It is missing, and the field wants a value.
-    #[error("required")]
     Required,
     /// It has fewer characters than `minLength`, or more than `maxLength`.
-    #[error("wrong length")]
     Length,
     /// It is below `minimum`, or above `maximum`.
-    #[error("out of range")]
     Range,
     /// It is none of the values of `enum`.
-    #[error("not in the enum")]
     NotInEnum,
 }
 
+impl fmt::Display for CellFault {
+    ghost use Rattle.std.specs.Prelude.{Some};
+    ghost use Rattle.table_schema.specs.Messages.{cell_fault_text};
+
+    ghost output = { λ fault. Some (cell_fault_text fault) };
+
+    fn fmt<W: fmt::Write>(&self, f: &mut fmt::Formatter<W>) -> fmt::Result {
+        match self {
+            CellFault::NotOfType => f.write_str("not of type"),
+            CellFault::Required => f.write_str("required"),
+            CellFault::Length => f.write_str("length"),
+            CellFault::Range => f.write_str("out of range"),
+            CellFault::NotInEnum => f.write_str("not in enum"),
+        }
+    }
+}
+
+impl Error for CellFault {}
+
 /// Why a cell is not read.
-#[derive(Clone, Copy, Debug, Drop, Error, PartialEq, Eq)]
+#[derive(Clone, Copy, Debug, Drop, PartialEq, Eq)]
 pub enum CellError {
-    #[error("{0}")]
     Fault(CellFault),
-    #[error("out of memory")]
     OutOfMemory,
 }
+
+impl fmt::Display for CellError {
+    ghost use Rattle.std.specs.Prelude.{Some};
+    ghost use Rattle.table_schema.specs.Messages.{cell_error_text};
+
+    ghost output = { λ error. Some (cell_error_text error) };
+
+    fn fmt<W: fmt::Write>(&self, f: &mut fmt::Formatter<W>) -> fmt::Result {
+        match self {
+            CellError::Fault(fault) => write!(f, "{fault}"),
+            CellError::OutOfMemory => f.write_str("out of memory"),
+        }
+    }
+}
+
+impl Error for CellError {}
 
 impl From<AllocError> for CellError {
     ghost use Rattle.std.specs.Prelude.{◌≡◌};

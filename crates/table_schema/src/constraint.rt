@@ -1,8 +1,9 @@
 //! The constraints of a field, and which of them a cell breaks first.
-ghost use Rattle.std.specs.Prelude.{◌≡◌, pos, length, option_map};
+ghost use Rattle.std.specs.Prelude.{◌≡◌, length, option_map};
 ghost use Rattle.std.specs.Option.{option_copied};
 ghost use Rattle.std.specs.List.{list_any};
-ghost use Rattle.table_schema.specs.Constraint.{length_of, rank_of, same_cell, is_at_least, is_at_most, keeps_length, keeps_range, keeps_enum, constraint_fault};
+ghost use Rattle.table_schema.specs.Constraint.{length_of, is_at_least, is_at_most, keeps_length, keeps_range, keeps_enum, constraint_fault};
+ghost use Rattle.table_schema.specs.Order.{rank_of, same_cell};
 
 use crate::cell::{Cell, CellFault};
 use portal_base::seq::Seq;
@@ -54,7 +55,7 @@ impl Constraints {
     fn keeps_range(&self, cell: &Cell) -> bool
         ensures { result ≡ keeps_range self.now cell.now }
     {
-        let rank = rank_of(cell);
+        let rank = cell.rank();
         is_at_least(bound_of(&self.minimum), rank) && is_at_most(bound_of(&self.maximum), rank)
     }
 
@@ -68,14 +69,14 @@ impl Constraints {
 fn is_among(cells: &[Cell], cell: &Cell) -> bool
     ensures { result ≡ list_any (λ a. same_cell a cell.now) cells.now }
 {
-    cells.iter().any(|allowed| is_same(allowed, cell))
+    cells.iter().any(|allowed| allowed.is_same(cell))
 }
 
 fn bound_of(bound: &Option<Cell>) -> Option<i128>
     ensures { result ≡ option_map rank_of bound.now }
 {
     match bound {
-        Some(cell) => Some(rank_of(cell)),
+        Some(cell) => Some(cell.rank()),
         None => None,
     }
 }
@@ -105,42 +106,5 @@ fn length_of(cell: &Cell) -> usize
     match cell {
         Cell::Text(text) => text.as_str().chars().count(),
         _ => 0,
-    }
-}
-
-/// The place of a cell among the cells of its type, where the type has an order.
-pub fn rank_of(cell: &Cell) -> i128
-    ensures { result ≡ rank_of cell.now }
-{
-    match cell {
-        Cell::Null | Cell::Text(_) | Cell::Truth(_) => 0,
-        Cell::Int(number) => i128::from(*number),
-        Cell::Number(billionths) => *billionths,
-        Cell::Date(day) => i128::from(*day),
-        Cell::Time(second) => i128::from(*second),
-        Cell::Stamp(moment) => i128::from(moment.seconds()),
-        Cell::Year(year) => i128::from(*year),
-        Cell::YearMonth(year, month) => i128::from(*year) * 12 + i128::from(*month),
-    }
-}
-
-/// Whether two cells are equal.
-pub fn is_same(one: &Cell, other: &Cell) -> bool
-    ensures { result ≡ same_cell one.now other.now }
-{
-    match (one, other) {
-        (Cell::Null, Cell::Null) => true,
-        (Cell::Text(one), Cell::Text(other)) => one.as_str() == other.as_str(),
-        (Cell::Int(one), Cell::Int(other)) => *one == *other,
-        (Cell::Number(one), Cell::Number(other)) => *one == *other,
-        (Cell::Truth(one), Cell::Truth(other)) => *one == *other,
-        (Cell::Date(one), Cell::Date(other)) => *one == *other,
-        (Cell::Time(one), Cell::Time(other)) => *one == *other,
-        (Cell::Stamp(one), Cell::Stamp(other)) => one.seconds() == other.seconds(),
-        (Cell::Year(one), Cell::Year(other)) => *one == *other,
-        (Cell::YearMonth(one, month), Cell::YearMonth(other, other_month)) => {
-            *one == *other && *month == *other_month
-        }
-        _ => false,
     }
 }

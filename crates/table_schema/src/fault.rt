@@ -2,39 +2,57 @@
 
 use portal_base::text::Text;
 use std::alloc::AllocError;
-use thiserror::Error;
+use std::error::Error;
+use std::fmt;
 
 /// The first fault of a descriptor. Fields are counted from 1.
-#[derive(Debug, Drop, Error)]
+#[derive(Debug, Drop)]
 pub enum SchemaFault {
     /// It is no JSON dictionary.
-    #[error("not JSON")]
     NotJson,
     /// `fields` is no list of 1 to 500 dictionaries.
-    #[error("no fields")]
     NoFields,
     /// `type` names no type.
-    #[error("field {0}: unknown type")]
     UnknownKind(u32),
     /// A constraint or an option has a value that it can't have, or doesn't fit the type.
-    #[error("field {0}: bad constraint")]
     BadConstraint(u32),
     /// An earlier field has the name.
-    #[error("field {0}: repeated name")]
     RepeatedName(u32),
     /// `missingValues`, `primaryKey` or `foreignKeys` has a value that it can't have, or names no field or one twice,
     /// or a self reference isn't to the primary key.
-    #[error("bad key")]
     BadKey,
     /// A type, a format or a constraint of Table Schema that isn't supported.
-    #[error("unsupported")]
     Unsupported(Text),
     /// `name` is no name of a field.
-    #[error("field {0}: bad name")]
     BadName(u32),
-    #[error("out of memory")]
     OutOfMemory,
 }
+
+impl fmt::Display for SchemaFault {
+    ghost use Rattle.std.specs.Prelude.{Some};
+    ghost use Rattle.table_schema.specs.Messages.{schema_fault_text};
+
+    ghost output = { λ fault. Some (schema_fault_text fault) };
+
+    fn fmt<W: fmt::Write>(&self, f: &mut fmt::Formatter<W>) -> fmt::Result {
+        match self {
+            SchemaFault::NotJson => f.write_str("not JSON"),
+            SchemaFault::NoFields => f.write_str("no fields"),
+            SchemaFault::UnknownKind(number) => write!(f, "field {number}: unknown type"),
+            SchemaFault::BadConstraint(number) => write!(f, "field {number}: bad constraint"),
+            SchemaFault::RepeatedName(number) => write!(f, "field {number}: repeated name"),
+            SchemaFault::BadKey => f.write_str("bad key"),
+            SchemaFault::Unsupported(what) => {
+                let what = what.as_str();
+                write!(f, "unsupported: {what}")
+            }
+            SchemaFault::BadName(number) => write!(f, "field {number}: bad name"),
+            SchemaFault::OutOfMemory => f.write_str("out of memory"),
+        }
+    }
+}
+
+impl Error for SchemaFault {}
 
 impl From<AllocError> for SchemaFault {
     ghost use Rattle.std.specs.Prelude.{◌≡◌};

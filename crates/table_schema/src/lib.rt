@@ -24,7 +24,7 @@ mod truth;
 mod values;
 
 pub use cell::{Cell, CellError, CellFault};
-pub use constraint::{Constraints, is_same, rank_of};
+pub use constraint::Constraints;
 pub use fault::SchemaFault;
 pub use field::Field;
 pub use foreign::Foreign;
