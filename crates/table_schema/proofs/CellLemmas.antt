@@ -18,19 +18,20 @@ use Rattle.table_schema.specs.declared.form.Form.{Form}
 use Rattle.table_schema.specs.declared.form.Form.TheVariants as form
 use Rattle.table_schema.specs.declared.form.Kind.{Kind}
 use Rattle.table_schema.specs.declared.form.Kind.TheVariants as kind
-use Rattle.table_schema.specs.declared.form.NumberForm.{NumberForm}
+use Rattle.lexical_forms.specs.declared.form.NumberForm.{NumberForm}
 use Rattle.table_schema.specs.Calendar.{date_reading, time_reading, year_reading, yearmonth_reading, stamp_reading, zoned_time_reading, is_time_mark, has_month, seconds_of}
 use Rattle.table_schema.specs.Constraint.{constraint_fault}
 use Rattle.table_schema.specs.Field.{FieldValue}
-use Rattle.table_schema.specs.Digits.{is_digits, spelled, is_negative, unsigned, signed}
+use Rattle.lexical_forms.specs.Digits.{is_digits, spelled, is_negative, unsigned, signed}
 use Rattle.table_schema.specs.Form.{kind_of}
-use Rattle.table_schema.specs.Number.{is_i64, i64_only, whole_reading, integer_reading, parts_of, is_number, digits_of, exponent_of, scaled, in_size, billionths_of, unsigned_reading, bare_reading, number_reading, bare_part}
+use Rattle.lexical_forms.specs.Number.{is_i64, i64_only, whole_reading, integer_reading, parts_of, is_number, digits_of, exponent_of, scaled, in_size, billionths_of, unsigned_reading, bare_reading, number_reading, bare_part}
 use Rattle.table_schema.specs.Printed.{IsValue, cell_text, cell_value}
 use Rattle.table_schema.specs.Reading.{text_reading, whole_cell, truth_cell, value_in, value_reading, default_form, kind_of_cell, kept, record_reading, record_reading_in, Accepts, IsFault}
 use Rattle.table_schema.specs.Truth.{truth_reading}
 use Rattle.table_schema.proofs.CalendarLemmas.{date_reading-IsDay, time_reading-bound, zoned_time_reading-bound, IsMoment-seconds_of}
-use Rattle.table_schema.proofs.ReadingLemmas.{map-some, then-some, if-some}
-use Rattle.table_schema.proofs.PrintLemmas.{number_text-back, date_text-back, clock_text-back, stamp_reading-back, year_month_text-back}
+use Rattle.lexical_forms.proofs.ReadingLemmas.{map-some, then-some, if-some}
+use Rattle.lexical_forms.proofs.NumberTextLemmas.{number_text-back}
+use Rattle.table_schema.proofs.PrintLemmas.{date_text-back, clock_text-back, stamp_reading-back, year_month_text-back}
 
 -- ---- what is read is in range
 

@@ -5,23 +5,17 @@ use Rattle.std.proofs.lemmas.List.{at_drop_more, append-nil}
 use Rattle.std.specs.Prelude.{Some, Result, Ok, Err}
 use Rattle.std.specs.Result.{IsErrAnd}
 use Rattle.std.specs.List.{list_any, list_all}
-use Rattle.std.specs.Char.{is_whitespace}
 use Rattle.portal_base.specs.declared.json_value.Json.{Json}
 use Rattle.table_schema.specs.declared.column.Column.{Column}
 use Rattle.table_schema.specs.declared.fault.SchemaFault.{SchemaFault}
 use Rattle.table_schema.specs.declared.fault.SchemaFault.TheVariants.{OutOfMemory, NotJson, NoFields, UnknownKind, BadConstraint, RepeatedName, BadKey, Unsupported, BadName}
-use Rattle.table_schema.specs.Descriptor.{ends_with_space, field_items, column_reading, columns_reading}
-use Rattle.table_schema.specs.Values.{◌>>>◌, IsRefused, Gives, is_map, list_in, present}
+use Rattle.table_schema.specs.Descriptor.{field_items, column_reading, columns_reading}
+use Rattle.portal_base.specs.Kinds.{list_in, present}
+use Rattle.table_schema.specs.Values.{◌>>>◌, IsRefused, Gives, is_map}
 
 pub list_any-map : {A B : Type 0} (f : A → B) (p : B → Bool) (xs : List A) → list_any p (map f xs) ≡ list_any (λ x. p (f x)) xs
 list_any-map f p [] = refl
 list_any-map f p (x ∷ xs) = ap (λ b. p (f x) || b) (list_any-map f p xs)
-
--- only the last character counts
-pub ends_with_space-last : (cs : List ℕ) (c : ℕ) → ends_with_space (cs ++ c ∷ []) ≡ is_whitespace c
-ends_with_space-last [] c = refl
-ends_with_space-last (b ∷ []) c = refl
-ends_with_space-last (a ∷ b ∷ cs) c = ends_with_space-last (b ∷ cs) c
 
 -- 1 to 500 dictionaries are the fields.
 pub field_items-of : (value fields : Json) (items : List Json) → is_map value ≡ true → present (codes "fields") value ≡ Some fields → list_in fields ≡ Some items → 0 < length items → length items ≤ 500 → list_all is_map items ≡ true → field_items value ≡ Ok items

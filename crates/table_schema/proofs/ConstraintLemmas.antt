@@ -13,7 +13,8 @@ use Rattle.table_schema.specs.declared.form.Kind.{Kind}
 use Rattle.table_schema.specs.Descriptor.{has_length, has_order, count_of, length_in, bound_in, some_of, allowed_in, no_constraints, constraints_in, constraints_of}
 use Rattle.table_schema.specs.Printed.{cell_value, IsValue, HasValues}
 use Rattle.table_schema.specs.Reading.{value_in, value_reading}
-use Rattle.table_schema.specs.Values.{◌>>=◌, all_of, or_default, optional, non_null, is_null_in, present, dictionary_in, whole_of, whole_in, truth_in, list_in}
+use Rattle.portal_base.specs.Kinds.{non_null, is_null_in, present, list_in}
+use Rattle.table_schema.specs.Values.{◌>>=◌, all_of, or_default, optional, dictionary_in, whole_of, whole_in, truth_in}
 use Rattle.table_schema.specs.Written.{MemberList, member_where, member_if, allowed_member, constraints_value}
 use Rattle.table_schema.proofs.CellLemmas.{value_reading-cell_value, value_reading-IsValue}
 use Rattle.table_schema.proofs.ValueLemmas.{bind-some, bind-same, map-some, gated, all_of-back, optional-back, present-Map, whole_in-Whole, truth_in-Truth, list_in-List, full-Truth, full-List}

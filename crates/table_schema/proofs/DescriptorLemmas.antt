@@ -17,14 +17,17 @@ use Rattle.table_schema.specs.declared.form.Form.TheVariants as form
 use Rattle.table_schema.specs.declared.form.Kind.{Kind}
 use Rattle.table_schema.specs.declared.form.Kind.TheVariants as kind
 use Rattle.table_schema.specs.declared.form.Truths.{Truths}
-use Rattle.table_schema.specs.Descriptor.{is_mark, mark_of, mark_in, spelling_of, bare_in, spelling_in, truths_in, form_in, no_constraints, constraints_in, constraints_of, is_field_name, named, name_reading, new_name, kind_named, kind_reading, default_format, format_reading, pattern_reading, column_of, column_reading, columns_reading}
+use Rattle.table_schema.specs.Descriptor.{mark_in, spelling_of, bare_in, spelling_in, truths_in, form_in, no_constraints, constraints_in, constraints_of, named, name_reading, new_name, kind_named, kind_reading, default_format, format_reading, pattern_reading, column_of, column_reading, columns_reading}
 use Rattle.table_schema.specs.Field.{FieldValue}
 use Rattle.table_schema.specs.Form.{kind_of}
 use Rattle.table_schema.specs.Keys.{field_of, fields_from}
-use Rattle.table_schema.specs.Number.{is_that}
+use Rattle.lexical_forms.specs.FieldName.{is_field_name}
+use Rattle.lexical_forms.specs.Mark.{is_mark, mark_of}
+use Rattle.lexical_forms.specs.Number.{is_that}
 use Rattle.table_schema.specs.Printed.{HasValues}
 use Rattle.table_schema.specs.Truth.{is_among, default_trues, default_falses}
-use Rattle.table_schema.specs.Values.{◌>>=◌, ◌>>>◌, or_fault, or_default, optional, present, dictionary_in, text_in, truth_in, texts_in, all_of}
+use Rattle.portal_base.specs.Kinds.{present, text_in}
+use Rattle.table_schema.specs.Values.{◌>>=◌, ◌>>>◌, or_fault, or_default, optional, dictionary_in, truth_in, texts_in, all_of}
 use Rattle.table_schema.specs.Written.{character_value, kind_name, texts_value, constraints_value, field_value}
 use Rattle.table_schema.proofs.ConstraintLemmas.{IsKept, kept-constraints, constraints-back, no_pattern, All-none, All-more}
 use Rattle.table_schema.proofs.ValueLemmas.{bind-some, bind-same, bind-ok, ok-same, map-some, or_fault-ok, if_some, if_none, if_ok, if_err, texts-back, text_in-Text, truth_in-Truth, list_in-List, dictionary_in-Map, full-Text, full-Truth, full-List, full-Map, present-Map}

@@ -1,16 +1,11 @@
 mod CalendarLemmas
 mod CellLemmas
-mod CharacterLemmas
 mod ColumnLemmas
 mod ConstraintLemmas
 mod DescriptorLemmas
 mod Examples
 mod KeyLemmas
-mod NumberLemmas
 mod OrderLemmas
-mod PartLemmas
 mod PrintLemmas
-mod ReadingLemmas
-mod SignificandLemmas
 mod ValueLemmas
 mod WrittenLemmas

@@ -7,7 +7,8 @@ use Rattle.portal_base.specs.Json.{first_of, member_in}
 use Rattle.portal_base.specs.declared.json_value.Json.{Json, out-Json, the_lemmas}
 use Rattle.portal_base.specs.declared.json_value.Json.TheOpen.{Json-F}
 use Rattle.table_schema.specs.declared.fault.SchemaFault.{SchemaFault}
-use Rattle.table_schema.specs.Values.{◌>>=◌, ◌>>>◌, or_fault, all_of, is_null_in, non_null, present, is_map_in, is_map, dictionary_in, text_of, text_in, truth_of, truth_in, whole_of, whole_in, list_of, list_in, optional}
+use Rattle.portal_base.specs.Kinds.{is_null_in, non_null, present, text_of, text_in, list_of, list_in}
+use Rattle.table_schema.specs.Values.{◌>>=◌, ◌>>>◌, or_fault, all_of, is_map_in, is_map, dictionary_in, truth_of, truth_in, whole_of, whole_in, optional}
 
 -- ---- values by their kinds
 

@@ -13,11 +13,12 @@ use Rattle.table_schema.specs.declared.fault.SchemaFault.{SchemaFault}
 use Rattle.table_schema.specs.declared.fault.SchemaFault.TheVariants.{NotJson, NoFields, BadKey}
 use Rattle.table_schema.specs.declared.foreign.Foreign.{Foreign}
 use Rattle.table_schema.specs.Descriptor.{dictionaries, field_items, columns_reading}
-use Rattle.table_schema.specs.Digits.{is_empty}
+use Rattle.lexical_forms.specs.Digits.{is_empty}
 use Rattle.table_schema.specs.Field.{FieldValue, SchemaValue, shown}
 use Rattle.table_schema.specs.Keys.{missing_in, place_of, is_new, places_from, places_of, places_in, key_in, refers_to_key, foreign_of, reference_in, resource_in, target_in, foreign_in, foreigns_in, fields_from, schema_of, keyed, columns_in, schema_reading}
 use Rattle.table_schema.specs.Printed.{HasValues}
-use Rattle.table_schema.specs.Values.{◌>>=◌, ◌>>>◌, or_fault, or_default, present, is_map, dictionary_in, text_in, list_in, texts_in, names_of, names_in, all_of}
+use Rattle.portal_base.specs.Kinds.{present, text_in, list_in}
+use Rattle.table_schema.specs.Values.{◌>>=◌, ◌>>>◌, or_fault, or_default, is_map, dictionary_in, texts_in, names_of, names_in, all_of}
 use Rattle.table_schema.specs.Written.{texts_value, field_value, name_at, reference_value, foreign_value, schema_value}
 use Rattle.table_schema.proofs.ColumnLemmas.{field_items-of}
 use Rattle.table_schema.proofs.DescriptorLemmas.{texts_in-back, columns-back, columns-length, columns-values}

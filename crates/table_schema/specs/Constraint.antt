@@ -1,5 +1,5 @@
 -- The constraints of a field (Table Schema v1, "Constraints"), and the first that a cell breaks.
-use Rattle.std.specs.Prelude.{ℕ, Bool, true, false, ◌&&◌, ◌||◌, not, if◌then◌else◌, length, Option, Some, None, option_map, ℤ, pos, int_le}
+use Rattle.std.specs.Prelude.{ℕ, Bool, true, ◌&&◌, ◌||◌, not, if◌then◌else◌, length, Option, Some, None, option_map, ℤ, pos, int_le}
 use Rattle.std.specs.List.{list_any}
 use Rattle.std.specs.Str.{chars}
 use Rattle.table_schema.specs.declared.cell.Cell.{Cell}
@@ -7,7 +7,7 @@ use Rattle.table_schema.specs.declared.cell.Cell.TheVariants as cell
 use Rattle.table_schema.specs.declared.cell.CellFault.{CellFault}
 use Rattle.table_schema.specs.declared.cell.CellFault.TheVariants.{Length, Range, NotInEnum}
 use Rattle.table_schema.specs.declared.constraint.Constraints.{Constraints}
-use Rattle.table_schema.specs.Digits.{is_empty}
+use Rattle.lexical_forms.specs.Digits.{is_empty}
 use Rattle.table_schema.specs.Order.{rank_of, same_cell}
 
 -- how many characters a text has; what is no text has none

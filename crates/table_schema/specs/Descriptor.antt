@@ -1,8 +1,7 @@
 -- A descriptor's fields (Table Schema v1, "Field descriptors"), and their faults in order.
-use Rattle.std.specs.Prelude.{ℕ, suc, ◌==◌, nat_le, Bool, true, false, ◌&&◌, not, if◌then◌else◌, List, [], ◌∷◌, ◌++◌, length, codes, Option, Some, None, option_map, is_some, Result, Ok, Err, ℤ, pos, negsuc}
-use Rattle.std.specs.List.{list_all, list_any}
-use Rattle.std.specs.Str.{all_scalars, bytes_eq, chars}
-use Rattle.std.specs.Char.{is_whitespace}
+use Rattle.std.specs.Prelude.{ℕ, suc, nat_le, Bool, true, false, ◌&&◌, if◌then◌else◌, List, [], ◌∷◌, ◌++◌, length, codes, Option, Some, None, option_map, is_some, Result, Ok, Err, ℤ, pos, negsuc}
+use Rattle.std.specs.List.{list_all}
+use Rattle.std.specs.Str.{bytes_eq, chars}
 use Rattle.portal_base.specs.declared.json_value.Json.{Json}
 use Rattle.table_schema.specs.declared.cell.Cell.{Cell}
 use Rattle.table_schema.specs.declared.column.Column.{Column}
@@ -13,12 +12,14 @@ use Rattle.table_schema.specs.declared.form.Form.{Form}
 use Rattle.table_schema.specs.declared.form.Form.TheVariants as form
 use Rattle.table_schema.specs.declared.form.Kind.{Kind}
 use Rattle.table_schema.specs.declared.form.Kind.TheVariants as kind
-use Rattle.table_schema.specs.declared.form.NumberForm.{NumberForm}
-use Rattle.table_schema.specs.Digits.{is_digit, is_sign, is_empty}
-use Rattle.table_schema.specs.Number.{is_that, is_exponent_mark}
+use Rattle.lexical_forms.specs.declared.form.NumberForm.{NumberForm}
+use Rattle.lexical_forms.specs.FieldName.{is_field_name}
+use Rattle.lexical_forms.specs.Mark.{mark_of}
+use Rattle.lexical_forms.specs.Number.{is_that}
 use Rattle.table_schema.specs.Reading.{value_reading}
 use Rattle.table_schema.specs.Truth.{is_among, default_trues, default_falses}
-use Rattle.table_schema.specs.Values.{◌>>=◌, ◌>>>◌, or_fault, present, is_map, dictionary_in, text_in, truth_in, whole_in, list_in, all_of, texts_in, or_default, optional}
+use Rattle.portal_base.specs.Kinds.{present, text_in, list_in}
+use Rattle.table_schema.specs.Values.{◌>>=◌, ◌>>>◌, or_fault, is_map, dictionary_in, truth_in, whole_in, all_of, texts_in, or_default, optional}
 
 -- ---- the list of fields
 
@@ -33,27 +34,6 @@ field_items value =
     else Err NotJson
 
 -- ---- a field's name
-
--- no white space (Unicode's White_Space) at either end
-abbrev pub begins_with_space : List ℕ → Bool
-begins_with_space [] = false
-begins_with_space (c ∷ cs) = is_whitespace c
-
-abbrev pub ends_with_space : List ℕ → Bool
-ends_with_space [] = false
-ends_with_space (c ∷ []) = is_whitespace c
-ends_with_space (c ∷ d ∷ cs) = ends_with_space (d ∷ cs)
-
-abbrev pub begins_with_underscore : List ℕ → Bool
-begins_with_underscore [] = false
-begins_with_underscore (c ∷ cs) = c == 95
-
--- Not empty, no white space at an end, no `_` in front, no double quote, and at most 63 bytes.
-abbrev pub is_field_name : List ℕ → Bool
-is_field_name name =
-    not (is_empty name) && nat_le (length name) 63
-    && not (begins_with_space (chars name)) && not (ends_with_space (chars name))
-    && not (begins_with_underscore name) && not (list_any (λ c. c == 34) name)
 
 abbrev pub named : ℕ → List ℕ → Result (List ℕ) SchemaFault
 named number name = if is_field_name name then Ok name else Err (BadName number)
@@ -117,16 +97,7 @@ pattern_reading item = if has_pattern item then Err (Unsupported (codes "pattern
 
 -- ---- its options
 
--- a character (a Unicode scalar value) that is no digit, no sign and neither `e` nor `E`
-abbrev pub is_mark : ℕ → Bool
-is_mark c = all_scalars (c ∷ []) && not (is_digit c) && not (is_sign c) && not (is_exponent_mark c)
-
-abbrev pub mark_of : List ℕ → Option ℕ
-mark_of [] = None
-mark_of (c ∷ []) = if is_mark c then Some c else None
-mark_of (c ∷ d ∷ cs) = None
-
--- a text of one such character
+-- a text of one character that is no digit, no sign and neither `e` nor `E`
 abbrev pub mark_in : Json → Option ℕ
 mark_in value = text_in value >>= λ text. mark_of (chars text)
 

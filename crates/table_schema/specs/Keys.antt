@@ -12,10 +12,11 @@ use Rattle.table_schema.specs.declared.form.Kind.{Kind}
 use Rattle.table_schema.specs.declared.form.Kind.TheVariants as kind
 use Rattle.table_schema.specs.declared.foreign.Foreign.{Foreign}
 use Rattle.table_schema.specs.Descriptor.{field_items, columns_reading}
-use Rattle.table_schema.specs.Digits.{is_empty}
+use Rattle.lexical_forms.specs.Digits.{is_empty}
 use Rattle.table_schema.specs.Field.{FieldValue, SchemaValue}
 use Rattle.table_schema.specs.Form.{kind_of}
-use Rattle.table_schema.specs.Values.{◌>>=◌, ◌>>>◌, or_fault, present, dictionary_in, text_in, list_in, all_of, texts_in, names_in, or_default}
+use Rattle.portal_base.specs.Kinds.{present, text_in, list_in}
+use Rattle.table_schema.specs.Values.{◌>>=◌, ◌>>>◌, or_fault, dictionary_in, all_of, texts_in, names_in, or_default}
 
 -- the empty text alone, where no others are given
 abbrev pub missing_in : Json → Option (List (List ℕ))

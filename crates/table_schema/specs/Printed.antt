@@ -1,6 +1,7 @@
 -- How cells are printed, as texts and in JSON.
-use Rattle.std.specs.Prelude.{◌≤◌, ◌<◌, ℕ, zero, suc, ◌+◌, ◌/◌, ◌%◌, ◌^◌, ◌==◌, Bool, if◌then◌else◌, List, [], ◌∷◌, ◌++◌, codes, All, IfSome, decimal, ℤ, pos, negsuc, ◌+ℤ◌, ◌≤ℤ◌, unsigned_abs}
+use Rattle.std.specs.Prelude.{◌≤◌, ◌<◌, ℕ, ◌^◌, Bool, if◌then◌else◌, List, ◌++◌, codes, All, IfSome, decimal, ℤ, pos, negsuc, ◌+ℤ◌, ◌≤ℤ◌, unsigned_abs}
 use Rattle.std.specs.Fmt.{signed_decimal}
+use Rattle.lexical_forms.specs.NumberText.{number_text}
 use Rattle.portal_base.specs.Moment.{IsMoment}
 use Rattle.portal_base.specs.MomentText.{two_digits, four_digits, day_text, clock_text, moment_text}
 use Rattle.portal_base.specs.declared.json_value.Json as json
@@ -30,24 +31,6 @@ IsValue (cell.YearMonth year month) = (year ≤ 9999) × (1 ≤ month) × (month
 abbrev pub HasValues : Constraints → Type 0
 HasValues constraints =
     IfSome constraints.minimum IsValue × IfSome constraints.maximum IsValue × All IsValue constraints.allowed
-
--- The decimal places of a number below 10 to the power of so many, from the first on, up to the last that isn't 0.
-abbrev pub places_text : ℕ → ℕ → List ℕ
-places_text zero rest = []
-places_text (suc more) rest =
-    if rest == 0 then [] else (48 + rest / 10 ^ more) ∷ places_text more (rest % 10 ^ more)
-
-abbrev pub fraction_text : ℕ → List ℕ
-fraction_text billionths = if billionths == 0 then [] else 46 ∷ places_text 9 billionths
-
-abbrev pub size_text : ℕ → List ℕ
-size_text billionths = decimal (billionths / 10 ^ 9) ++ fraction_text (billionths % 10 ^ 9)
-
--- A number of billionths: `-` where it is below 0, its whole part, and its fraction where it has one, without zeros
--- at the end.
-abbrev pub number_text : ℤ → List ℕ
-number_text (pos billionths) = size_text billionths
-number_text (negsuc more) = 45 ∷ size_text (suc more)
 
 -- `YYYY-MM-DD`, of days since 1970-01-01
 abbrev pub date_text : ℤ → List ℕ

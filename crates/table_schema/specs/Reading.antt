@@ -14,12 +14,11 @@ use Rattle.table_schema.specs.declared.form.Form.{Form}
 use Rattle.table_schema.specs.declared.form.Form.TheVariants as form
 use Rattle.table_schema.specs.declared.form.Kind.{Kind}
 use Rattle.table_schema.specs.declared.form.Kind.TheVariants as kind
-use Rattle.table_schema.specs.declared.form.NumberForm.{NumberForm}
 use Rattle.table_schema.specs.Calendar.{date_reading, time_reading, stamp_reading, year_reading, yearmonth_reading}
 use Rattle.table_schema.specs.Constraint.{constraint_fault}
 use Rattle.table_schema.specs.Field.{FieldValue}
 use Rattle.table_schema.specs.Form.{kind_of}
-use Rattle.table_schema.specs.Number.{integer_reading, number_reading, i64_only}
+use Rattle.lexical_forms.specs.Number.{integer_reading, number_reading, i64_only, default_spelling}
 use Rattle.table_schema.specs.Truth.{is_among, truth_reading, default_trues, default_falses}
 
 -- ---- by type alone
@@ -36,10 +35,6 @@ text_reading form.Time text = option_map cell.Time (time_reading text)
 text_reading form.Datetime text = option_map cell.Stamp (stamp_reading text)
 text_reading form.Year text = option_map cell.Year (year_reading text)
 text_reading form.YearMonth text = option_map (λ m. cell.YearMonth m.0 m.1) (yearmonth_reading text)
-
--- `decimalChar` is `.`, no `groupChar`, and nothing around the number
-abbrev pub default_spelling : NumberForm
-default_spelling = record { decimal = 46; group = None; bare = true }
 
 -- a type with the options that it has where none are given
 abbrev pub default_form : Kind → Form

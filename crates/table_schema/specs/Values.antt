@@ -1,6 +1,6 @@
--- The values of a descriptor's keys, by their kinds.
+-- The values of a descriptor's keys, by their kinds, beside those that every body has.
 use Rattle.std.specs.Prelude.{◌≡◌, ℕ, Bool, true, false, if◌then◌else◌, List, [], ◌∷◌, Option, Some, None, option_map, Result, Ok, Err, ℤ}
-use Rattle.portal_base.specs.Json.{member_of}
+use Rattle.portal_base.specs.Kinds.{list_in, text_in}
 use Rattle.portal_base.specs.declared.json_value.Json.{Json, out-Json}
 use Rattle.portal_base.specs.declared.json_value.Json.TheOpen.{Json-F}
 use Rattle.table_schema.specs.declared.fault.SchemaFault.{SchemaFault}
@@ -21,18 +21,6 @@ abbrev pub or_fault : {A : Type 0} → SchemaFault → Option A → Result A Sch
 or_fault fault None = Err fault
 or_fault fault (Some x) = Ok x
 
-abbrev pub is_null_in : Json-F Json → Bool
-is_null_in Json-F.Null = true
-is_null_in other = false
-
--- a key with the value null counts as absent
-abbrev pub non_null : Option Json → Option Json
-non_null None = None
-non_null (Some value) = if is_null_in (out-Json value) then None else Some value
-
-abbrev pub present : List ℕ → Json → Option Json
-present key value = non_null (member_of key value)
-
 abbrev pub is_map_in : Json-F Json → Bool
 is_map_in (Json-F.Map entries) = true
 is_map_in other = false
@@ -42,13 +30,6 @@ is_map value = is_map_in (out-Json value)
 
 abbrev pub dictionary_in : Json → Option Json
 dictionary_in value = if is_map value then Some value else None
-
-abbrev pub text_of : Json-F Json → Option (List ℕ)
-text_of (Json-F.Text text) = Some text
-text_of other = None
-
-abbrev pub text_in : Json → Option (List ℕ)
-text_in value = text_of (out-Json value)
 
 abbrev pub truth_of : Json-F Json → Option Bool
 truth_of (Json-F.Truth b) = Some b
@@ -63,13 +44,6 @@ whole_of other = None
 
 abbrev pub whole_in : Json → Option ℤ
 whole_in value = whole_of (out-Json value)
-
-abbrev pub list_of : Json-F Json → Option (List Json)
-list_of (Json-F.List items) = Some items
-list_of other = None
-
-abbrev pub list_in : Json → Option (List Json)
-list_in value = list_of (out-Json value)
 
 -- what each of the items is read as, where all are read
 abbrev pub all_of : {A : Type 0} → (Json → Option A) → List Json → Option (List A)

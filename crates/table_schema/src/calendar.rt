@@ -1,6 +1,6 @@
 //! Dates, times of day, date-times, years and year-months of texts.
 ghost use Rattle.std.specs.Prelude.{◌≡◌, ◌+◌, ◌<◌, pos, IsTrue, codes, slice_index, length, option_map, drop};
-ghost use Rattle.table_schema.specs.Digits.{is_digit};
+ghost use Rattle.lexical_forms.specs.Digits.{is_digit};
 ghost use Rattle.portal_base.specs.MomentReading.{fits_place, fits_form, number_at, year_in, has_day, has_time};
 ghost use Rattle.table_schema.specs.Calendar.{has_month, date_reading, time_reading, year_reading, yearmonth_reading, stamp_reading, zoned_time_reading, is_zone, is_time_mark, day_in, second_in};
 

@@ -1,26 +1,25 @@
 //! The fields of a descriptor.
-ghost use Rattle.std.specs.Prelude.{◌≡◌, ◌+◌, ◌≤◌, ◌==◌, ◌⊎◌, [], map, length, true, IfOk, Ok, Err, codes};
+ghost use Rattle.std.specs.Prelude.{◌≡◌, ◌+◌, ◌≤◌, ◌⊎◌, [], map, length, true, IfOk, Ok, Err, codes};
 ghost use Rattle.std.specs.List.{list_all, list_any};
-ghost use Rattle.std.specs.Str.{chars, bytes_eq};
+ghost use Rattle.std.specs.Str.{bytes_eq};
 ghost use Rattle.table_schema.specs.Values.{is_map, Gives};
 ghost use Rattle.table_schema.specs.Truth.{is_among};
-ghost use Rattle.table_schema.specs.Descriptor.{field_items, is_field_name, begins_with_space, ends_with_space, begins_with_underscore, name_reading, new_name, supported, unsupported_types, kind_reading, kind_named, format_reading, pattern_reading, has_pattern, column_of, column_reading, columns_reading};
+ghost use Rattle.table_schema.specs.Descriptor.{field_items, name_reading, new_name, supported, unsupported_types, kind_reading, kind_named, format_reading, pattern_reading, has_pattern, column_of, column_reading, columns_reading};
 
 use crate::constraint::Constraints;
 use crate::fault::SchemaFault;
 use crate::form::{Form, Kind};
 use crate::options::{constraints_of, form_of};
-use crate::split::{split_first, split_last};
-use crate::values::{is_map, list_in, present, text_in};
+use crate::values::is_map;
+use lexical_forms::is_field_name;
 use portal_base::json_value::Json;
+use portal_base::kinds::{list_in, present, text_in};
+use portal_base::seq::Seq;
 use portal_base::text::Text;
 use std::alloc::{AllocError, Global};
 
 /// The most fields of a descriptor.
 const MOST_FIELDS: usize = 500;
-
-/// The most bytes of a field's name.
-const LONGEST_FIELD_NAME: usize = 63;
 
 /// A field as its descriptor tells it.
 #[derive(Drop)]
@@ -31,7 +30,7 @@ pub struct Column {
 }
 
 /// The descriptor's fields, which are 1 to 500 dictionaries.
-pub(crate) fn field_items(value: &Json) -> Result<&[Json], SchemaFault>
+pub(crate) fn field_items(value: &Json) -> Result<&Seq<Json>, SchemaFault>
     ensures { Gives (λ items. items.now) result (field_items value.now) }
 {
     if !is_map(value) {
@@ -43,8 +42,8 @@ pub(crate) fn field_items(value: &Json) -> Result<&[Json], SchemaFault>
     let Some(items) = list_in(fields) else {
         return Err(SchemaFault::NoFields);
     };
-    let items = items.as_slice();
-    if items.is_empty() || items.len() > MOST_FIELDS || !are_maps(items) {
+    let listed = items.as_slice();
+    if listed.is_empty() || listed.len() > MOST_FIELDS || !are_maps(listed) {
         return Err(SchemaFault::NoFields);
     }
     Ok(items)
@@ -126,51 +125,6 @@ fn name_of(number: u32, item: &Json) -> Result<&Text, SchemaFault>
         Some(name) if is_field_name(name.as_str()) => Ok(name),
         _ => Err(SchemaFault::BadName(number)),
     }
-}
-
-// Whether the text may name a field.
-fn is_field_name(name: &str) -> bool
-    ensures { result ≡ is_field_name name.now }
-{
-    !name.is_empty()
-        && name.len() <= LONGEST_FIELD_NAME
-        && !begins_with_space(name)
-        && !ends_with_space(name)
-        && !begins_with_underscore(name.as_bytes())
-        && !has_quote(name.as_bytes())
-}
-
-fn begins_with_space(name: &str) -> bool
-    ensures { result ≡ begins_with_space (chars name.now) }
-{
-    match split_first(name) {
-        Some((character, _)) => character.is_whitespace(),
-        None => false,
-    }
-}
-
-fn ends_with_space(name: &str) -> bool
-    ensures { result ≡ ends_with_space (chars name.now) }
-{
-    match split_last(name) {
-        Some((_, character)) => character.is_whitespace(),
-        None => false,
-    }
-}
-
-fn begins_with_underscore(name: &[u8]) -> bool
-    ensures { result ≡ begins_with_underscore name.now }
-{
-    match name {
-        [first, ..] => *first == b'_',
-        [] => false,
-    }
-}
-
-fn has_quote(name: &[u8]) -> bool
-    ensures { result ≡ list_any (λ c. c == 34) name.now }
-{
-    name.iter().any(|byte| *byte == b'"')
 }
 
 fn is_taken(columns: &[Column], name: &Text) -> bool

@@ -2,6 +2,7 @@
 ghost use Rattle.std.specs.Prelude.{◌≡◌};
 ghost use Rattle.table_schema.specs.Form.{kind_of};
 
+use lexical_forms::NumberForm;
 use portal_base::seq::Seq;
 use portal_base::text::Text;
 
@@ -17,17 +18,6 @@ pub enum Kind {
     Datetime,
     Year,
     YearMonth,
-}
-
-/// How numbers are spelled: `decimalChar`, `groupChar` and `bareNumber`.
-#[derive(Clone, Copy, Debug, PartialEq, Eq)]
-pub struct NumberForm {
-    /// What stands between the whole part and the fraction.
-    pub decimal: char,
-    /// What may stand between two digits of the whole part.
-    pub group: Option<char>,
-    /// Whether nothing else may stand around the number.
-    pub bare: bool,
 }
 
 /// How truth values are spelled: `trueValues` and `falseValues`.

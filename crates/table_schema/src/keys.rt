@@ -8,8 +8,9 @@ ghost use Rattle.table_schema.specs.Keys.{missing_in, place_of, places_of, place
 use crate::column::Column;
 use crate::foreign::Foreign;
 use crate::form::Kind;
-use crate::values::{is_map, list_in, names_in, present, text_in, texts_in};
+use crate::values::{is_map, names_in, texts_in};
 use portal_base::json_value::Json;
+use portal_base::kinds::{list_in, present, text_in};
 use portal_base::seq::Seq;
 use portal_base::text::Text;
 use std::alloc::{AllocError, Global};

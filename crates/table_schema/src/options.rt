@@ -1,19 +1,20 @@
 //! The options and the constraints of a field's descriptor.
 ghost use Rattle.std.specs.Prelude.{◌≡◌, [], codes, map, option_map, IfOk};
 ghost use Rattle.table_schema.specs.declared.form.Form.TheVariants.{Boolean as boolean};
-ghost use Rattle.table_schema.specs.Values.{present, or_default, optional, all_of, texts_in};
+ghost use Rattle.portal_base.specs.Kinds.{present};
+ghost use Rattle.table_schema.specs.Values.{or_default, optional, all_of, texts_in};
 ghost use Rattle.table_schema.specs.Reading.{value_reading};
-ghost use Rattle.table_schema.specs.Descriptor.{is_mark, mark_of, mark_in, spelling_in, truths_in, form_in, has_length, has_order, count_of, length_in, bound_in, allowed_in, constraints_in, constraints_of, no_constraints};
+ghost use Rattle.table_schema.specs.Descriptor.{mark_in, spelling_in, truths_in, form_in, has_length, has_order, count_of, length_in, bound_in, allowed_in, constraints_in, constraints_of, no_constraints};
 
 use crate::cell::Cell;
 use crate::constraint::Constraints;
-use crate::form::{Form, Kind, NumberForm, Truths};
-use crate::number::{is_digit, is_exponent_mark, is_sign};
+use crate::form::{Form, Kind, Truths};
 use crate::reading::value_of;
-use crate::split::split_first;
 use crate::truth::{DEFAULT_FALSES, DEFAULT_TRUES};
-use crate::values::{is_map, list_in, present, text_in, texts_in, truth_at};
+use crate::values::{is_map, texts_in, truth_at};
+use lexical_forms::{NumberForm, mark_of};
 use portal_base::json_value::Json;
+use portal_base::kinds::{list_in, present, text_in};
 use portal_base::seq::Seq;
 use portal_base::text::Text;
 use std::alloc::{AllocError, Global};
@@ -61,17 +62,7 @@ fn spelling_of(item: &Json) -> Option<NumberForm>
 fn mark_in(value: &Json) -> Option<char>
     ensures { result ≡ mark_in value.now }
 {
-    let (character, rest) = split_first(text_in(value)?.as_str())?;
-    match split_first(rest) {
-        None if is_mark(character) => Some(character),
-        _ => None,
-    }
-}
-
-fn is_mark(character: char) -> bool
-    ensures { result ≡ is_mark character }
-{
-    !is_digit(character) && !is_sign(character) && !is_exponent_mark(character)
+    mark_of(text_in(value)?.as_str())
 }
 
 fn truths_of(alloc: Global, item: &Json) -> Result<Option<Truths>, AllocError>

@@ -1,20 +1,17 @@
 //! How cells are printed, as texts and in JSON.
-ghost use Rattle.std.specs.Prelude.{◌≡◌, ◌<◌, ◌≤◌, ◌+◌, ◌^◌, ◌++◌, ◌∷◌, [], IfOk, OnOk, Ok, string_bytes, unsigned_abs};
+ghost use Rattle.std.specs.Prelude.{◌≡◌, ◌<◌, ◌≤◌, ◌++◌, IfOk, OnOk, Ok, string_bytes};
 ghost use Rattle.portal_base.specs.MomentText.{two_digits, clock_text};
 ghost use Rattle.table_schema.specs.Field.{FieldValue};
 ghost use Rattle.table_schema.specs.Reading.{Accepts, record_reading};
-ghost use Rattle.table_schema.specs.Printed.{IsDay, IsValue, fraction_text, number_text, date_text, year_month_text, cell_text, cell_value};
+ghost use Rattle.table_schema.specs.Printed.{IsDay, IsValue, date_text, year_month_text, cell_text, cell_value};
 
 use crate::cell::Cell;
+use lexical_forms::{number_text, push_digit};
 use portal_base::copy::TryClone;
 use portal_base::json_value::Json;
 use portal_base::moment::Moment;
 use portal_base::text::Text;
 use std::alloc::{AllocError, Global};
-use std::fmt::Write;
-
-/// How many billionths are one.
-const BILLION: u128 = 1_000_000_000;
 
 /// The JSON value of a cell, which a field that may have the cell reads as that cell.
 pub fn cell_json(alloc: Global, cell: &Cell) -> Result<Json, AllocError>
@@ -42,7 +39,7 @@ pub fn cell_text(alloc: Global, cell: &Cell) -> Result<Text, AllocError>
         Cell::Null => Text::from_str(alloc, "null"),
         Cell::Text(text) => text.try_clone(alloc),
         Cell::Int(number) => Ok(Text::from(format!(in alloc; "{number}")?)),
-        Cell::Number(billionths) => number_text(alloc, *billionths),
+        Cell::Number(billionths) => Ok(Text::from(number_text(alloc, *billionths)?)),
         Cell::Truth(true) => Text::from_str(alloc, "true"),
         Cell::Truth(false) => Text::from_str(alloc, "false"),
         Cell::Date(day) => date_text(alloc, *day),
@@ -51,47 +48,6 @@ pub fn cell_text(alloc: Global, cell: &Cell) -> Result<Text, AllocError>
         Cell::Year(year) => Ok(Text::from(format!(in alloc; "{year}")?)),
         Cell::YearMonth(year, month) => year_month_text(alloc, *year, *month),
     }
-}
-
-fn number_text(alloc: Global, billionths: i128) -> Result<Text, AllocError>
-    requires { unsigned_abs billionths < 10 ^ 27 }
-    ensures { IfOk result (λ text. text ≡ number_text billionths) }
-{
-    let mut text = String::new(alloc);
-    if billionths < 0 {
-        text.push('-')?;
-    }
-    let size = billionths.unsigned_abs();
-    let whole = size / BILLION;
-    write!(text, "{whole}")?;
-    push_fraction(&mut text, (size % BILLION) as u32)?;
-    Ok(Text::from(text))
-}
-
-// Adds the point and the places behind it, unless there are none.
-fn push_fraction(text: &mut String, billionths: u32) -> Result<(), AllocError>
-    requires { billionths < 10 ^ 9 }
-    ensures { OnOk result (string_bytes text.new ≡ string_bytes text.old ++ fraction_text billionths) }
-{
-    if billionths == 0 {
-        return Ok(());
-    }
-    text.push('.')?;
-    let mut rest = billionths;
-    let mut unit: u32 = 100_000_000;
-    while rest != 0 {
-        push_digit(text, (rest / unit) as u8)?;
-        rest %= unit;
-        unit = unit / 10;
-    }
-    Ok(())
-}
-
-fn push_digit(text: &mut String, digit: u8) -> Result<(), AllocError>
-    requires { digit < 10 }
-    ensures { OnOk result (string_bytes text.new ≡ string_bytes text.old ++ (48 + digit) ∷ []) }
-{
-    text.push((b'0' + digit) as char)
 }
 
 fn date_text(alloc: Global, day: i32) -> Result<Text, AllocError>

@@ -66,7 +66,7 @@ impl Schema {
             ⊎ (schema_reading value.now ≡ Err fault)) }
     {
         let items = field_items(value)?;
-        let columns = columns_of(alloc, items)?;
+        let columns = columns_of(alloc, items.as_slice())?;
         match keyed(alloc, columns, value)? {
             Some(schema) => Ok(schema),
             None => Err(SchemaFault::BadKey),

@@ -1,22 +1,14 @@
-//! The values of a descriptor's keys, by their kinds.
+//! The values of a descriptor's keys, by their kinds, beside those that every body has.
 ghost use Rattle.std.specs.Prelude.{◌≡◌, ◌∷◌, [], IfOk};
 ghost use Rattle.std.specs.Option.{option_copied};
-ghost use Rattle.table_schema.specs.Values.{present, is_map, text_in, truth_in, list_in, all_of, texts_in, names_in, or_default};
+ghost use Rattle.portal_base.specs.Kinds.{present, text_in, list_in};
+ghost use Rattle.table_schema.specs.Values.{is_map, truth_in, all_of, texts_in, names_in, or_default};
 
 use portal_base::json_value::Json;
+use portal_base::kinds::{list_in, present, text_in};
 use portal_base::seq::Seq;
 use portal_base::text::Text;
 use std::alloc::{AllocError, Global};
-
-/// The value of a key. One that is null counts as absent.
-pub(crate) fn present<'a>(value: &'a Json, key: &str) -> Option<&'a Json>
-    ensures { option_copied result ≡ present key.now value.now }
-{
-    match value.get(key) {
-        Some(Json::Null) => None,
-        found => found,
-    }
-}
 
 pub(crate) fn is_map(value: &Json) -> bool
     ensures { result ≡ is_map value.now }
@@ -24,24 +16,6 @@ pub(crate) fn is_map(value: &Json) -> bool
     match value {
         Json::Map(_) => true,
         _ => false,
-    }
-}
-
-pub(crate) fn text_in(value: &Json) -> Option<&Text>
-    ensures { option_copied result ≡ text_in value.now }
-{
-    match value {
-        Json::Text(text) => Some(text),
-        _ => None,
-    }
-}
-
-pub(crate) fn list_in(value: &Json) -> Option<&Seq<Json>>
-    ensures { option_copied result ≡ list_in value.now }
-{
-    match value {
-        Json::List(items) => Some(items),
-        _ => None,
     }
 }
 

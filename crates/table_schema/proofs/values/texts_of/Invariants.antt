@@ -1,5 +1,6 @@
 use Rattle.std.proofs.Common.{◌≡◌, drop}
-use Rattle.table_schema.specs.Values.{text_in, all_of}
+use Rattle.portal_base.specs.Kinds.{text_in}
+use Rattle.table_schema.specs.Values.{all_of}
 use Rattle.table_schema.proofs.ValueLemmas.{read_on}
 use Rattle.table_schema.proofs.values.texts_of.Given as goal
 

@@ -1,0 +1,12 @@
+use Rattle.std.proofs.Common.{length}
+use denote.Text.{Utf8}
+use denote.Shadow.{shadow}
+use Rattle.std.specs.Str.{chars}
+use Rattle.lexical_forms.proofs.PartLemmas.{LimitedSoFar}
+use Rattle.lexical_forms.proofs.number.limited_value.Given as goal
+
+abbrev pub invariant-loop-character : goal.invariant-loop-character
+invariant-loop-character l = shadow (Utf8 l.rest) × LimitedSoFar l.value (chars l.text) (chars l.rest)
+
+abbrev pub decreases-loop-character : goal.decreases-loop-character
+decreases-loop-character l = length (chars l.rest)

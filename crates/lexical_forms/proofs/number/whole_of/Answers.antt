@@ -1,0 +1,10 @@
+use Rattle.std.proofs.Common.{subst, ◌∙◌, List, ℕ}
+use Rattle.std.specs.Prelude.{None}
+use Rattle.std.specs.Str.{chars}
+use Rattle.lexical_forms.specs.Significand.{IsNumberOf}
+use Rattle.lexical_forms.proofs.ReadingLemmas.{whole_reading-none}
+use Rattle.lexical_forms.proofs.number.whole_of.Goals as goal
+
+pub returns-in_err-magnitude : goal.returns-in_err-magnitude
+returns-in_err-magnitude c =
+    c.from_residual.ensures ∙ whole_reading-none (chars c.args.text.now) (subst (λ (xs : List ℕ). IsNumberOf xs None) c.without_sign.ensures c.in_err-magnitude.ensures)

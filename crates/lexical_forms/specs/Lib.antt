@@ -1,0 +1,6 @@
+pub mod Digits
+pub mod FieldName
+pub mod Mark
+pub mod Number
+pub mod NumberText
+pub mod Significand

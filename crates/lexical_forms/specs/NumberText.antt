@@ -1,0 +1,20 @@
+-- How numbers are printed.
+use Rattle.std.specs.Prelude.{ℕ, zero, suc, ◌+◌, ◌/◌, ◌%◌, ◌^◌, ◌==◌, if◌then◌else◌, List, [], ◌∷◌, ◌++◌, decimal, ℤ, pos, negsuc}
+
+-- The decimal places of a number below 10 to the power of so many, from the first on, up to the last that isn't 0.
+abbrev pub places_text : ℕ → ℕ → List ℕ
+places_text zero rest = []
+places_text (suc more) rest =
+    if rest == 0 then [] else (48 + rest / 10 ^ more) ∷ places_text more (rest % 10 ^ more)
+
+abbrev pub fraction_text : ℕ → List ℕ
+fraction_text billionths = if billionths == 0 then [] else 46 ∷ places_text 9 billionths
+
+abbrev pub size_text : ℕ → List ℕ
+size_text billionths = decimal (billionths / 10 ^ 9) ++ fraction_text (billionths % 10 ^ 9)
+
+-- A number of billionths: `-` where it is below 0, its whole part, and its fraction where it has one, without zeros
+-- at the end.
+abbrev pub number_text : ℤ → List ℕ
+number_text (pos billionths) = size_text billionths
+number_text (negsuc more) = 45 ∷ size_text (suc more)

@@ -1,0 +1,56 @@
+//! The names of fields.
+ghost use Rattle.std.specs.Prelude.{◌≡◌, ◌==◌};
+ghost use Rattle.std.specs.List.{list_any};
+ghost use Rattle.std.specs.Str.{chars};
+ghost use Rattle.lexical_forms.specs.FieldName.{is_field_name, begins_with_space, ends_with_space, begins_with_underscore};
+
+use crate::split::{split_first, split_last};
+
+/// The most bytes of a name.
+const LONGEST_FIELD_NAME: usize = 63;
+
+/// Whether the text may name a field: it is not empty, has no white space at an end, no `_` in front, no double quote,
+/// and at most 63 bytes.
+pub fn is_field_name(name: &str) -> bool
+    ensures { result ≡ is_field_name name.now }
+{
+    !name.is_empty()
+        && name.len() <= LONGEST_FIELD_NAME
+        && !begins_with_space(name)
+        && !ends_with_space(name)
+        && !begins_with_underscore(name.as_bytes())
+        && !has_quote(name.as_bytes())
+}
+
+fn begins_with_space(name: &str) -> bool
+    ensures { result ≡ begins_with_space (chars name.now) }
+{
+    match split_first(name) {
+        Some((character, _)) => character.is_whitespace(),
+        None => false,
+    }
+}
+
+fn ends_with_space(name: &str) -> bool
+    ensures { result ≡ ends_with_space (chars name.now) }
+{
+    match split_last(name) {
+        Some((_, character)) => character.is_whitespace(),
+        None => false,
+    }
+}
+
+fn begins_with_underscore(name: &[u8]) -> bool
+    ensures { result ≡ begins_with_underscore name.now }
+{
+    match name {
+        [first, ..] => *first == b'_',
+        [] => false,
+    }
+}
+
+fn has_quote(name: &[u8]) -> bool
+    ensures { result ≡ list_any (λ c. c == 34) name.now }
+{
+    name.iter().any(|byte| *byte == b'"')
+}
