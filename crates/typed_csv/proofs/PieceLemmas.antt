@@ -1,14 +1,14 @@
 -- What is kept of the bytes that came has the records of them all.
-use Rattle.std.proofs.Common.{◌≡◌, ◌≤◌, ◌+◌, ◌-◌, ℕ, Bool, true, false, List, [], ◌++◌, length, take, drop, refl, sym, ap, ◌∙◌, arith, append_assoc, true≢false}
+use Rattle.std.proofs.Common.{◌≡◌, ◌≤◌, ◌+◌, ◌-◌, ℕ, Bool, true, false, List, [], ◌++◌, length, take, drop, refl, sym, ap, subst, ◌∙◌, arith, append_assoc, true≢false}
 use Rattle.std.specs.Prelude.{Option, Some, None, Result, Ok, Err, OnOk, IfSome}
 use Rattle.std.proofs.Math.Seq.{take-add, take-length}
-use Rattle.std.proofs.lemmas.List.{take_rest, take-append-drop}
+use Rattle.std.proofs.lemmas.List.{drop-drop, take_rest, take-append-drop}
 use Rattle.csv.specs.Reading.{default_config, records, strip_bom}
 use Rattle.typed_csv.specs.Pieces.{Kept, IsScanned, records_with}
-use Rattle.typed_csv.specs.Places.{place_after}
+use Rattle.typed_csv.specs.Places.{IsHeldBack, IsLastStart, has_start, place_after}
 use Rattle.typed_csv.specs.declared.scan.Place.{Place}
 use Rattle.typed_csv.specs.declared.scan.Place.TheVariants.{RecordStart}
-use Rattle.typed_csv.proofs.PlaceLemmas.{place_after-append, records-cut, strip_bom-append}
+use Rattle.typed_csv.proofs.PlaceLemmas.{has_start-append, place_after-append, records-cut, strip_bom-append}
 
 -- ---- how far the bytes held were scanned
 
@@ -27,10 +27,11 @@ place_after-rest held n at e =
     ∙ ap (place_after RecordStart) (take-append-drop n held)
 
 pub IsScanned-all : (held : List ℕ) (n : ℕ) (at : Place) (is_fresh : Bool) → n ≡ length held → is_fresh ≡ false
-    → at ≡ place_after RecordStart held → IsScanned held n at is_fresh
-IsScanned-all held n at is_fresh e f p = record {
+    → at ≡ place_after RecordStart held → has_start RecordStart held ≡ false → IsScanned held n at is_fresh
+IsScanned-all held n at is_fresh e f p none = record {
   within = omega arith;
   stands = p ∙ ap (place_after RecordStart) (sym (take-length held) ∙ ap (λ m. take m held) (sym e));
+  none = ap (has_start RecordStart) (ap (λ m. take m held) e ∙ take-length held) ∙ none;
   fresh = λ fresh. absurd (true≢false (sym fresh ∙ f));
 }
 
@@ -73,14 +74,36 @@ pub scanned_place : (held bytes : List ℕ) (n : ℕ) (at next : Place) → byte
 scanned_place held bytes n at next e stands p =
     p ∙ ap (place_after at) (take_rest bytes n ∙ ap (drop n) e) ∙ place_after-rest held n at stands
 
+-- what was scanned now are the bytes behind those that were scanned before
+last-rest : (held bytes : List ℕ) (n : ℕ) (at : Place) (whole now : Option ℕ) → bytes ≡ held → whole ≡ now
+    → IsLastStart at (take (length bytes - n) (drop n bytes)) whole → IsLastStart at (drop n held) now
+last-rest held bytes n at whole now e is last =
+    subst (IsLastStart at (drop n held)) is
+    (subst (λ (rest : List ℕ). IsLastStart at rest whole) (take_rest bytes n ∙ ap (drop n) e) last)
+
 pub scanned_whole : (held bytes : List ℕ) (n count : ℕ) (at : Place) (whole : Option ℕ) → bytes ≡ held
     → at ≡ place_after RecordStart (take n held)
-    → IfSome whole (λ count. (count ≤ length (take (length bytes - n) (drop n bytes)))
-    × (place_after at (take count (take (length bytes - n) (drop n bytes))) ≡ RecordStart))
-    → whole ≡ Some count → place_after RecordStart (take (n + count) held) ≡ RecordStart
-scanned_whole held bytes n count at None e stands p is = absurd cc
-scanned_whole held bytes n count at (Some found) e stands p is =
-    let same : found ≡ count = cc in
-    sym (place_after-part held n count at stands)
-    ∙ ap (λ v. place_after at (take count v)) (sym (take_rest bytes n ∙ ap (drop n) e))
-    ∙ ap (λ m. place_after at (take m (take (length bytes - n) (drop n bytes)))) (sym same) ∙ p.1
+    → IsLastStart at (take (length bytes - n) (drop n bytes)) whole → whole ≡ Some count
+    → place_after RecordStart (take (n + count) held) ≡ RecordStart
+scanned_whole held bytes n count at whole e stands last is =
+    sym (place_after-part held n count at stands) ∙ (last-rest held bytes n at whole (Some count) e is last).1
+
+-- no place between two records is behind the last one
+pub scanned_last : (held bytes : List ℕ) (n count : ℕ) (at : Place) (whole : Option ℕ) → bytes ≡ held
+    → IsLastStart at (take (length bytes - n) (drop n bytes)) whole → whole ≡ Some count
+    → has_start RecordStart (drop (n + count) held) ≡ false
+scanned_last held bytes n count at whole e last is =
+    ap (has_start RecordStart) (sym (drop-drop count n held)) ∙ (last-rest held bytes n at whole (Some count) e is last).2
+
+pub held_back : (is_fresh : Bool) (held : List ℕ) → is_fresh ≡ false → has_start RecordStart held ≡ false → IsHeldBack is_fresh held
+held_back true held stale none = cc
+held_back false held stale none = none
+
+-- where none was found, all bytes are of one record
+pub scanned_none : (held bytes : List ℕ) (n : ℕ) (at : Place) (whole : Option ℕ) → bytes ≡ held
+    → at ≡ place_after RecordStart (take n held) → has_start RecordStart (take n held) ≡ false
+    → IsLastStart at (take (length bytes - n) (drop n bytes)) whole → whole ≡ None → has_start RecordStart held ≡ false
+scanned_none held bytes n at whole e stands none last is =
+    ap (has_start RecordStart) (sym (take-append-drop n held))
+    ∙ has_start-append RecordStart (take n held) (drop n held) none
+    ∙ ap (λ p. has_start p (drop n held)) (sym stands) ∙ last-rest held bytes n at whole None e is last

@@ -1,7 +1,8 @@
 -- A text that is cut between two records.
-use Rattle.std.proofs.Common.{◌≡◌, ◌≤◌, ◌<◌, get_or, ◌+◌, ℕ, Bool, true, false, List, [], ◌∷◌, ◌++◌, length, take, if◌then◌else◌, refl, sym, ap, subst, ◌∙◌, arith}
+use Rattle.std.proofs.Common.{◌≡◌, ◌≤◌, ◌<◌, get_or, ◌+◌, ℕ, Bool, true, false, ◌||◌, List, [], ◌∷◌, ◌++◌, length, take, drop, Option, Some, None, if◌then◌else◌, refl, sym, ap, subst, ◌∙◌, arith}
 use Rattle.std.proofs.lemmas.Bool.Decides.{nat_tests}
-use Rattle.std.proofs.lemmas.List.{take_more}
+use Rattle.std.proofs.Math.Seq.{take-length}
+use Rattle.std.proofs.lemmas.List.{drop_all, drop-append-le, length-append, length-take-le, take-append-drop, take-append-le, take_more}
 use Rattle.csv.specs.Machine.{field_after, fields_after, is_end, step}
 use Rattle.csv.specs.Reading.{default_config, is_bom, records, strip_bom}
 use Rattle.csv.specs.declared.parser.Action.{Action}
@@ -9,7 +10,7 @@ use Rattle.csv.specs.declared.parser.Action.TheVariants as act
 use Rattle.csv.specs.declared.parser.State.{State}
 use Rattle.csv.specs.declared.parser.State.TheVariants as st
 use Rattle.typed_csv.proofs.RecordLemmas.{all_records, records-all}
-use Rattle.typed_csv.specs.Places.{next_place, place_after}
+use Rattle.typed_csv.specs.Places.{IsLastStart, has_start, is_start, next_place, place_after}
 use Rattle.typed_csv.specs.declared.scan.Place.{Place}
 use Rattle.typed_csv.specs.declared.scan.Place.TheVariants as place
 
@@ -23,6 +24,67 @@ pub place_after_more : (start : Place) (bytes : List ℕ) (i : ℕ) → i < leng
     → place_after start (take (i + 1) bytes) ≡ next_place (place_after start (take i bytes)) (get_or bytes i 0)
 place_after_more start bytes i h =
     ap (place_after start) (take_more bytes i 0 h) ∙ place_after-append start (take i bytes) (get_or bytes i 0 ∷ [])
+
+-- ---- places between two records
+
+pub start_is : (at : Place) → is_start at ≡ true → at ≡ place.RecordStart
+start_is place.RecordStart e = refl
+start_is place.FieldStart e = cc
+start_is place.Plain e = cc
+start_is place.Quoted e = cc
+start_is place.AfterQuote e = cc
+
+neither : (a b : Bool) → (a || b) ≡ false → (a ≡ false) × (b ≡ false)
+neither true b e = cc
+neither false b e = (refl, e)
+
+-- where the front has none, those of both parts are those of the back
+pub has_start-append : (start : Place) (front back : List ℕ) → has_start start front ≡ false
+    → has_start start (front ++ back) ≡ has_start (place_after start front) back
+has_start-append start [] back e = refl
+has_start-append start (c ∷ front) back e =
+    let none = neither (is_start (next_place start c)) (has_start (next_place start c) front) e in
+    ap (λ here. here || has_start (next_place start c) (front ++ back)) none.0 ∙ has_start-append (next_place start c) front back none.1
+
+-- the last of them is behind all bytes
+last-all : (start : Place) (bytes : List ℕ) (count : ℕ) → count ≡ length bytes → place_after start bytes ≡ place.RecordStart
+    → IsLastStart start bytes (Some count)
+last-all start bytes count e at = (
+  omega (arith, e),
+  ap (place_after start) (ap (λ n. take n bytes) e ∙ take-length bytes) ∙ at,
+  ap (has_start place.RecordStart) (drop_all count bytes (omega (arith, e))),
+)
+
+no_start : (at : Place) (byte : ℕ) → is_start (next_place at byte) ≡ false → has_start at (byte ∷ []) ≡ false
+no_start at byte e = ap (λ here. here || false) e
+
+-- one more byte, behind which there is none
+last-before : (start : Place) (bytes : List ℕ) (byte : ℕ) (whole : Option ℕ) → IsLastStart start bytes whole
+    → is_start (next_place (place_after start bytes) byte) ≡ false → IsLastStart start (bytes ++ byte ∷ []) whole
+last-before start bytes byte None none e = has_start-append start bytes (byte ∷ []) none ∙ no_start (place_after start bytes) byte e
+last-before start bytes byte (Some count) last e =
+    let left : place_after start bytes ≡ place_after place.RecordStart (drop count bytes) =
+    ap (place_after start) (sym (take-append-drop count bytes)) ∙ place_after-append start (take count bytes) (drop count bytes)
+    ∙ ap (λ at. place_after at (drop count bytes)) last.1 in (
+      omega (arith, last.0, length-append bytes (byte ∷ [])),
+      ap (place_after start) (take-append-le count bytes (byte ∷ []) last.0) ∙ last.1,
+      ap (has_start place.RecordStart) (drop-append-le count bytes (byte ∷ []) last.0)
+          ∙ has_start-append place.RecordStart (drop count bytes) (byte ∷ []) last.2
+          ∙ no_start (place_after place.RecordStart (drop count bytes)) byte (ap (λ at. is_start (next_place at byte)) (sym left) ∙ e),
+    )
+
+-- The same for the first bytes of a list. Here is the place behind one more of them.
+pub last_here : (start : Place) (bytes : List ℕ) (i : ℕ) (here : Place) → i < length bytes → here ≡ place_after start (take (i + 1) bytes)
+    → is_start here ≡ true → IsLastStart start (take (i + 1) bytes) (Some (i + 1))
+last_here start bytes i here h e is =
+    last-all start (take (i + 1) bytes) (i + 1) (sym (length-take-le (i + 1) bytes (omega (arith, h)))) (sym e ∙ start_is here is)
+
+pub last_still : (start : Place) (bytes : List ℕ) (i : ℕ) (here : Place) (whole : Option ℕ) → i < length bytes
+    → here ≡ place_after start (take (i + 1) bytes) → is_start here ≡ false → IsLastStart start (take i bytes) whole
+    → IsLastStart start (take (i + 1) bytes) whole
+last_still start bytes i here whole h e is last =
+    subst (λ (more : List ℕ). IsLastStart start more whole) (sym (take_more bytes i 0 h))
+    (last-before start (take i bytes) (get_or bytes i 0) whole last (ap is_start (sym (place_after_more start bytes i h) ∙ sym e) ∙ is))
 
 -- ---- places and the states of the machine
 

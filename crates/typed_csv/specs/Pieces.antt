@@ -1,9 +1,9 @@
 -- What a reader of records keeps of the bytes that a source gave.
-use Rattle.std.specs.Prelude.{◌≡◌, ◌⊎◌, ◌≤◌, ℕ, Bool, true, List, [], ◌++◌, length, take, Option, Some, None}
+use Rattle.std.specs.Prelude.{◌≡◌, ◌⊎◌, ◌≤◌, ℕ, Bool, true, false, List, [], ◌++◌, length, take, Option, Some, None}
 use Rattle.typed_csv.specs.declared.scan.Place.{Place}
 use Rattle.typed_csv.specs.declared.scan.Place.TheVariants as place
 use Rattle.typed_csv.specs.Reading.{text_records}
-use Rattle.typed_csv.specs.Places.{place_after}
+use Rattle.typed_csv.specs.Places.{has_start, place_after}
 
 -- The records that were read and not yet given, the bytes behind them, and whether a byte order mark may still come.
 pub record Kept : Type 0 where
@@ -20,11 +20,12 @@ ready_records (Some records) = records
 abbrev pub records_with : Kept → List ℕ → List (List (List ℕ))
 records_with kept rest = kept.ready ++ text_records kept.is_fresh (kept.held ++ rest)
 
--- So many of the bytes that are held were scanned, and end at this place of their record. Where a byte order mark may
--- still come, none were.
+-- So many of the bytes that are held were scanned, end at this place of their record, and are of one record. Where a
+-- byte order mark may still come, none were.
 pub record IsScanned (held : List ℕ) (scanned : ℕ) (at : Place) (is_fresh : Bool) : Type 0 where
   pub within : scanned ≤ length held
   pub stands : at ≡ place_after place.RecordStart (take scanned held)
+  pub none : has_start place.RecordStart (take scanned held) ≡ false
   pub fresh : is_fresh ≡ true → scanned ≡ 0
 
 -- There is room for a piece once one was asked for.

@@ -1,5 +1,5 @@
 -- Where a byte stands in its record (RFC 4180, section 2).
-use Rattle.std.specs.Prelude.{ℕ, ◌==◌, ◌||◌, if◌then◌else◌, List, [], ◌∷◌}
+use Rattle.std.specs.Prelude.{◌≡◌, ◌≤◌, ◌<◌, ℕ, Bool, true, false, ◌==◌, ◌||◌, if◌then◌else◌, List, [], ◌∷◌, length, take, drop, Option, Some, None}
 use Rattle.typed_csv.specs.declared.scan.Place.{Place}
 use Rattle.typed_csv.specs.declared.scan.Place.TheVariants as place
 
@@ -21,3 +21,25 @@ next_place place.AfterQuote byte = if byte == 34 then place.Quoted else plain_pl
 abbrev pub place_after : Place → List ℕ → Place
 place_after start [] = start
 place_after start (byte ∷ bytes) = place_after (next_place start byte) bytes
+
+-- the place is between two records
+abbrev pub is_start : Place → Bool
+is_start place.RecordStart = true
+is_start other = false
+
+-- a place behind one of the bytes, or behind more of them, is between two records
+abbrev pub has_start : Place → List ℕ → Bool
+has_start start [] = false
+has_start start (byte ∷ bytes) = is_start (next_place start byte) || has_start (next_place start byte) bytes
+
+-- So many bytes there are up to the last place between two records, if there is one behind a byte.
+abbrev pub IsLastStart : Place → List ℕ → Option ℕ → Type 0
+IsLastStart start bytes None = has_start start bytes ≡ false
+IsLastStart start bytes (Some count) =
+    (count ≤ length bytes) × (place_after start (take count bytes) ≡ place.RecordStart)
+    × (has_start place.RecordStart (drop count bytes) ≡ false)
+
+-- These bytes are no more than the record that isn't whole yet, or than a byte order mark that may still come whole.
+abbrev pub IsHeldBack : Bool → List ℕ → Type 0
+IsHeldBack true held = length held < 3
+IsHeldBack false held = has_start place.RecordStart held ≡ false

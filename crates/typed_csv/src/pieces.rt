@@ -1,11 +1,11 @@
 //! The bytes that a source gave, cut where records end.
-ghost use Rattle.std.specs.Prelude.{◌≡◌, ◌≤◌, ℕ, List, [], ◌∷◌, ◌++◌, length, take, true, false, Some, Ok, OnOk};
+ghost use Rattle.std.specs.Prelude.{◌≡◌, ◌≤◌, ℕ, List, [], ◌∷◌, ◌++◌, length, take, drop, true, false, Some, Ok, OnOk};
 ghost use Rattle.csv.specs.Reading.{strip_bom};
 ghost use Rattle.csv.specs.Records.{fields_of};
 ghost use Rattle.typed_csv.specs.Records.{is_text};
 ghost use Rattle.typed_csv.specs.Reading.{text_records, BeginsNotText};
 ghost use Rattle.typed_csv.specs.Pieces.{records_with};
-ghost use Rattle.typed_csv.specs.Places.{place_after};
+ghost use Rattle.typed_csv.specs.Places.{has_start, IsHeldBack, place_after};
 
 use crate::chunk::{Chunk, Next};
 use crate::scan::{Place, scan};
@@ -76,10 +76,11 @@ impl Pieces {
         Ok(next)
     }
 
-    /// Adds a piece of the source.
+    /// Adds a piece of the source. No whole record is left among the bytes held.
     pub(crate) fn add(&mut self, piece: &[u8]) -> Result<(), AllocError>
         requires { self.old.ready ≡ [] }
-        ensures { OnOk result ((rest : List ℕ) → records_with self.new rest ≡ records_with self.old (piece.now ++ rest)) }
+        ensures records { OnOk result ((rest : List ℕ) → records_with self.new rest ≡ records_with self.old (piece.now ++ rest)) }
+        ensures held { OnOk result (IsHeldBack self.new.is_fresh self.new.held) }
     {
         self.extend(piece)?;
         if !self.is_fresh {
@@ -118,7 +119,8 @@ impl Pieces {
     fn cut(&mut self) -> Result<(), AllocError>
         requires ready { self.old.ready ≡ [] }
         requires fresh { self.old.is_fresh ≡ false }
-        ensures { OnOk result ((rest : List ℕ) → records_with self.new rest ≡ records_with self.old rest) }
+        ensures records { OnOk result ((rest : List ℕ) → records_with self.new rest ≡ records_with self.old rest) }
+        ensures held { OnOk result (IsHeldBack self.new.is_fresh self.new.held) }
     {
         let scanned = scan(self.place, &self.held[self.scanned..]);
         match scanned.whole {
@@ -141,7 +143,9 @@ impl Pieces {
         requires within { end ≤ length self.old.held }
         requires ends { place_after Place.RecordStart (take end self.old.held) ≡ Place.RecordStart }
         requires place { place ≡ place_after Place.RecordStart self.old.held }
-        ensures { OnOk result ((rest : List ℕ) → records_with self.new rest ≡ records_with self.old rest) }
+        requires last { has_start Place.RecordStart (drop end self.old.held) ≡ false }
+        ensures records { OnOk result ((rest : List ℕ) → records_with self.new rest ≡ records_with self.old rest) }
+        ensures held { OnOk result (IsHeldBack self.new.is_fresh self.new.held) }
     {
         let (whole, rest) = self.held.split_at(end);
         let rest = Vec::from_slice(self.alloc, rest)?;

@@ -6,6 +6,7 @@ ghost use Rattle.typed_csv.specs.Faults.{IsOutside};
 ghost use Rattle.typed_csv.specs.Records.{is_text};
 ghost use Rattle.typed_csv.specs.Reading.{records_ahead, Receives, TakesFirst, BeginsNotText, IsNoneLeft};
 ghost use Rattle.typed_csv.specs.Pieces.{IsRoom};
+ghost use Rattle.typed_csv.specs.Places.{IsHeldBack};
 
 use crate::chunk::Next;
 use crate::fault::LoadFault;
@@ -33,7 +34,8 @@ fn make_room(alloc: Global, room: &mut Vec<u8>) -> Result<(), AllocError>
     Ok(())
 }
 
-/// Reads the records of a source, of which it holds no more than a piece and the longest record.
+/// Reads the records of a source. Between two calls it holds no more of it than the whole records of a piece and the one
+/// that isn't whole yet.
 #[derive(Drop)]
 pub(crate) struct RecordReader<S> {
     alloc: Global,
@@ -47,6 +49,7 @@ pub(crate) struct RecordReader<S> {
 impl<S> Model for RecordReader<S> {
     ghost use Rattle.typed_csv.specs.Reading.{Reading};
     ghost use Rattle.typed_csv.specs.Pieces.{IsRoom};
+    ghost use Rattle.typed_csv.specs.Places.{IsHeldBack};
 
     ghost Value = { Reading S };
 
@@ -82,6 +85,7 @@ impl<S: Source> RecordReader<S> {
         ensures text { result ≡ Ok Next.Record → is_text (fields_of row.new) ≡ true }
         ensures bytes { result ≡ Ok Next.NotText → BeginsNotText (records_ahead S.to_come self.old) }
         ensures end { result ≡ Ok Next.End → IsNoneLeft (records_ahead S.to_come self.old) }
+        ensures held { IsHeldBack self.old.is_fresh self.old.held → OnOk result (IsHeldBack self.new.is_fresh self.new.held) }
         ensures received { Receives S.to_come self.old self.new }
         ensures fault { IfErr result IsOutside }
         ensures failed { result ≡ Err LoadFault.ReadFault → Rose (S.faults self.old.source) (S.faults self.new.source) }
@@ -109,6 +113,7 @@ impl<S: Source> RecordReader<S> {
         ensures ahead { OnOk result (records_ahead S.to_come self.new ≡ records_ahead S.to_come self.old) }
         ensures rises { result ≡ Ok true → self.old.given < self.new.given }
         ensures end { result ≡ Ok false → IsAtEnd (S.to_come self.new.source) × (self.new.ready ≡ []) }
+        ensures held { IsHeldBack self.old.is_fresh self.old.held → OnOk result (IsHeldBack self.new.is_fresh self.new.held) }
         ensures received { Receives S.to_come self.old self.new }
         ensures fault { IfErr result IsOutside }
         ensures failed { result ≡ Err LoadFault.ReadFault → Rose (S.faults self.old.source) (S.faults self.new.source) }
@@ -138,6 +143,7 @@ impl<S: Source> RecordReader<S> {
         ensures none { result ≡ Ok Next.End → IsNoneLeft (records_ahead S.to_come self.old) }
         ensures source { self.new.source ≡ self.old.source }
         ensures given { self.new.given ≡ self.old.given }
+        ensures held { OnOk result (IsHeldBack self.new.is_fresh self.new.held) }
     {
         self.pieces.finish()?;
         self.pieces.take(row)

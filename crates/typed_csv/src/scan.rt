@@ -1,6 +1,6 @@
 //! Where records end in a run of bytes.
-ghost use Rattle.std.specs.Prelude.{◌≡◌, ◌≤◌, ◌<◌, length, take, IfSome};
-ghost use Rattle.typed_csv.specs.Places.{next_place, place_after};
+ghost use Rattle.std.specs.Prelude.{◌≡◌};
+ghost use Rattle.typed_csv.specs.Places.{IsLastStart, is_start, next_place, place_after};
 
 /// Where a byte stands in its record.
 #[derive(Clone, Copy, Debug, PartialEq, Eq)]
@@ -31,6 +31,13 @@ impl Place {
             _ => Place::Plain,
         }
     }
+
+    // Whether it is between two records.
+    fn is_start(self) -> bool
+        ensures { result ≡ is_start self }
+    {
+        matches!(self, Place::RecordStart)
+    }
 }
 
 /// What a scan of bytes found.
@@ -45,14 +52,13 @@ pub(crate) struct Scanned {
 /// Scans the bytes behind `place`.
 pub(crate) fn scan(place: Place, bytes: &[u8]) -> Scanned
     ensures place { result.place ≡ place_after place bytes.now }
-    ensures whole { IfSome result.whole (λ count. (count ≤ length bytes.now)
-        × (place_after place (take count bytes.now) ≡ Place.RecordStart)) }
+    ensures whole { IsLastStart place bytes.now result.whole }
 {
     let mut place = place;
     let mut whole = None;
     for (index, byte) in bytes.iter().enumerate() {
         place = place.after(*byte);
-        if place == Place::RecordStart {
+        if place.is_start() {
             whole = Some(index + 1);
         }
     }

@@ -1,7 +1,7 @@
 use Rattle.std.proofs.Common.{◌≡◌, ◌∙◌, ap, sym, take, drop, length}
 use Rattle.csv.specs.Reading.{default_config, records}
 use Rattle.typed_csv.specs.Pieces.{Kept}
-use Rattle.typed_csv.specs.Places.{place_after}
+use Rattle.typed_csv.specs.Places.{has_start, place_after}
 use Rattle.typed_csv.specs.declared.scan.Place.TheVariants.{RecordStart}
 use Rattle.typed_csv.proofs.PieceLemmas.{IsScanned-all, place_after-left, records_with-split}
 use Rattle.typed_csv.proofs.pieces.Pieces.split.Goals as goal
@@ -18,8 +18,9 @@ invariant_of-self c =
     (c.len-self-inside.ensures ∙ c.in_ok-rest.ensures.len ∙ ap length (sym c.in_ok-rest.ensures.items))
     (ap (λ (k : Kept). k.is_fresh) c.self.view_is ∙ c.requires.fresh)
     (c.requires.place ∙ place_after-left c.args.self.now.held c.args.end c.requires.ends ∙ ap (place_after RecordStart) (sym (rest c)))
+    (ap (has_start RecordStart) (rest c) ∙ c.requires.last)
 
-pub returns : goal.returns
-returns c =
+pub returns-clause-records : goal.returns-clause-records
+returns-clause-records c =
     records_with-split c.args.self.now _ c.args.end c.requires.ready c.requires.fresh (ap (λ (k : Kept). k.is_fresh) c.self.view_is ∙ c.requires.fresh) c.requires.ends
     (c.in_ok-new.ensures ∙ ap (records default_config) (c.split_at.ensures.front ∙ ap (take c.args.end) (held c))) (rest c)

@@ -38,4 +38,5 @@ loop-next-preserved g c =
           c.in_ok-advance.ensures.received;
       counts = grind (arith, c.in_ok-advance.ensures.counts, c.loop-next.invariant.counts);
       within = grind (arith, common_steps);
+      held = grind (arith, common_steps);
     }

@@ -1,5 +1,6 @@
 use Rattle.std.proofs.Common.{◌≡◌, ◌-◌, ◌≤◌, ◌^◌}
 use Rattle.typed_csv.specs.Reading.{records_ahead, Receives}
+use Rattle.typed_csv.specs.Places.{IsHeldBack}
 use Rattle.typed_csv.proofs.record_reader.RecordReader.next.Given as goal
 
 -- pieces came, whose records are all still to come
@@ -9,6 +10,7 @@ invariant-loop-next g l = record {
   received : Receives g.S.Source.to_come l.fn.self l.self;
   counts : g.S.Source.faults l.fn.self.source ≤ g.S.Source.faults l.self.source;
   within : l.self.given ≤ 2 ^ 40;
+  held : IsHeldBack l.fn.self.is_fresh l.fn.self.held → IsHeldBack l.self.is_fresh l.self.held;
 }
 
 abbrev pub decreases-loop-next : goal.decreases-loop-next
