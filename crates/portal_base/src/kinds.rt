@@ -37,7 +37,7 @@ pub enum KindFault {
 }
 
 impl KindFault {
-    /// What a caller is told of it.
+    /// What a caller is told of it. Only the text of a bound takes memory.
     pub fn message(&self, alloc: Global) -> Result<Text, AllocError>
         ensures { IfOk result (λ text. text ≡ message_of self.now) }
     {
@@ -52,7 +52,7 @@ impl KindFault {
             KindFault::NotDictionary => "Must be a dictionary",
             KindFault::Longer(longest) => return longer_than(alloc, *longest),
         };
-        Text::from_str(alloc, words)
+        Ok(Text::from_static(words))
     }
 }
 
