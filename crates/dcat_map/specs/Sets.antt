@@ -3,6 +3,7 @@ use Rattle.std.specs.Prelude.{List, [], ◌∷◌, ◌↔◌, Option, Some, None
 use Rattle.std.specs.declared.cmp.Ordering.{Ordering}
 use Rattle.std.specs.Ordering.{match_ordering}
 use Rattle.std.specs.List.{Contains}
+use Rattle.portal_base.specs.Ordered.{ascending}
 
 -- x at its place in an ascending list, where it stands at most once
 abbrev pub placed : {X : Type 0} → (X → X → Ordering) → X → List X → List X
@@ -29,15 +30,9 @@ lesser_of cmp best None = best
 lesser_of cmp None (Some x) = Some x
 lesser_of cmp (Some y) (Some x) = Some (match_ordering (cmp x y) x y y)
 
--- x behind the items of an ascending list that are below it
-abbrev pub inserted : {X : Type 0} → (X → X → Ordering) → X → List X → List X
-inserted cmp x [] = x ∷ []
-inserted cmp x (y ∷ ys) = match_ordering (cmp x y) (x ∷ y ∷ ys) (x ∷ y ∷ ys) (y ∷ inserted cmp x ys)
-
 -- all the items in ascending order, those that are alike too
 unfoldable pub in_order : {X : Type 0} → (X → X → Ordering) → List X → List X
-in_order cmp [] = []
-in_order cmp (x ∷ xs) = inserted cmp x (in_order cmp xs)
+in_order cmp xs = ascending cmp xs
 
 -- the lists are of one set: each has the items of the other
 abbrev pub HaveSameItems : {X : Type 0} → List X → List X → Type 0
