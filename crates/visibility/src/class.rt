@@ -19,12 +19,12 @@ pub enum Class {
 }
 
 /// The class of the dataset.
-pub fn class_of(alloc: Global, dataset: &Package) -> Result<Class, AllocError>
-    ensures { IfOk result (λ class. class ≡ class_for dataset.now) }
+pub fn class_of(alloc: Global, package: &Package) -> Result<Class, AllocError>
+    ensures { IfOk result (λ class. class ≡ class_for «package».now) }
 {
-    match dataset.state {
-        State::Active if !dataset.private => Ok(Class::Public),
-        State::Active => Ok(Class::Inside(dataset.owner_org.try_clone(alloc)?)),
-        State::Draft | State::Deleted => Ok(Class::Editing(dataset.owner_org.try_clone(alloc)?)),
+    match package.state {
+        State::Active if !package.private => Ok(Class::Public),
+        State::Active => Ok(Class::Inside(package.owner_org.try_clone(alloc)?)),
+        State::Draft | State::Deleted => Ok(Class::Editing(package.owner_org.try_clone(alloc)?)),
     }
 }

@@ -20,48 +20,48 @@ pub fn role_of_caller(people: &People, caller: &Caller, org: &Text) -> Option<Ro
 
 /// Whether the caller may edit the dataset: it isn't harvested, and the caller is a sysadmin, or an editor or admin of
 /// its organization.
-pub fn may_edit(people: &People, caller: &Caller, dataset: &Package) -> bool
-    ensures { result ≡ may_edit_in people.now caller.now dataset.now }
+pub fn may_edit(people: &People, caller: &Caller, package: &Package) -> bool
+    ensures { result ≡ may_edit_in people.now caller.now «package».now }
 {
-    !is_harvested(dataset)
+    !is_harvested(package)
         && (people.is_sysadmin(caller)
-            || rights_of(role_of_caller(people, caller, &dataset.owner_org)).edit)
+            || rights_of(role_of_caller(people, caller, &package.owner_org)).edit)
 }
 
 /// Whether the caller sees the dataset. A sysadmin sees all of them. Everybody sees an active dataset that is public, and
 /// who has a role in its organization one that is private. A draft is seen by who made it and by who may edit it, and a
 /// deleted dataset by who may edit it.
-pub fn sees(people: &People, caller: &Caller, dataset: &Package) -> bool
-    ensures { result ≡ sees_in people.now caller.now dataset.now }
+pub fn sees(people: &People, caller: &Caller, package: &Package) -> bool
+    ensures { result ≡ sees_in people.now caller.now «package».now }
 {
     people.is_sysadmin(caller)
-        || match dataset.state {
-            State::Draft => is_maker(caller, dataset) || may_edit(people, caller, dataset),
-            State::Active => !dataset.private || sees_private(people, caller, dataset),
-            State::Deleted => may_edit(people, caller, dataset),
+        || match package.state {
+            State::Draft => is_maker(caller, package) || may_edit(people, caller, package),
+            State::Active => !package.private || sees_private(people, caller, package),
+            State::Deleted => may_edit(people, caller, package),
         }
 }
 
 /// Whether the dataset came from a source.
-fn is_harvested(dataset: &Package) -> bool
-    ensures { result ≡ is_harvested dataset.now }
+fn is_harvested(package: &Package) -> bool
+    ensures { result ≡ is_harvested «package».now }
 {
-    !dataset.source.is_empty()
+    !package.source.is_empty()
 }
 
 /// Whether the caller made the dataset.
-fn is_maker(caller: &Caller, dataset: &Package) -> bool
-    ensures { result ≡ is_maker caller.now dataset.now }
+fn is_maker(caller: &Caller, package: &Package) -> bool
+    ensures { result ≡ is_maker caller.now «package».now }
 {
     match caller {
         Caller::Anonymous => false,
-        Caller::Named(name) => *name == dataset.creator,
+        Caller::Named(name) => *name == package.creator,
     }
 }
 
 /// Whether the caller's role shows the private datasets of this one's organization.
-fn sees_private(people: &People, caller: &Caller, dataset: &Package) -> bool
-    ensures { result ≡ sees_private_in people.now caller.now dataset.now }
+fn sees_private(people: &People, caller: &Caller, package: &Package) -> bool
+    ensures { result ≡ sees_private_in people.now caller.now «package».now }
 {
-    rights_of(role_of_caller(people, caller, &dataset.owner_org)).see_private
+    rights_of(role_of_caller(people, caller, &package.owner_org)).see_private
 }
