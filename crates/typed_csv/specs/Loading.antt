@@ -53,6 +53,12 @@ abbrev pub IsRowFault : {S : Type 0} → Loading S → LoadFault → Type 0
 IsRowFault loader why = IsOutside why ⊎ (why ≡ fault.Spent)
     ⊎ ((texts : List (List ℕ)) × (row_reading loader.fields loader.layout (loader.number + 1) texts ≡ Err why))
 
+-- How a loader stands after an answer: behind a row it still reads, at the end it is ended, and after a fault it is spent.
+abbrev pub stage_after : Result (Option (List Cell)) LoadFault → Stage
+stage_after (Ok (Some cells)) = stage.Reading
+stage_after (Ok None) = stage.Ended
+stage_after (Err why) = stage.Spent
+
 -- how many rows were given after an answer
 abbrev pub number_after : ℕ → Result (Option (List Cell)) LoadFault → ℕ
 number_after number (Ok (Some cells)) = number + 1

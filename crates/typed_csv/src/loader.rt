@@ -1,9 +1,9 @@
 //! The loader: the rows of a source, one after the other.
-ghost use Rattle.std.specs.Prelude.{◌≡◌, ◌↔◌, ◌≢◌, ◌<◌, ◌≤◌, ◌^◌, ◌+◌, ℕ, List, [], length, Ok, Err, None, All, IfOk, IfErr, IfSome, OnOk, OnErr};
+ghost use Rattle.std.specs.Prelude.{◌≡◌, ◌↔◌, ◌≢◌, ◌<◌, ◌≤◌, ◌^◌, ◌+◌, ℕ, List, [], length, Ok, Err, None, All, IfOk, IfErr, IfSome};
 ghost use Rattle.portal_base.specs.Outside.{Gives, Rose};
 ghost use Rattle.table_schema.specs.Printed.{IsValue};
 ghost use Rattle.typed_csv.specs.Calls.{Reads, RefusesRecords, TakesHeader, rows_left};
-ghost use Rattle.typed_csv.specs.Loading.{Answers, Begins, IsHeaderFault, IsLayout, IsRow, IsRowFault, RefusesHeader, number_after, rows_ahead};
+ghost use Rattle.typed_csv.specs.Loading.{Answers, Begins, IsHeaderFault, IsLayout, IsRow, IsRowFault, RefusesHeader, number_after, rows_ahead, stage_after};
 ghost use Rattle.typed_csv.specs.Reading.{Receives, records_ahead};
 
 use crate::chunk::Next;
@@ -100,8 +100,7 @@ impl<S: Source> Loader<S> {
         ensures cause { IfErr result (IsRowFault self.old) }
         ensures number { self.new.number ≡ number_after self.old.number result }
         ensures spent { (result ≡ Err LoadFault.Spent) ↔ (self.old.stage ≡ Stage.Spent) }
-        ensures fault { OnErr result (self.new.stage ≡ Stage.Spent) }
-        ensures end { (result ≡ Ok None) ↔ (self.new.stage ≡ Stage.Ended) }
+        ensures stage { self.new.stage ≡ stage_after result }
         ensures ended { self.old.stage ≡ Stage.Ended → result ≡ Ok None }
         ensures still { self.old.stage ≢ Stage.Reading → self.new ≡ self.old }
         ensures kept { (self.new.fields ≡ self.old.fields) × (self.new.layout ≡ self.old.layout) }
