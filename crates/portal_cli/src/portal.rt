@@ -51,7 +51,8 @@ impl Model for Portal {
 impl Portal {
     ghost use Rattle.portal_cli.specs.Opened.{opened, is_opening};
     ghost use Rattle.portal_cli.specs.Script.{known_caller};
-    ghost use Rattle.portal_cli.specs.Step.{step_of, call_step};
+    ghost use Rattle.portal_cli.specs.Answer.{create_dataset};
+    ghost use Rattle.portal_cli.specs.Step.{changed, step_of, call_step};
 
     /// A portal with these users, organizations and roles, and no dataset.
     pub fn open(alloc: Global, opening: &Opening) -> Result<Portal, OpenFault>
@@ -116,11 +117,26 @@ impl Portal {
         match decide(self.alloc, &self.people, self.datasets.as_slice(), call)? {
             Decision::Answered(reply) => Ok(reply),
             Decision::Planned(plan) => {
-                prepare(&mut self.datasets)?;
                 let Plan { dataset, shown } = plan;
-                commit(&mut self.datasets, dataset);
-                Ok(Reply::Accepted(shown))
+                match self.add(dataset) {
+                    Ok(()) => Ok(Reply::Accepted(shown)),
+                    Err(refused) => Err(refused),
+                }
             }
+        }
+    }
+
+    /// Adds a dataset, all growth first.
+    fn add(&mut self, dataset: Package) -> Result<(), AllocError>
+        ensures state { OnOk result (self.new ≡ changed (create_dataset dataset) self.old) }
+        ensures kept { OnErr result (self.new ≡ self.old) }
+    {
+        match prepare(&mut self.datasets) {
+            Ok(()) => {
+                commit(&mut self.datasets, dataset);
+                Ok(())
+            }
+            Err(refused) => Err(refused),
         }
     }
 }
