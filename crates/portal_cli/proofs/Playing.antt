@@ -1,67 +1,134 @@
 -- A run on an input that tells: how each turn carries it on, and what stands at its end.
-use Rattle.std.proofs.Common.{◌≡◌, ◌⊎◌, ℕ, ◌+◌, ◌<◌, ◌≤◌, List, [], ◌∷◌, ◌++◌, length, Option, Some, refl, sym, ap, subst, ◌∙◌, append_assoc, append-nil, length-append, inl, inr, arith}
+use Rattle.std.proofs.Common.{◌≡◌, ◌⊎◌, ℕ, ◌+◌, ◌<◌, ◌≤◌, ℤ, List, [], ◌∷◌, ◌++◌, Bool, true, false, cond, length, Option, Some, Result, Err, refl, sym, ap, subst, ◌∙◌, append_assoc, append-nil, length-append, inl, inr, arith}
 use Rattle.std.proofs.lemmas.List.Elements.{filter-append}
-use Rattle.std.specs.Prelude.{filter}
+use Rattle.std.specs.Prelude.{◌↔◌, filter}
 use Rattle.std.specs.Str.Lines.{lines}
 use Rattle.portal_base.proofs.OutsideLemmas.{Takes-none, Takes-append}
 use Rattle.portal_base.specs.Outside.{Gives, IsAtEnd}
 use Rattle.portal_lines.specs.Lines.{Reading, EndsLine, TakesLine}
-use Rattle.portal_cli.proofs.Working.{works_none, works_more, before_more, wrote_more, written_for-append, DrawsAll-none, DrawsAll-more, begins_nothing}
-use Rattle.portal_cli.specs.Played.{Works, StopsLines, TakesTurn, EndsTurn, StopsTurn, EndsAll, Running, unless_empty}
+use Rattle.portal_cli.proofs.Working.{works_none, works_more, works_wrote, works_then, AreDrawn-append, DrawsAll-none, DrawsAll-more, begins_no_line}
+use Rattle.portal_cli.specs.Played.{Works, BeginsLines, StopsLines, TakesTurn, EndsTurn, StopsTurn, EndsAll, Running, unless_empty}
 use Rattle.portal_cli.specs.Script.{script_lines, is_nonempty}
 use Rattle.portal_cli.specs.State.{State}
-use Rattle.portal_cli.specs.Transcript.{Standing, standing_after, written_for}
-use Rattle.portal_cli.specs.Run.{Begins, DrawsAll, standing, Devices, Outlet, outlet_of, PlaysAll, PlaysPart, GaveTooMuch, most_input}
+use Rattle.portal_cli.specs.Transcript.{Standing, AreDrawn, written_for}
+use Rattle.portal_cli.specs.Run.{Begins, DrawsAll, standing, Devices, Outlet, outlet_of, Stops, PlaysAll, PlaysPart, GaveTooMuch, most_begun, most_input}
 use Rattle.portal_cli.specs.Stated.{stated_state}
+use Rattle.portal_cli.specs.Stopped.{status_for, begun_at}
+use Rattle.portal_cli.specs.declared.play.Stop.{Stop}
+use Rattle.portal_cli.specs.declared.run.Status.{Status}
 use Rattle.portal_cli.specs.declared.script.TheConstants.{LONGEST_LINE}
 
 -- ---- lines
 
--- a line at the front of bytes is the first of their lines
-front_lines : (front line held : List ℕ) → lines front ≡ line ∷ [] → EndsLine front line ⊎ (held ≡ []) → lines (front ++ held) ≡ lines front ++ lines held
-front_lines front line held only (inl ends) = ends held ∙ sym (ap (λ ls. ls ++ lines held) only)
-front_lines front line held only (inr none) =
-    subst (λ h. lines (front ++ h) ≡ lines front ++ lines h) (sym none) (ap lines (append-nil front) ∙ sym (append-nil (lines front)))
+-- a line that is taken ends where a line ends, or nothing comes after it
+line_ends : (front line held : List ℕ) (left : Option (List ℕ)) → lines front ≡ line ∷ [] → EndsLine front line ⊎ ((held ≡ []) × IsAtEnd left)
+    → EndsAll front ⊎ ((held ≡ []) × IsAtEnd left)
+line_ends front line held left only (inl ends) = inl (λ more. ends more ∙ sym (ap (λ ls. ls ++ lines more) only))
+line_ends front line held left only (inr over) = inr over
 
--- what a line that was taken is to the lines of all that was in hand
-pub script_of_turn : (before reading : Reading) (told left : Option (List ℕ)) (line : List ℕ) (t : TakesLine before told line reading left)
-    → script_lines (before.held ++ t.bytes) ≡ unless_empty line ++ script_lines reading.held
-script_of_turn before reading told left line t =
-    ap script_lines t.splits ∙ ap (filter is_nonempty) (front_lines t.front line reading.held t.only (either t.ended))
-    ∙ filter-append is_nonempty (lines t.front) (lines reading.held) ∙ ap (λ ls. filter is_nonempty ls ++ script_lines reading.held) t.only
+nothing_first : (xs ys : List ℕ) → xs ++ ys ≡ [] → xs ≡ []
+nothing_first [] ys e = refl
+nothing_first (x ∷ xs) ys e = absurd (cc)
+
+nothing_second : (xs ys : List ℕ) → xs ++ ys ≡ [] → ys ≡ []
+nothing_second [] ys e = e
+nothing_second (x ∷ xs) ys e = absurd (cc)
+
+-- the lines of a front that ends where a line ends come before those of what comes after
+ended_lines : (front taken after : List ℕ) → EndsAll front ⊎ (taken ++ after ≡ []) → lines (front ++ taken) ≡ lines front ++ lines taken
+ended_lines front taken after (inl all) = all taken
+ended_lines front taken after (inr none) =
+    subst (λ h. lines (front ++ h) ≡ lines front ++ lines h) (sym (nothing_first taken after none))
+    (ap lines (append-nil front) ∙ sym (append-nil (lines front)))
+
+-- two pieces that end so
+ended_both : (front taken after : List ℕ) → EndsAll front ⊎ (taken ++ after ≡ []) → EndsAll taken ⊎ (after ≡ []) → EndsAll (front ++ taken) ⊎ (after ≡ [])
+ended_both front taken after (inr none) second = inr (nothing_second taken after none)
+ended_both front taken after (inl all) (inr none) = inr none
+ended_both front taken after (inl all) (inl ends) = inl (λ more.
+    ap lines (append_assoc front taken more) ∙ all (taken ++ more) ∙ ap (λ ls. lines front ++ ls) (ends more)
+    ∙ sym (append_assoc (lines front) (lines taken) (lines more)) ∙ sym (ap (λ ls. ls ++ lines more) (all taken)))
+
+-- where nothing more is told, what ends at the end has nothing after it
+ended_told : (taken after more : List ℕ) (left : Option (List ℕ)) → left ≡ Some more → EndsAll taken ⊎ ((after ≡ []) × IsAtEnd left)
+    → EndsAll taken ⊎ (after ++ more ≡ [])
+ended_told taken after more left told (inl ends) = inl ends
+ended_told taken after more left told (inr p) = let over : more ≡ [] = subst IsAtEnd told p.1 in inr (ap (λ a. a ++ more) p.0 ∙ over)
+
+-- bytes in hand, some more that came, and those that were taken off the front
+regroup : (held bytes taken after more : List ℕ) → held ++ bytes ≡ taken ++ after → held ++ (bytes ++ more) ≡ taken ++ (after ++ more)
+regroup held bytes taken after more e = sym (append_assoc held bytes more) ∙ ap (λ x. x ++ more) e ∙ append_assoc taken after more
+
+-- what a source that tells gave in a call
+pub record Gave (rest : List ℕ) (bytes : List ℕ) (left : Option (List ℕ)) : Type 0 where
+  pub more : List ℕ
+  pub told : left ≡ Some more
+  pub splits : rest ≡ bytes ++ more
+
+pub gave : (rest bytes : List ℕ) (told left : Option (List ℕ)) → told ≡ Some rest → Gives told bytes left → Gave rest bytes left
+gave rest bytes told left is gives =
+    let g = subst (λ o. Gives o bytes left) is gives in
+    record { more = g.0; told = g.1; splits = g.2 }
+
+-- What is taken after a front, in one turn: the lines of both, and whether they end where a line ends.
+record Advances (whole front taken after : List ℕ) : Type 0 where
+  splits : whole ≡ (front ++ taken) ++ after
+  both : script_lines (front ++ taken) ≡ script_lines front ++ script_lines taken
+  ended : EndsAll (front ++ taken) ⊎ (after ≡ [])
+
+advances : (whole front held rest bytes more taken after : List ℕ) (left : Option (List ℕ)) → whole ≡ front ++ (held ++ rest)
+    → EndsAll front ⊎ (held ++ rest ≡ []) → rest ≡ bytes ++ more → held ++ bytes ≡ taken ++ after → left ≡ Some more
+    → EndsAll taken ⊎ ((after ≡ []) × IsAtEnd left) → Advances whole front taken (after ++ more)
+advances whole front held rest bytes more taken after left all before came splits told ended =
+    let in_hand : held ++ rest ≡ taken ++ (after ++ more) = ap (λ x. held ++ x) came ∙ regroup held bytes taken after more splits in
+    let first : EndsAll front ⊎ (taken ++ (after ++ more) ≡ []) = subst (λ x. EndsAll front ⊎ (x ≡ [])) in_hand before in
+    record {
+      splits = all ∙ ap (λ x. front ++ x) in_hand ∙ sym (append_assoc front taken (after ++ more));
+      both = ap (filter is_nonempty) (ended_lines front taken (after ++ more) first) ∙ filter-append is_nonempty (lines front) (lines taken);
+      ended = ended_both front taken (after ++ more) first (ended_told taken after more left told ended);
+    }
+
+-- ---- a turn that stopped
+
+unless_empty-few : (line : List ℕ) → length (unless_empty line) ≤ 1
+unless_empty-few line = by (is_nonempty line)
   where
-    either : EndsLine t.front line ⊎ ((reading.held ≡ []) × IsAtEnd left) → EndsLine t.front line ⊎ (reading.held ≡ [])
-    either (inl e) = inl e
-    either (inr p) = inr p.0
+    by : (b : Bool) → length (cond b (line ∷ []) []) ≤ 1
+    by true = omega arith
+    by false = omega arith
 
--- ---- what stopped on the first lines stopped on all
-
-Begins-more : (part whole more : List ℕ) → Begins part whole → Begins part (whole ++ more)
-Begins-more part whole more b = (b.0 ++ more, sym (append_assoc part b.0 more) ∙ ap (λ w. w ++ more) b.1)
-
-pub stops_more : (state : State) (script more : List (List ℕ)) (old new : Outlet) → StopsLines state script old new → StopsLines state (script ++ more) old new
-stops_more state script more old new s = record {
-  written = s.written;
-  moments = s.moments;
-  nonces = s.nonces;
-  begins = λ later others.
-      let all = written_for-append (standing state (s.moments ++ later) (s.nonces ++ others)) script more in
-      subst (λ w. Begins s.written w) (sym all) (Begins-more s.written _ _ (s.begins later others));
-  output = s.output;
-  clock = s.clock;
-  numbers = s.numbers;
+-- no line was begun
+pub stops_between : (most : ℕ) (state : State) (before reading : Reading) (old new : Devices) (bytes : List ℕ) → Gives old.to_come bytes new.to_come
+    → reading.given ≡ before.given + length bytes → BeginsLines state [] (outlet_of old) (outlet_of new) → StopsTurn most state before reading old new
+stops_between most state before reading old new bytes gives counts begun = record {
+  bytes = bytes;
+  gives = gives;
+  counts = counts;
+  front = [];
+  ahead = before.held ++ bytes;
+  splits = refl;
+  ended = inl (λ more. refl);
+  few = omega arith;
+  begun = begun;
 }
 
 -- work on a line stopped, and with it the turn
-pub stops_turn : (state : State) (before reading : Reading) (old new : Devices) (line : List ℕ) (t : TakesLine before old.to_come line reading new.to_come)
-    → StopsLines state (unless_empty line) (outlet_of old) (outlet_of new) → StopsTurn state before reading old new
-stops_turn state before reading old new line t s = record {
-  bytes = t.bytes;
-  gives = t.gives;
-  counts = t.counts;
-  stops = subst (λ ls. StopsLines state ls (outlet_of old) (outlet_of new)) (sym (script_of_turn before reading old.to_come new.to_come line t))
-      (stops_more state (unless_empty line) (script_lines reading.held) (outlet_of old) (outlet_of new) s);
-}
+pub stops_turn : (most : ℕ) (state : State) (before reading : Reading) (old new : Devices) (line : List ℕ) (t : TakesLine before old.to_come line reading new.to_come)
+    → 1 ≤ most → StopsLines state (unless_empty line) (outlet_of old) (outlet_of new) → StopsTurn most state before reading old new
+stops_turn most state before reading old new line t one (inl none) = stops_between most state before reading old new t.bytes t.gives t.counts none
+stops_turn most state before reading old new line t one (inr begun) =
+    let is : script_lines t.front ≡ unless_empty line = ap (filter is_nonempty) t.only in
+    record {
+      bytes = t.bytes;
+      gives = t.gives;
+      counts = t.counts;
+      front = t.front;
+      ahead = reading.held;
+      splits = t.splits;
+      ended = line_ends t.front line reading.held new.to_come t.only t.ended;
+      few = omega (arith, ap length is, unless_empty-few line, one);
+      begun = subst (λ ls. BeginsLines state ls (outlet_of old) (outlet_of new)) (sym is) begun;
+    }
 
 -- ---- the run so far
 
@@ -84,61 +151,16 @@ running_start first whole old reading told held given = record {
   numbers = DrawsAll-none old.nonces;
 }
 
--- the bytes that are there after those of a line
-regroup : (front held bytes taken after rest : List ℕ) → held ++ bytes ≡ taken ++ after → front ++ (held ++ (bytes ++ rest)) ≡ (front ++ taken) ++ (after ++ rest)
-regroup front held bytes taken after rest e =
-    ap (λ x. front ++ x) (sym (append_assoc held bytes rest) ∙ ap (λ x. x ++ rest) e ∙ append_assoc taken after rest) ∙ sym (append_assoc front taken (after ++ rest))
-
-ends_more : (front taken line : List ℕ) → EndsAll front → lines taken ≡ line ∷ [] → EndsLine taken line → EndsAll (front ++ taken)
-ends_more front taken line all only ends more =
-    ap lines (append_assoc front taken more) ∙ all (taken ++ more) ∙ ap (λ ls. lines front ++ ls) (ends more)
-    ∙ sym (ap (λ ls. ls ++ lines more) (all taken ∙ ap (λ ls. lines front ++ ls) only) ∙ append_assoc (lines front) (line ∷ []) (lines more))
-
--- bytes of which none are there hold no line with its end
-no_line : (held bytes front after rest : List ℕ) (line : List ℕ) → held ++ (bytes ++ rest) ≡ [] → held ++ bytes ≡ front ++ after → lines front ≡ line ∷ [] → ⊥
-no_line held bytes [] after rest line none splits only = let e : lines [] ≡ line ∷ [] = only in cc
-no_line held bytes (b ∷ front) after rest line none splits only =
-    let all : (b ∷ front) ++ (after ++ rest) ≡ [] = regroup_one held bytes (b ∷ front) after rest splits ∙ none in cc
-  where
-    regroup_one : (h y t a r : List ℕ) → h ++ y ≡ t ++ a → t ++ (a ++ r) ≡ h ++ (y ++ r)
-    regroup_one h y t a r e = sym (append_assoc t a r) ∙ sym (ap (λ x. x ++ r) e) ∙ append_assoc h y r
-
--- the lines of a front and of one line more
-lines_more : (front taken line held bytes after rest : List ℕ) → EndsAll front ⊎ (held ++ (bytes ++ rest) ≡ []) → held ++ bytes ≡ taken ++ after → lines taken ≡ line ∷ []
-    → lines (front ++ taken) ≡ lines front ++ line ∷ []
-lines_more front taken line held bytes after rest (inl all) splits only = all taken ∙ ap (λ ls. lines front ++ ls) only
-lines_more front taken line held bytes after rest (inr none) splits only = absurd (no_line held bytes taken after rest line none splits only)
-
--- whether more lines may come after a front and one line more
-ended_more : (front taken line held bytes after rest : List ℕ) (left : Option (List ℕ)) → EndsAll front ⊎ (held ++ (bytes ++ rest) ≡ []) → held ++ bytes ≡ taken ++ after → lines taken ≡ line ∷ []
-    → left ≡ Some rest → EndsLine taken line ⊎ ((after ≡ []) × IsAtEnd left) → EndsAll (front ++ taken) ⊎ (after ++ rest ≡ [])
-ended_more front taken line held bytes after rest left (inr none) splits only told ended = absurd (no_line held bytes taken after rest line none splits only)
-ended_more front taken line held bytes after rest left (inl all) splits only told (inl ends) = inl (ends_more front taken line all only ends)
-ended_more front taken line held bytes after rest left (inl all) splits only told (inr p) =
-    let over : rest ≡ [] = subst IsAtEnd told p.1 in
-    inr (ap (λ a. a ++ rest) p.0 ∙ over)
-
--- what a source that tells gave in a call
-pub record Gave (rest : List ℕ) (bytes : List ℕ) (left : Option (List ℕ)) : Type 0 where
-  pub more : List ℕ
-  pub told : left ≡ Some more
-  pub splits : rest ≡ bytes ++ more
-
-pub gave : (rest bytes : List ℕ) (told left : Option (List ℕ)) → told ≡ Some rest → Gives told bytes left → Gave rest bytes left
-gave rest bytes told left is gives =
-    let g = subst (λ o. Gives o bytes left) is gives in
-    record { more = g.0; told = g.1; splits = g.2 }
-
 -- one turn more
 pub running_turn : (first : State) (whole : List ℕ) (old mid new : Devices) (state after : State) (before reading : Reading)
     → Running first whole old mid state before → TakesTurn state after before reading mid new → Running first whole old new after reading
 running_turn first whole old mid new state after before reading r t =
     let g : Gave r.rest t.takes.bytes new.to_come = gave r.rest t.takes.bytes mid.to_come new.to_come r.input t.takes.gives in
-    let in_hand : before.held ++ (t.takes.bytes ++ g.more) ≡ before.held ++ r.rest = sym (ap (λ x. before.held ++ x) g.splits) in
-    let ended : EndsAll r.front ⊎ (before.held ++ (t.takes.bytes ++ g.more) ≡ []) = subst (λ x. EndsAll r.front ⊎ (before.held ++ x ≡ [])) g.splits r.ended in
+    let a : Advances whole r.front t.takes.front (reading.held ++ g.more) =
+    advances whole r.front before.held r.rest t.takes.bytes g.more t.takes.front reading.held new.to_come r.splits r.ended g.splits t.takes.splits g.told
+    (line_ends t.takes.front t.line reading.held new.to_come t.takes.only t.takes.ended) in
     let script : script_lines (r.front ++ t.takes.front) ≡ script_lines r.front ++ unless_empty t.line =
-    ap (filter is_nonempty) (lines_more r.front t.takes.front t.line before.held t.takes.bytes reading.held g.more ended t.takes.splits t.takes.only)
-    ∙ filter-append is_nonempty (lines r.front) (t.line ∷ []) in
+    a.both ∙ ap (λ ls. script_lines r.front ++ filter is_nonempty ls) t.takes.only in
     let total : length r.rest ≡ length t.takes.bytes + length g.more = ap length g.splits ∙ length-append t.takes.bytes g.more in
     record {
       front = r.front ++ t.takes.front;
@@ -147,9 +169,9 @@ running_turn first whole old mid new state after before reading r t =
       moments = r.moments ++ t.works.moments;
       nonces = r.nonces ++ t.works.nonces;
       input = g.told;
-      splits = r.splits ∙ ap (λ x. r.front ++ (before.held ++ x)) g.splits ∙ regroup r.front before.held t.takes.bytes t.takes.front reading.held g.more t.takes.splits;
+      splits = a.splits;
       given = omega (arith, total, t.takes.counts, r.given);
-      ended = ended_more r.front t.takes.front t.line before.held t.takes.bytes reading.held g.more new.to_come ended t.takes.splits t.takes.only g.told t.takes.ended;
+      ended = a.ended;
       works = subst (λ ls. Works first ls (r.moments ++ t.works.moments) (r.nonces ++ t.works.nonces) (r.written ++ t.works.written) after) (sym script)
           (works_more first state after (script_lines r.front) (unless_empty t.line) r.moments t.works.moments r.nonces t.works.nonces r.written t.works.written r.works t.works.works);
       output = Takes-append old.taken mid.taken new.taken r.written t.works.written r.output t.works.output;
@@ -159,54 +181,60 @@ running_turn first whole old mid new state after before reading r t =
 
 -- ---- the end of a run
 
--- what was worked and what was in hand when the run stopped are what was read
-stopped_lines : (front held rest bytes more : List ℕ) → EndsAll front ⊎ (held ++ rest ≡ []) → rest ≡ bytes ++ more
-    → script_lines (front ++ (held ++ bytes)) ≡ script_lines front ++ script_lines (held ++ bytes)
-stopped_lines front held rest bytes more (inl all) splits =
-    ap (filter is_nonempty) (all (held ++ bytes)) ∙ filter-append is_nonempty (lines front) (lines (held ++ bytes))
-stopped_lines front held rest bytes more (inr none) splits =
-    let nothing : held ++ bytes ≡ [] = no_bytes held bytes more (ap (λ x. held ++ x) (sym splits) ∙ none) in
-    subst (λ h. script_lines (front ++ h) ≡ script_lines front ++ script_lines h) (sym nothing)
-    (ap script_lines (append-nil front) ∙ sym (append-nil (script_lines front)))
-  where
-    no_bytes : (h b m : List ℕ) → h ++ (b ++ m) ≡ [] → h ++ b ≡ []
-    no_bytes [] [] m e = refl
-    no_bytes [] (x ∷ b) m e = absurd (cc)
-    no_bytes (x ∷ h) b m e = absurd (cc)
-
 Begins-after : (front part whole : List ℕ) → Begins part whole → Begins (front ++ part) (front ++ whole)
 Begins-after front part whole b = (b.0, append_assoc front part b.0 ∙ ap (λ x. front ++ x) b.1)
 
+-- lines that were worked, and lines that were begun
+stops_after : (most : ℕ) (first state : State) (script begun : List (List ℕ)) (ms later : List ℤ) (ns others written part : List ℕ)
+    → Works first script ms ns written state → length begun ≤ most → AreDrawn begun later → AreDrawn begun others
+    → Begins part (written_for (standing state later others) begun) → Stops most first (script ++ begun) (ms ++ later) (ns ++ others) (written ++ part)
+stops_after most first state script begun ms later ns others written part works few moments nonces begins = record {
+  worked = script;
+  begun = begun;
+  splits = refl;
+  few = few;
+  moments_drawn = AreDrawn-append script begun ms later works.moments_drawn moments;
+  nonces_drawn = AreDrawn-append script begun ns others works.nonces_drawn nonces;
+  holds = (part, ap (λ w. w ++ part) (works_wrote first state script ms later ns others written works));
+  begins = subst (λ w. Begins (written ++ part) w) (sym (works_then first state script begun ms later ns others written works)) (Begins-after written part _ begins);
+}
+
+-- the lines of the whole, where a front ends so
+whole_lines : (whole front after : List ℕ) → whole ≡ front ++ after → EndsAll front ⊎ (after ≡ []) → script_lines whole ≡ script_lines front ++ script_lines after
+whole_lines whole front after is ended =
+    let alone : after ++ [] ≡ after = append-nil after in
+    ap script_lines is
+    ∙ ap (filter is_nonempty) (ended_lines front after [] (subst (λ x. EndsAll front ⊎ (x ≡ [])) (sym alone) ended))
+    ∙ filter-append is_nonempty (lines front) (lines after)
+
 -- A turn stopped, and with it the run.
-pub plays_part : (first : State) (whole : List ℕ) (old mid new : Devices) (state : State) (before reading : Reading)
-    → Running first whole old mid state before → StopsTurn state before reading mid new → PlaysPart first whole old new
-plays_part first whole old mid new state before reading r t =
+pub plays_part : (most : ℕ) (first : State) (whole : List ℕ) (old mid new : Devices) (state : State) (before reading : Reading)
+    → Running first whole old mid state before → StopsTurn most state before reading mid new → PlaysPart most first whole old new
+plays_part most first whole old mid new state before reading r t =
     let g : Gave r.rest t.bytes new.to_come = gave r.rest t.bytes mid.to_come new.to_come r.input t.gives in
-    let script = stopped_lines r.front before.held r.rest t.bytes g.more r.ended g.splits in
+    let a : Advances whole r.front t.front (t.ahead ++ g.more) =
+    advances whole r.front before.held r.rest t.bytes g.more t.front t.ahead new.to_come r.splits r.ended g.splits t.splits g.told t.ended in
     record {
       passed = record {
-        read = r.front ++ (before.held ++ t.bytes);
+        read = (r.front ++ t.front) ++ t.ahead;
         rest = g.more;
-        written = r.written ++ t.stops.written;
-        moments = r.moments ++ t.stops.moments;
-        nonces = r.nonces ++ t.stops.nonces;
+        written = r.written ++ t.begun.written;
+        moments = r.moments ++ t.begun.moments;
+        nonces = r.nonces ++ t.begun.nonces;
         input = g.told;
-        splits = r.splits ∙ ap (λ x. r.front ++ (before.held ++ x)) g.splits
-            ∙ ap (λ x. r.front ++ x) (sym (append_assoc before.held t.bytes g.more)) ∙ sym (append_assoc r.front (before.held ++ t.bytes) g.more);
-        output = Takes-append old.taken mid.taken new.taken r.written t.stops.written r.output t.stops.output;
-        clock = DrawsAll-more old.moments mid.moments new.moments r.moments t.stops.moments r.clock t.stops.clock;
-        numbers = DrawsAll-more old.nonces mid.nonces new.nonces r.nonces t.stops.nonces r.numbers t.stops.numbers;
+        splits = a.splits ∙ sym (append_assoc (r.front ++ t.front) t.ahead g.more);
+        output = Takes-append old.taken mid.taken new.taken r.written t.begun.written r.output t.begun.output;
+        clock = DrawsAll-more old.moments mid.moments new.moments r.moments t.begun.moments r.clock t.begun.clock;
+        numbers = DrawsAll-more old.nonces mid.nonces new.nonces r.nonces t.begun.nonces r.numbers t.begun.numbers;
       };
-      transcript = λ later others.
-          let s : Standing = standing first ((r.moments ++ t.stops.moments) ++ later) ((r.nonces ++ t.stops.nonces) ++ others) in
-          let wrote = wrote_more first state (script_lines r.front) r.moments t.stops.moments r.nonces t.stops.nonces r.written r.works later others in
-          let left = before_more first state (script_lines r.front) r.moments t.stops.moments r.nonces t.stops.nonces r.written r.works later others in
-          let all : written_for s (script_lines (r.front ++ (before.held ++ t.bytes)))
-          ≡ r.written ++ written_for (standing state (t.stops.moments ++ later) (t.stops.nonces ++ others)) (script_lines (before.held ++ t.bytes)) =
-          ap (written_for s) script ∙ written_for-append s (script_lines r.front) (script_lines (before.held ++ t.bytes))
-          ∙ ap (λ w. w ++ written_for (standing_after s (script_lines r.front)) (script_lines (before.held ++ t.bytes))) wrote
-          ∙ ap (λ (z : Standing). r.written ++ written_for z (script_lines (before.held ++ t.bytes))) left in
-          subst (λ w. Begins (r.written ++ t.stops.written) w) (sym all) (Begins-after r.written t.stops.written _ (t.stops.begins later others));
+      front = r.front ++ t.front;
+      ahead = t.ahead;
+      splits = refl;
+      first_lines = whole_lines whole (r.front ++ t.front) (t.ahead ++ g.more) a.splits a.ended;
+      stops =
+          subst (λ ls. Stops most first ls (r.moments ++ t.begun.moments) (r.nonces ++ t.begun.nonces) (r.written ++ t.begun.written)) (sym a.both)
+          (stops_after most first state (script_lines r.front) (script_lines t.front) r.moments t.begun.moments r.nonces t.begun.nonces r.written t.begun.written
+          r.works t.few t.begun.moments_drawn t.begun.nonces_drawn t.begun.begins);
     }
 
 -- No line was left, and the run is at its end.
@@ -232,11 +260,9 @@ plays_all first whole old mid new state after before reading r t few =
       };
       at_end = refl;
       small = omega (arith, r.given, empty, t.finds.given, few);
-      transcript =
-          sym (ap (λ b. written_for (standing first r.moments r.nonces) (script_lines b)) all
-          ∙ ap (λ ms. written_for (standing first ms r.nonces) (script_lines r.front)) (sym (append-nil r.moments))
-          ∙ ap (λ ns. written_for (standing first (r.moments ++ []) ns) (script_lines r.front)) (sym (append-nil r.nonces))
-          ∙ r.works.output [] []);
+      moments = subst (λ b. AreDrawn (script_lines b) r.moments) (sym all) r.works.moments_drawn;
+      nonces = subst (λ b. AreDrawn (script_lines b) r.nonces) (sym all) r.works.nonces_drawn;
+      transcript = sym (ap (λ b. written_for (standing first r.moments r.nonces) (script_lines b)) all ∙ r.works.output);
     }
 
 -- ---- what the loop over the lines keeps
@@ -269,34 +295,57 @@ pub keeps_all : (old mid new : Devices) (state after : State) (before reading : 
 keeps_all old mid new state after before reading k t most within whole told =
     plays_all stated_state whole old mid new state after before reading (k.running whole told) t (omega (arith, within, most, k.most))
 
-pub keeps_part : (old mid new : Devices) (state : State) (before reading : Reading) → Keeps old mid state before → StopsTurn state before reading mid new
-    → (whole : List ℕ) → old.to_come ≡ Some whole → PlaysPart stated_state whole old new
-keeps_part old mid new state before reading k t whole told =
-    plays_part stated_state whole old mid new state before reading (k.running whole told) t
+pub keeps_part : (most : ℕ) (old mid new : Devices) (state : State) (before reading : Reading) → Keeps old mid state before
+    → StopsTurn most state before reading mid new → (whole : List ℕ) → old.to_come ≡ Some whole → PlaysPart most stated_state whole old new
+keeps_part most old mid new state before reading k t whole told =
+    plays_part most stated_state whole old mid new state before reading (k.running whole told) t
 
--- where the count of bytes given passed the most, the whole is that much longer
-pub gave_too_much : (old mid new : Devices) (state : State) (before reading : Reading) → Keeps old mid state before → StopsTurn state before reading mid new
-    → reading.most ≡ before.most → reading.most < reading.given → (whole : List ℕ) → old.to_come ≡ Some whole → GaveTooMuch whole new.to_come
-gave_too_much old mid new state before reading k t most much whole told =
+-- how many bytes of the whole were read
+left_of_whole : (old mid new : Devices) (state : State) (before reading : Reading) (most : ℕ) → Keeps old mid state before
+    → StopsTurn most state before reading mid new → (whole : List ℕ) → old.to_come ≡ Some whole
+    → (rest : List ℕ) × (new.to_come ≡ Some rest) × (reading.given + length rest ≡ length whole)
+left_of_whole old mid new state before reading most k t whole told =
     let r = k.running whole told in
     let g : Gave r.rest t.bytes new.to_come = gave r.rest t.bytes mid.to_come new.to_come r.input t.gives in
     let total : length r.rest ≡ length t.bytes + length g.more = ap length g.splits ∙ length-append t.bytes g.more in
-    (g.more, g.told, omega (arith, total, t.counts, r.given, much, most, k.most))
+    (g.more, g.told, omega (arith, total, t.counts, r.given))
+
+-- Where the count of bytes given passed the most, the whole is that much longer, and where it didn't, it isn't.
+pub gave_too_much : (old mid new : Devices) (state : State) (before reading : Reading) (most : ℕ) → Keeps old mid state before
+    → StopsTurn most state before reading mid new → reading.most ≡ before.most → (whole : List ℕ) → old.to_come ≡ Some whole
+    → (reading.most < reading.given) ↔ GaveTooMuch whole new.to_come
+gave_too_much old mid new state before reading most k t same whole told =
+    let left = left_of_whole old mid new state before reading most k t whole told in (
+      λ much. (left.0, left.1, omega (arith, left.2, much, same, k.most)),
+      λ gave.
+          let rests : gave.0 ≡ left.0 = some_is gave.0 left.0 (sym gave.1 ∙ left.1) in
+          omega (arith, gave.2, left.2, ap length rests, same, k.most),
+    )
+  where
+    some_is : (a b : List ℕ) → Some a ≡ Some b → a ≡ b
+    some_is a b e = cc
+
+-- what was read to its end wasn't too much
+pub gave_within : (state : State) (whole : List ℕ) (old new : Devices) → PlaysAll state whole old new → GaveTooMuch whole new.to_come → ⊥
+gave_within state whole old new all gave = omega (arith, all.small, gave.2)
+
+-- the same fault of another result
+pub same_err : {A B E : Type 0} (x y : E) → (let r : Result A E = Err x in r) ≡ Err y → (let r : Result B E = Err x in r) ≡ Err y
+same_err x y is = let same : x ≡ y = cc in ap (λ e. Err e) same
 
 -- nothing passed where nothing was tried
-pub plays_nothing : (old : Devices) (whole : List ℕ) → old.to_come ≡ Some whole → PlaysPart stated_state whole old old
-plays_nothing old whole told = record {
-  passed = record {
-    read = [];
-    rest = whole;
-    written = [];
-    moments = [];
-    nonces = [];
-    input = told;
-    splits = refl;
-    output = Takes-none old.taken;
-    clock = DrawsAll-none old.moments;
-    numbers = DrawsAll-none old.nonces;
-  };
-  transcript = λ later others. begins_nothing _;
-}
+pub plays_nothing : (most : ℕ) (old : Devices) (whole : List ℕ) → old.to_come ≡ Some whole → PlaysPart most stated_state whole old old
+plays_nothing most old whole told =
+    plays_part most stated_state whole old old old stated_state unread unread (running_start stated_state whole old unread told refl refl)
+    (stops_between most stated_state unread unread old old [] gives refl (begins_no_line stated_state (outlet_of old) (outlet_of old) refl))
+  where
+    unread : Reading
+    unread = record { held = []; line = []; given = 0; longest = 0; most = 0 }
+
+    gives : Gives old.to_come [] old.to_come
+    gives = subst (λ o. Gives o [] o) (sym told) (whole, refl, refl)
+
+-- the same, by the status that the run ends with
+pub part_of_status : (stop : Stop) (status : Status) (whole : List ℕ) (old new : Devices) → status ≡ status_for stop
+    → PlaysPart (begun_at stop) stated_state whole old new → PlaysPart (most_begun status) stated_state whole old new
+part_of_status stop status whole old new is part = subst (λ s. PlaysPart (most_begun s) stated_state whole old new) (sym is) part

@@ -5,7 +5,7 @@ use Rattle.std.specs.Str.{bytes_eq}
 use Rattle.portal_base.specs.Outside.{Takes}
 use Rattle.portal_cli.specs.Script.{script_lines}
 use Rattle.portal_cli.specs.State.{State}
-use Rattle.portal_cli.specs.Transcript.{Standing, written_for}
+use Rattle.portal_cli.specs.Transcript.{Standing, AreDrawn, written_for}
 use Rattle.portal_cli.specs.declared.run.Status.{Status}
 use Rattle.portal_cli.specs.declared.run.Status.TheVariants.{Done, Words, ReadFault, WriteFault, OutOfMemory, DataFault}
 
@@ -23,6 +23,15 @@ status_code ReadFault = 3
 status_code WriteFault = 4
 status_code OutOfMemory = 6
 status_code (DataFault text) = 9
+
+-- How many lines may be begun and not worked where a run ends so. Input fails, or passes its most, between two lines.
+abbrev pub most_begun : Status → ℕ
+most_begun Done = 0
+most_begun Words = 0
+most_begun ReadFault = 0
+most_begun WriteFault = 1
+most_begun OutOfMemory = 1
+most_begun (DataFault text) = 0
 
 -- the run ended before the end of its input
 abbrev pub IsCut : Status → Type 0
@@ -89,18 +98,39 @@ pub record Passed (whole : List ℕ) (old new : Devices) : Type 0 where
   pub clock : DrawsAll old.moments moments new.moments
   pub numbers : DrawsAll old.nonces nonces new.nonces
 
--- Input was read to its end, of at most 2^40 bytes, and output took the transcript of it.
+-- Input was read to its end, of at most 2^40 bytes. As many moments and as many numbers were drawn as the script has
+-- lines that draw, and output took its transcript.
 pub record PlaysAll (state : State) (whole : List ℕ) (old new : Devices) : Type 0 where
   pub passed : Passed whole old new
   pub at_end : passed.rest ≡ []
   pub small : length whole ≤ most_input
+  pub moments : AreDrawn (script_lines whole) passed.moments
+  pub nonces : AreDrawn (script_lines whole) passed.nonces
   pub transcript : passed.written ≡ transcript_of state whole passed.moments passed.nonces
 
--- Output took the beginning of the transcript of what was read, whatever would have been drawn later.
-pub record PlaysPart (state : State) (whole : List ℕ) (old new : Devices) : Type 0 where
+-- Work on the lines stopped. They were worked but for the last ones, at most `most`, which were begun: as many moments
+-- and numbers were drawn as all of them draw, and what was written is what the worked ones write, and a beginning of
+-- what the begun ones write.
+pub record Stops (most : ℕ) (state : State) (script : List (List ℕ)) (moments : List ℤ) (nonces written : List ℕ) : Type 0 where
+  pub worked : List (List ℕ)
+  pub begun : List (List ℕ)
+  pub splits : script ≡ worked ++ begun
+  pub few : length begun ≤ most
+  pub moments_drawn : AreDrawn script moments
+  pub nonces_drawn : AreDrawn script nonces
+  pub holds : Begins (written_for (standing state moments nonces) worked) written
+  pub begins : Begins written (written_for (standing state moments nonces) script)
+
+-- The run stopped at a place in the script. The lines in front of it were worked, but for at most `most` of them that
+-- were begun. Input may have been read further.
+pub record PlaysPart (most : ℕ) (state : State) (whole : List ℕ) (old new : Devices) : Type 0 where
   pub passed : Passed whole old new
-  pub transcript : (later : List ℤ) (others : List ℕ) →
-      Begins passed.written (transcript_of state passed.read (passed.moments ++ later) (passed.nonces ++ others))
+  -- the bytes in front of the place, and those that were read after it
+  pub front : List ℕ
+  pub ahead : List ℕ
+  pub splits : passed.read ≡ front ++ ahead
+  pub first_lines : script_lines whole ≡ script_lines front ++ script_lines (ahead ++ passed.rest)
+  pub stops : Stops most state (script_lines front) passed.moments passed.nonces passed.written
 
 -- Input gave more than 2^40 bytes of the whole: what it still has to give is that much shorter.
 abbrev pub GaveTooMuch : List ℕ → Option (List ℕ) → Type 0

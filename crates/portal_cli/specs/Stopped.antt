@@ -1,7 +1,8 @@
 -- Why work on a line, and a run, may stop.
 use Rattle.portal_lines.specs.declared.lines.LineFault.{LineFault}
 use Rattle.portal_lines.specs.declared.lines.LineFault.TheVariants.{Failed as source_failed, TooMuch as too_much, OutOfMemory as no_memory}
-use Rattle.std.specs.Prelude.{◌≡◌, ◌⊎◌, codes}
+use Rattle.std.specs.Prelude.{ℕ, codes}
+use Rattle.portal_cli.specs.Run.{most_begun}
 use Rattle.portal_cli.specs.declared.run.Status.{Status}
 use Rattle.portal_cli.specs.declared.run.Status.TheVariants as ended
 use Rattle.portal_cli.specs.declared.play.Stop.{Stop}
@@ -20,9 +21,13 @@ stop_for source_failed = ReadFault
 stop_for too_much = TooMuch
 stop_for no_memory = OutOfMemory
 
--- The status that tells why a run stopped. The text of the last one may find no memory.
-abbrev pub StatusOf : Stop → Status → Type 0
-StatusOf ReadFault status = status ≡ ended.ReadFault
-StatusOf WriteFault status = status ≡ ended.WriteFault
-StatusOf OutOfMemory status = status ≡ ended.OutOfMemory
-StatusOf TooMuch status = (status ≡ ended.OutOfMemory) ⊎ (status ≡ ended.DataFault (codes "input too long"))
+-- the status that tells why a run stopped
+abbrev pub status_for : Stop → Status
+status_for ReadFault = ended.ReadFault
+status_for WriteFault = ended.WriteFault
+status_for OutOfMemory = ended.OutOfMemory
+status_for TooMuch = ended.DataFault (codes "input too long")
+
+-- how many lines may be begun and not worked where a run stops so
+abbrev pub begun_at : Stop → ℕ
+begun_at stop = most_begun (status_for stop)

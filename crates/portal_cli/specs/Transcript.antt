@@ -1,10 +1,18 @@
 -- The transcript of a script: what is written for its lines, worked in order from a state.
-use Rattle.std.specs.Prelude.{ℕ, ℤ, List, [], ◌∷◌, ◌++◌, length, Option, Some, None}
+use Rattle.std.specs.Prelude.{◌≡◌, ℕ, ℤ, List, [], ◌∷◌, ◌++◌, Bool, length, filter, is_some, Option, Some, None}
 use Rattle.portal_cli.specs.Reply.{reply_line, not_built_line}
 use Rattle.portal_cli.specs.Script.{ScriptCall, call_of_line, known_caller}
 use Rattle.portal_cli.specs.State.{State}
 use Rattle.portal_cli.specs.Step.{Outcome, call_step}
 use Rattle.portal_cli.specs.declared.call.Call.{Call}
+
+-- A line that asks for a call draws one moment and one number, whatever its reply. No other line draws.
+abbrev pub draws : List ℕ → Bool
+draws line = is_some (call_of_line line)
+
+-- as many were drawn as the script has lines that draw
+abbrev pub AreDrawn : {X : Type 0} → List (List ℕ) → List X → Type 0
+AreDrawn script drawn = length drawn ≡ length (filter draws script)
 
 -- Where a script stands: the state, and the moments and numbers that are still to be drawn.
 pub record Standing : Type 0 where
@@ -26,7 +34,8 @@ abbrev pub turn_of_outcome : ScriptCall → Outcome → List ℤ → List ℕ �
 turn_of_outcome asked outcome moments nonces =
     record { after = record { state = outcome.state; moments = moments; nonces = nonces }; written = reply_line asked.request.action outcome.reply }
 
--- A call draws one moment and one number, whatever its reply. Without any left nothing is written.
+-- A call takes the next moment and the next number. Without any left nothing is written, which doesn't come where as
+-- many were drawn as the script has lines that draw.
 abbrev pub turn_of_call : State → ScriptCall → ℕ → List ℤ → List ℕ → Turn
 turn_of_call state asked size [] nonces = record { after = record { state = state; moments = []; nonces = nonces }; written = [] }
 turn_of_call state asked size (m ∷ moments) [] = record { after = record { state = state; moments = m ∷ moments; nonces = [] }; written = [] }

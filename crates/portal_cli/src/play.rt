@@ -1,8 +1,8 @@
 //! Playing a script: the loop over its lines, which holds one line and the portal.
-ghost use Rattle.std.specs.Prelude.{◌≡◌, ◌<◌, ◌≤◌, ℕ, List, [], ◌∷◌, true, false, Some, Ok, Err, length, IfOk, IfErr, OnOk, OnErr};
+ghost use Rattle.std.specs.Prelude.{◌≡◌, ◌↔◌, ◌<◌, ◌≤◌, ℕ, List, [], ◌∷◌, true, false, Some, Ok, Err, length, IfOk, IfErr, OnOk, OnErr};
 ghost use Rattle.portal_base.specs.Outside.{Rose, Takes, TakesPrefix};
 ghost use Rattle.portal_cli.specs.Played.{WorksLines, StopsLines, TakesTurn, EndsTurn, StopsTurn, unless_empty};
-ghost use Rattle.portal_cli.specs.Stopped.{IsOfLine, stop_for};
+ghost use Rattle.portal_cli.specs.Stopped.{IsOfLine, stop_for, begun_at};
 ghost use Rattle.portal_cli.specs.Run.{outlet, devices};
 ghost use Rattle.portal_lines.specs.Lines.{bytes_left};
 ghost use Rattle.portal_cli.specs.Reply.{not_built_line};
@@ -202,12 +202,12 @@ fn play_next<S: Source, O: Sink, C: Clock, N: Nonces>(
         (devices (S.to_come input.new) (O.taken output.new) (C.given clock.new) (N.given nonces.new)) }
     ensures within { OnOk result (reader.new.given ≤ reader.new.most) }
 
-    ensures cut { OnErr result (StopsTurn portal.old reader.old reader.new
+    ensures cut { IfErr result (λ stop. StopsTurn (begun_at stop) portal.old reader.old reader.new
         (devices (S.to_come input.old) (O.taken output.old) (C.given clock.old) (N.given nonces.old))
         (devices (S.to_come input.new) (O.taken output.new) (C.given clock.new) (N.given nonces.new))) }
     ensures read_fault { result ≡ Err Stop.ReadFault → Rose (S.faults input.old) (S.faults input.new) }
     ensures write_fault { result ≡ Err Stop.WriteFault → Rose (O.faults output.old) (O.faults output.new) }
-    ensures too_much { result ≡ Err Stop.TooMuch → reader.new.most < reader.new.given }
+    ensures too_much { (result ≡ Err Stop.TooMuch) ↔ (reader.new.most < reader.new.given) }
     ensures reads { S.faults input.old ≤ S.faults input.new }
     ensures writes { O.faults output.old ≤ O.faults output.new }
 {
@@ -237,14 +237,14 @@ pub fn play<S: Source, O: Sink, C: Clock, N: Nonces>(
     ensures done { OnOk result ((whole : List ℕ) → S.to_come input.old ≡ Some whole → PlaysAll stated_state whole
         (devices (S.to_come input.old) (O.taken output.old) (C.given clock.old) (N.given nonces.old))
         (devices (S.to_come input.new) (O.taken output.new) (C.given clock.new) (N.given nonces.new))) }
-    ensures cut { OnErr result ((whole : List ℕ) → S.to_come input.old ≡ Some whole → PlaysPart stated_state whole
+    ensures cut { IfErr result (λ stop. (whole : List ℕ) → S.to_come input.old ≡ Some whole → PlaysPart (begun_at stop) stated_state whole
         (devices (S.to_come input.old) (O.taken output.old) (C.given clock.old) (N.given nonces.old))
         (devices (S.to_come input.new) (O.taken output.new) (C.given clock.new) (N.given nonces.new))) }
 
     ensures read_fault { result ≡ Err Stop.ReadFault → Rose (S.faults input.old) (S.faults input.new) }
     ensures write_fault { result ≡ Err Stop.WriteFault → Rose (O.faults output.old) (O.faults output.new) }
-    ensures too_much { result ≡ Err Stop.TooMuch →
-        (whole : List ℕ) → S.to_come input.old ≡ Some whole → GaveTooMuch whole (S.to_come input.new) }
+    ensures too_much { (whole : List ℕ) → S.to_come input.old ≡ Some whole →
+        ((result ≡ Err Stop.TooMuch) ↔ GaveTooMuch whole (S.to_come input.new)) }
 {
     let mut portal = stated_portal(alloc)?;
     let mut reader = match LineReader::new(alloc, LONGEST_LINE, MOST_INPUT) {

@@ -1,9 +1,9 @@
 //! The program's call: a script is read from input, worked line by line, and its transcript is written to output.
 ghost use Rattle.std.specs.Prelude.{◌≡◌, ◌↔◌, ℕ, List, Some, false, map, string_bytes, codes};
 ghost use Rattle.portal_base.specs.Outside.{Rose};
-ghost use Rattle.portal_cli.specs.Run.{is_play, status_code, devices, PlaysAll, PlaysPart, GaveTooMuch, IsCut};
+ghost use Rattle.portal_cli.specs.Run.{is_play, status_code, devices, PlaysAll, PlaysPart, GaveTooMuch, IsCut, most_begun};
 ghost use Rattle.portal_cli.specs.Stated.{stated_state};
-ghost use Rattle.portal_cli.specs.Stopped.{StatusOf};
+ghost use Rattle.portal_cli.specs.Stopped.{status_for};
 
 use crate::play::{Stop, play};
 use portal_base::outside::{Clock, Nonces, Sink, Source};
@@ -50,17 +50,14 @@ pub fn are_play(words: &[String]) -> bool
     words.len() == 1 && words[0].as_str() == "play"
 }
 
-fn status_of(alloc: Global, stop: Stop) -> Status
-    ensures { StatusOf stop result }
+fn status_of(stop: Stop) -> Status
+    ensures { result ≡ status_for stop }
 {
     match stop {
         Stop::ReadFault => Status::ReadFault,
         Stop::WriteFault => Status::WriteFault,
         Stop::OutOfMemory => Status::OutOfMemory,
-        Stop::TooMuch => match Text::from_str(alloc, "input too long") {
-            Ok(text) => Status::DataFault(text),
-            Err(_refused) => Status::OutOfMemory,
-        },
+        Stop::TooMuch => Status::DataFault(Text::from_static("input too long")),
     }
 }
 
@@ -79,19 +76,21 @@ pub fn run<S: Source, O: Sink, C: Clock, N: Nonces>(
     ensures untouched { result ≡ Status.Words → (input.new ≡ input.old) × (output.new ≡ output.old)
         × (clock.new ≡ clock.old) × (nonces.new ≡ nonces.old) }
 
-    // Status 0: where input tells, it was read to its end, and output took the transcript from the stated portal.
+    // Status 0: where input tells, it was read to its end, as many moments and numbers were drawn as the script has lines
+    // that draw, and output took the transcript from the stated portal.
     ensures done { result ≡ Status.Done → (whole : List ℕ) → S.to_come input.old ≡ Some whole → PlaysAll stated_state whole
         (devices (S.to_come input.old) (O.taken output.old) (C.given clock.old) (N.given nonces.old))
         (devices (S.to_come input.new) (O.taken output.new) (C.given clock.new) (N.given nonces.new)) }
-    // Statuses 3, 4, 6 and 9: output took the beginning of the transcript of what was read.
-    ensures cut { IsCut result → (whole : List ℕ) → S.to_come input.old ≡ Some whole → PlaysPart stated_state whole
+    // Statuses 3, 4, 6 and 9: what was drawn and what output took belong to one place in the script.
+    ensures cut { IsCut result → (whole : List ℕ) → S.to_come input.old ≡ Some whole → PlaysPart (most_begun result) stated_state whole
         (devices (S.to_come input.old) (O.taken output.old) (C.given clock.old) (N.given nonces.old))
         (devices (S.to_come input.new) (O.taken output.new) (C.given clock.new) (N.given nonces.new)) }
 
     ensures read_fault { result ≡ Status.ReadFault → Rose (S.faults input.old) (S.faults input.new) }
     ensures write_fault { result ≡ Status.WriteFault → Rose (O.faults output.old) (O.faults output.new) }
-    ensures too_much { status_code result ≡ 9 →
-        (whole : List ℕ) → S.to_come input.old ≡ Some whole → GaveTooMuch whole (S.to_come input.new) }
+    // Status 9 comes exactly where input gave more than 2^40 bytes.
+    ensures too_much { (whole : List ℕ) → S.to_come input.old ≡ Some whole →
+        ((status_code result ≡ 9) ↔ GaveTooMuch whole (S.to_come input.new)) }
     ensures text { (text : List ℕ) → result ≡ Status.DataFault text → text ≡ codes "input too long" }
 {
     if !are_play(words) {
@@ -99,6 +98,6 @@ pub fn run<S: Source, O: Sink, C: Clock, N: Nonces>(
     }
     match play(alloc, input, output, clock, nonces) {
         Ok(()) => Status::Done,
-        Err(stop) => status_of(alloc, stop),
+        Err(stop) => status_of(stop),
     }
 }

@@ -7,11 +7,13 @@ use Rattle.portal_cli.proofs.play.play_call.Goals as goal
 
 pub returns-in_err-reply-clause-cut : goal.returns-in_err-reply-clause-cut
 returns-in_err-reply-clause-cut g c =
-    on_err_always c.from_residual.result (stops_before_writing _ _ _ _ _ _ refl (DrawsAll-one _ _ _ c.now-moment.ensures) (DrawsAll-one _ _ _ c.next-nonce.ensures))
+    on_err_always c.from_residual.result
+    (stops_before_writing _ _ (asked c.args.said) _ _ _ _ c.requires refl (DrawsAll-one _ _ _ c.now-moment.ensures) (DrawsAll-one _ _ _ c.next-nonce.ensures))
 
 pub returns-in_err-text-clause-cut : goal.returns-in_err-text-clause-cut
 returns-in_err-text-clause-cut g c =
-    on_err_always c.from_residual-in_err-text.result (stops_before_writing _ _ _ _ _ _ refl (DrawsAll-one _ _ _ c.now-moment.ensures) (DrawsAll-one _ _ _ c.next-nonce.ensures))
+    on_err_always c.from_residual-in_err-text.result
+    (stops_before_writing _ _ (asked c.args.said) _ _ _ _ c.requires refl (DrawsAll-one _ _ _ c.now-moment.ensures) (DrawsAll-one _ _ _ c.next-nonce.ensures))
 
 pub returns-clause-ok : goal.returns-clause-ok
 returns-clause-ok g c =

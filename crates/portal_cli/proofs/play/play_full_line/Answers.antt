@@ -1,13 +1,13 @@
 -- A line that asks for no call writes the one line; whatever stops the work, output took its beginning.
-use Rattle.std.proofs.Common.{refl, sym, ap, ◌∙◌, option_map}
+use Rattle.std.proofs.Common.{sym, ap, ◌∙◌, option_map}
 use Rattle.std.proofs.lemmas.Result.{on_ok_weaker, on_err_weaker}
-use Rattle.portal_cli.proofs.Working.{works_not_built, works_lines, stops_in_writing, stops_before_writing, on_err_always, DrawsAll-none}
+use Rattle.portal_cli.proofs.Working.{works_not_built, works_lines, stops_in_writing, stops_before, on_err_always, DrawsAll-none}
 use Rattle.portal_cli.specs.Seen.{asked}
 use Rattle.portal_cli.proofs.play.play_full_line.Goals as goal
 
 pub returns-in_err-said-clause-cut : goal.returns-in_err-said-clause-cut
 returns-in_err-said-clause-cut g c =
-    on_err_always c.from_residual.result (stops_before_writing _ _ _ _ _ _ refl (DrawsAll-none _) (DrawsAll-none _))
+    on_err_always c.from_residual.result (stops_before _ _ _)
 
 pub returns-in-None-clause-ok : goal.returns-in-None-clause-ok
 returns-in-None-clause-ok g c =
