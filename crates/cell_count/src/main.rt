@@ -1,9 +1,11 @@
 //! Reads each line of standard input but the first as a cell of the first field that the first line describes, and counts
-//! cells and faults. The first line is a descriptor of Table Schema v1.
+//! cells and faults. The first line is a descriptor of Table Schema v1. Where it is none, or the input is no text, the fault
+//! stands on standard error, and the status is not 0.
 #![tactic(auto)]
 
 use std::alloc::{AllocError, Global};
 use std::io::{self, Read};
+use std::process::ExitCode;
 use table_schema::{CellError, Field, Schema, SchemaFault};
 use thiserror::Error;
 
@@ -63,11 +65,17 @@ fn counts_of_bytes(alloc: Global, input: &[u8]) -> Result<Counts, Fault> {
     }
 }
 
-fn main(rt: HostRuntime) -> io::Result<()> {
+fn main(rt: HostRuntime) -> io::Result<ExitCode> {
     let mut input = Vec::new(rt.alloc());
     rt.reader().read_to_end(&mut input)?;
     match counts_of_bytes(rt.alloc(), input.as_slice()) {
-        Ok(counts) => println!(rt; "{} cells, {} faults", counts.cells, counts.faults),
-        Err(fault) => println!(rt; "{fault}"),
+        Ok(counts) => {
+            println!(rt; "{} cells, {} faults", counts.cells, counts.faults)?;
+            Ok(ExitCode::SUCCESS)
+        }
+        Err(fault) => {
+            eprintln!(rt; "{fault}")?;
+            Ok(ExitCode::FAILURE)
+        }
     }
 }
