@@ -42,11 +42,11 @@ pub no_text_row : {S : Type 0} (loader : Loading S) (number : ℕ) → number �
 unfolding is_utf8 chars
 no_text_row loader number next = rw next (inr (inr (no_text, refl)))
 
-refused_row : {S : Type 0} (loader : Loading S) (texts : List (List ℕ)) (why : LoadFault) → IsRefused why (row_reading loader.fields loader.layout (loader.number + 1) texts) → IsRowFault loader why
+refused_row : {S : Type 0} (loader : Loading S) (texts : List (List ℕ)) (why : LoadFault) → IsRefused why (row_reading loader.fields loader.between.layout (loader.number + 1) texts) → IsRowFault loader why
 refused_row loader texts why given =
-    elim (refused why (row_reading loader.fields loader.layout (loader.number + 1) texts) given)
+    elim (refused why (row_reading loader.fields loader.between.layout (loader.number + 1) texts) given)
     [ inl outside ↦ inl outside | inr read ↦ inr (inr (texts, read)) ]
 
 pub row_refused : {S X : Type 0} (loader : Loading S) (texts : List (List ℕ)) (why : LoadFault) (answer : Result X LoadFault) (reading : Result (List Cell) LoadFault) →
-    answer ≡ Err why → IsRefused why reading → reading ≡ row_reading loader.fields loader.layout (loader.number + 1) texts → IfErr answer (IsRowFault loader)
+    answer ≡ Err why → IsRefused why reading → reading ≡ row_reading loader.fields loader.between.layout (loader.number + 1) texts → IfErr answer (IsRowFault loader)
 row_refused loader texts why answer reading same e is = rw same (refused_row loader texts why (subst (IsRefused why) is e))

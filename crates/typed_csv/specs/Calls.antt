@@ -7,7 +7,7 @@ use Rattle.typed_csv.specs.declared.header.Layout.{Layout}
 use Rattle.typed_csv.specs.declared.loader.Stage.TheVariants as stage
 use Rattle.typed_csv.specs.Faults.{IsOutside}
 use Rattle.typed_csv.specs.Header.{header_reading}
-use Rattle.typed_csv.specs.Loading.{Loading, rows_at}
+use Rattle.typed_csv.specs.Loading.{Loading, reading_of, rows_at}
 use Rattle.typed_csv.specs.Reading.{records_ahead}
 use Rattle.typed_csv.specs.Rows.{Rows, before, faulty, no_rows}
 
@@ -22,7 +22,7 @@ RefusesRecords fields told why = IsOutside why ⊎ IfSome told (λ all. header_r
 
 -- the rows of the records still to come, where the source tells, however the loader is marked
 abbrev pub rows_left : {S : Type 0} → (S → Option (List ℕ)) → Loading S → Option Rows
-rows_left to_come loader = option_map (rows_at loader stage.Reading) (records_ahead to_come loader.reading)
+rows_left to_come loader = option_map (rows_at loader stage.Reading) (records_ahead to_come (reading_of loader))
 
 -- What is told begins as the call answers, as in Answers, before the loader is marked.
 abbrev pub Reads : Option Rows → Result (Option (List Cell)) LoadFault → Option Rows → Type 0

@@ -3,7 +3,7 @@ ghost use Rattle.std.specs.Prelude.{◌≡◌, ◌↔◌, ◌≢◌, ◌<◌, �
 ghost use Rattle.portal_base.specs.Outside.{Gives, Rose};
 ghost use Rattle.table_schema.specs.Printed.{IsValue};
 ghost use Rattle.typed_csv.specs.Calls.{Reads, RefusesRecords, TakesHeader, rows_left};
-ghost use Rattle.typed_csv.specs.Loading.{Answers, Begins, IsHeaderFault, IsLayout, IsRow, IsRowFault, RefusesHeader, number_after, rows_ahead, stage_after};
+ghost use Rattle.typed_csv.specs.Loading.{Answers, Begins, HasHeader, IsHeaderFault, IsLayout, IsOfSameFile, IsRow, IsRowFault, RefusesHeader, number_after, reading_of, rows_ahead, stage_after};
 ghost use Rattle.typed_csv.specs.Reading.{Receives, records_ahead};
 
 use crate::chunk::Next;
@@ -48,7 +48,14 @@ impl<S> Model for Loader<S> {
 
     ghost Value = { Loading S };
 
-    ghost view = { λ l. record { fields = l.schema.fields; layout = l.layout; reading = l.records; number = l.number; stage = l.stage } };
+    ghost view = { λ l. record {
+      source = l.records.source;
+      given = l.records.given;
+      fields = l.schema.fields;
+      number = l.number;
+      stage = l.stage;
+      between = record { layout = l.layout; ready = l.records.ready; held = l.records.held; is_fresh = l.records.is_fresh };
+    } };
 
     ghost invariant = { λ l. IsWithin l.stage l.records.given };
 }
@@ -60,10 +67,10 @@ impl<S: Source> Loader<S> {
     pub fn start(alloc: Global, schema: Schema, source: S) -> Result<Loader<S>, (LoadFault, S)>
         ensures begins { IfOk result (λ loader. Begins schema.fields (S.to_come source) (rows_ahead S.to_come loader)) }
         ensures stage { IfOk result (λ loader. (loader.fields ≡ schema.fields) × (loader.number ≡ 0) × (loader.stage ≡ Stage.Reading)) }
-        ensures header { IfOk result (λ loader. IsLayout schema.fields loader.layout) }
-        ensures received { IfOk result (λ loader. (bytes : List ℕ) × Gives (S.to_come source) bytes (S.to_come loader.reading.source)
-            × (loader.reading.given ≡ length bytes) × (length bytes ≤ 2 ^ 40)) }
-        ensures counts { IfOk result (λ loader. S.faults source ≤ S.faults loader.reading.source) }
+        ensures header { IfOk result (HasHeader schema.fields) }
+        ensures received { IfOk result (λ loader. (bytes : List ℕ) × Gives (S.to_come source) bytes (S.to_come loader.source)
+            × (loader.given ≡ length bytes) × (length bytes ≤ 2 ^ 40)) }
+        ensures counts { IfOk result (λ loader. S.faults source ≤ S.faults loader.source) }
 
         ensures refused { IfErr result (λ back. RefusesHeader schema.fields (S.to_come source) back.0) }
         ensures cause { IfErr result (λ back. IsHeaderFault schema.fields back.0) }
@@ -103,11 +110,11 @@ impl<S: Source> Loader<S> {
         ensures stage { self.new.stage ≡ stage_after result }
         ensures ended { self.old.stage ≡ Stage.Ended → result ≡ Ok None }
         ensures still { self.old.stage ≢ Stage.Reading → self.new ≡ self.old }
-        ensures kept { (self.new.fields ≡ self.old.fields) × (self.new.layout ≡ self.old.layout) }
-        ensures received { Receives S.to_come self.old.reading self.new.reading }
-        ensures failed { result ≡ Err LoadFault.ReadFault → Rose (S.faults self.old.reading.source) (S.faults self.new.reading.source) }
-        ensures counts { S.faults self.old.reading.source ≤ S.faults self.new.reading.source }
-        ensures much { result ≢ Err LoadFault.Spent → ((result ≡ Err LoadFault.TooLong) ↔ (2 ^ 40 < self.new.reading.given)) }
+        ensures kept { IsOfSameFile self.old self.new }
+        ensures received { Receives S.to_come (reading_of self.old) (reading_of self.new) }
+        ensures failed { result ≡ Err LoadFault.ReadFault → Rose (S.faults self.old.source) (S.faults self.new.source) }
+        ensures counts { S.faults self.old.source ≤ S.faults self.new.source }
+        ensures much { result ≢ Err LoadFault.Spent → ((result ≡ Err LoadFault.TooLong) ↔ (2 ^ 40 < self.new.given)) }
     {
         match self.stage {
             Stage::Reading => {}
@@ -125,7 +132,7 @@ impl<S: Source> Loader<S> {
 
     /// The source, as far as it was read.
     pub fn into_source(self) -> S
-        ensures { result ≡ self.reading.source }
+        ensures { result ≡ self.source }
     {
         self.records.into_source()
     }
@@ -139,11 +146,12 @@ impl<S: Source> Loader<S> {
         ensures cause { IfErr result (IsRowFault self.old) }
         ensures number { self.new.number ≡ number_after self.old.number result }
         ensures fault { result ≢ Err LoadFault.Spent }
-        ensures kept { (self.new.fields ≡ self.old.fields) × (self.new.layout ≡ self.old.layout) × (self.new.stage ≡ self.old.stage) }
-        ensures received { Receives S.to_come self.old.reading self.new.reading }
-        ensures failed { result ≡ Err LoadFault.ReadFault → Rose (S.faults self.old.reading.source) (S.faults self.new.reading.source) }
-        ensures counts { S.faults self.old.reading.source ≤ S.faults self.new.reading.source }
-        ensures much { (result ≡ Err LoadFault.TooLong) ↔ (2 ^ 40 < self.new.reading.given) }
+        ensures kept { IsOfSameFile self.old self.new }
+        ensures stage { self.new.stage ≡ self.old.stage }
+        ensures received { Receives S.to_come (reading_of self.old) (reading_of self.new) }
+        ensures failed { result ≡ Err LoadFault.ReadFault → Rose (S.faults self.old.source) (S.faults self.new.source) }
+        ensures counts { S.faults self.old.source ≤ S.faults self.new.source }
+        ensures much { (result ≡ Err LoadFault.TooLong) ↔ (2 ^ 40 < self.new.given) }
     {
         let next = self.records.next(&mut self.row)?;
         let Some(number) = self.number.checked_add(1) else {
