@@ -13,8 +13,6 @@ mod record;
 mod statement;
 mod tags;
 mod terms;
-#[cfg(test)]
-mod tests;
 mod vocabulary;
 
 pub use graph::{Graph, described};

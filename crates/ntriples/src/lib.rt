@@ -9,8 +9,6 @@ mod names;
 mod quoted;
 mod term;
 mod terms;
-#[cfg(test)]
-mod tests;
 mod text;
 mod writing;
 
