@@ -5,8 +5,6 @@
 #[cfg(test)]
 mod devices;
 #[cfg(test)]
-mod kinds;
-#[cfg(test)]
 mod ordered;
 #[cfg(test)]
 mod outside;

@@ -2,6 +2,7 @@
 #![tactic(auto)]
 
 mod json;
+mod kinds;
 mod moment;
 
 use cases::{Case, Tally, check};
@@ -37,5 +38,6 @@ fn main(rt: HostRuntime) -> io::Result<ExitCode> {
     check(&rt, &mut tally, "moments_read", 2, moment::read)?;
     check(&rt, &mut tally, "json_read", 2, json::rewritten)?;
     check(&rt, &mut tally, "json_members", 3, json::member)?;
+    check(&rt, &mut tally, "kinds", 3, kinds::value)?;
     tally.end(&rt)
 }
