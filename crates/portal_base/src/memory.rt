@@ -8,7 +8,7 @@ mod sink;
 mod source;
 mod stores;
 
-pub use fetcher::MemoryFetcher;
+pub use fetcher::{MemoryFetcher, are_distinct};
 pub use link::MemoryLink;
 pub use listener::MemoryListener;
 pub use sink::MemorySink;
