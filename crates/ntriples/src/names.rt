@@ -6,7 +6,8 @@ ghost use Rattle.ntriples.specs.Grammar.{is_in, begins_in, tag_part, run, some_o
 
 use crate::characters::{is_digit, is_letter, is_pn_chars, is_pn_chars_u};
 use crate::fault::Refusal;
-use crate::text::{after, first, split_first, strip};
+use crate::text::{after, first, strip};
+use portal_base::split::split_first;
 use portal_base::text::Text;
 use std::alloc::{AllocError, Global};
 

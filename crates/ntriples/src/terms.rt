@@ -8,7 +8,8 @@ use crate::fault::Refusal;
 use crate::names::{blank_node_label, langtag};
 use crate::quoted::{QuoteKind, iriref, quoted};
 use crate::term::{Term, Triple};
-use crate::text::{after, first, skip_blanks, split_first};
+use crate::text::{after, first, skip_blanks};
+use portal_base::split::split_first;
 use portal_base::text::Text;
 use std::alloc::Global;
 

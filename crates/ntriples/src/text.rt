@@ -4,16 +4,7 @@ ghost use Rattle.std.specs.Str.{chars};
 ghost use Rattle.ntriples.specs.Reading.{Gives, character, behind, skip_blanks};
 
 use crate::fault::Refusal;
-
-// The first character, and the text behind it.
-pub(crate) fn split_first(text: &str) -> Option<(char, &str)>
-    ensures none { IfNone result (chars text.now ≡ []) }
-    ensures some { IfSome result (λ found. chars text.now ≡ found.0 ∷ chars found.1.now) }
-{
-    let mut characters = text.chars();
-    let character = characters.next()?;
-    Some((character, characters.as_str()))
-}
+use portal_base::split::split_first;
 
 // The first character, and the text behind it.
 pub(crate) fn first(text: &str) -> Result<(char, &str), Refusal>

@@ -1,4 +1,2 @@
 mod Examples
-pub mod Inserted
 pub mod PeopleLemmas
-pub mod Unique

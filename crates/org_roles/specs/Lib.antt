@@ -1,4 +1,3 @@
-pub mod Ascending
 pub mod Distinct
 pub mod Order
 pub mod Peopled

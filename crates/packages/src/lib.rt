@@ -1,6 +1,7 @@
 //! Datasets as the catalogue keeps them.
 #![tactic(auto)]
 
+mod order;
 pub mod package;
 #[cfg(test)]
 mod tests;

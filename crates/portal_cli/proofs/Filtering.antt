@@ -4,8 +4,8 @@ use Rattle.std.specs.Prelude.{filter}
 use Rattle.std.specs.Cmp.{IsTotalOrder}
 use Rattle.std.specs.declared.cmp.Ordering.{Ordering}
 use Rattle.std.proofs.lemmas.List.Elements.{filter_agree}
-use Rattle.org_roles.specs.Ascending.{IsAscending, IsBelowAll}
-use Rattle.org_roles.proofs.Unique.{IsIn, IsIn-Contains, Contains-IsIn, unique}
+use Rattle.portal_base.specs.Ordered.{IsAscending, IsBelowAll}
+use Rattle.portal_base.proofs.Unique.{IsIn, IsIn-Contains, Contains-IsIn, unique}
 use Rattle.portal_cli.specs.Hidden.{IsHiddenChange}
 
 -- what is kept was there and passed

@@ -9,14 +9,15 @@ use Rattle.std.specs.declared.cmp.Ordering.{Ordering}
 use Rattle.portal_base.specs.declared.caller.Caller.{Caller}
 use Rattle.portal_base.specs.declared.caller.Caller.TheVariants.{Anonymous, Named}
 use Rattle.portal_base.specs.declared.json_value.Json.{Json}
-use Rattle.org_roles.specs.Ascending.{IsAscending}
+use Rattle.portal_base.specs.Ordered.{IsAscending}
 use Rattle.org_roles.specs.Order.{user_cmp, org_cmp, membership_cmp}
 use Rattle.org_roles.specs.Peopled.{Peopled, IsPeopled, is_sysadmin_in, org_in, role_in}
 use Rattle.org_roles.specs.declared.entry.Membership.{Membership}
 use Rattle.org_roles.specs.declared.entry.Org.{Org}
 use Rattle.org_roles.specs.declared.entry.User.{User}
 use Rattle.org_roles.proofs.PeopleLemmas.{user_cmp_total, org_cmp_total, membership_cmp_total}
-use Rattle.org_roles.proofs.Unique.{IsIn, IsIn-Contains, Contains-IsIn, IsIn-inserted, inserted-IsIn, unique}
+use Rattle.portal_base.proofs.Unique.{IsIn, IsIn-Contains, Contains-IsIn, IsIn-inserted, inserted-IsIn, unique}
+use Rattle.packages.specs.Order.{dataset_cmp, dataset_cmp_total}
 use Rattle.packages.specs.declared.package.Package.{Package}
 use Rattle.visibility.specs.Visibility.{caller_role, sees_in}
 use Rattle.visibility.proofs.VisibilityLemmas.{sees_in-own}
@@ -24,7 +25,7 @@ use Rattle.portal_cli.specs.Answer.{accepted, refused, create_dataset, may_creat
 use Rattle.portal_cli.specs.Dictionary.{package_dictionary}
 use Rattle.portal_cli.specs.Hidden.{IsHiddenChange, IsHiddenBetween, IsHidden, is_kept, is_caller}
 use Rattle.portal_cli.specs.Request.{Creation, creation_of}
-use Rattle.portal_cli.specs.State.{State, dataset_cmp, with_dataset, has_name, has_id}
+use Rattle.portal_cli.specs.State.{State, with_dataset, has_name, has_id}
 use Rattle.portal_cli.specs.Step.{changed, settled}
 use Rattle.portal_cli.specs.Valid.{IsValid}
 use Rattle.portal_cli.specs.View.{is_called, user_seen, administers, is_role_seen, people_seen, view_of}
@@ -35,7 +36,7 @@ use Rattle.portal_cli.specs.declared.call.Right.TheVariants.{CreateDataset}
 use Rattle.portal_cli.specs.declared.request.Action.{Action}
 use Rattle.portal_cli.specs.declared.request.Action.TheVariants.{PackageCreate}
 use Rattle.portal_cli.proofs.Filtering.{filter-hidden}
-use Rattle.portal_cli.proofs.Isolating.{dataset_cmp_total, outcome_when}
+use Rattle.portal_cli.proofs.Isolating.{outcome_when}
 use Rattle.portal_cli.proofs.Viewing.{find-kept, called_by_name}
 
 -- where everything is kept a hidden change is none

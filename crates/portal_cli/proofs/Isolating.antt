@@ -5,16 +5,16 @@ use Rattle.std.specs.Cmp.{IsTotalOrder}
 use Rattle.std.specs.Ordering.{is_lt}
 use Rattle.std.specs.declared.cmp.Ordering.{Ordering}
 use Rattle.std.specs.declared.cmp.Ordering.TheVariants.{Less, Equal, Greater}
-use Rattle.std.proofs.lemmas.Cmp.{on_total, nat_list_cmp_total}
 use Rattle.portal_base.specs.declared.caller.Caller.{Caller}
 use Rattle.portal_base.specs.declared.json_value.Json.{Json}
-use Rattle.org_roles.specs.Ascending.{IsAscending, IsBelowAll, inserted}
+use Rattle.portal_base.specs.Ordered.{IsAscending, IsBelowAll, inserted}
 use Rattle.org_roles.specs.Peopled.{Peopled}
+use Rattle.packages.specs.Order.{dataset_cmp, dataset_cmp_total}
 use Rattle.packages.specs.declared.package.Package.{Package}
 use Rattle.visibility.specs.Visibility.{sees_in}
 use Rattle.portal_cli.specs.Answer.{Answer, shown, refused, accepted, create_dataset, answer_to}
 use Rattle.portal_cli.specs.Isolation.{tells_of_use}
-use Rattle.portal_cli.specs.State.{State, dataset_cmp, has_name, has_id}
+use Rattle.portal_cli.specs.State.{State, has_name, has_id}
 use Rattle.portal_cli.specs.Step.{Outcome, unchanged, changed, settled, call_step}
 use Rattle.portal_cli.specs.View.{people_seen, view_of}
 use Rattle.portal_cli.specs.declared.call.Call.{Call}
@@ -118,9 +118,6 @@ replies_alike s t call same first second =
     ap (λ (a : Answer). (settled a s).reply) onto ∙ settled_alike (answer_to call (view_of call.caller t)) s t first_there second
 
 -- ---- views
-
-pub dataset_cmp_total : IsTotalOrder dataset_cmp
-dataset_cmp_total = on_total (λ (d : Package). d.id) nat_list_cmp_total
 
 -- equal views of the people give equal sight
 sees_in-alike : (caller : Caller) (p q : Peopled) → people_seen caller p ≡ people_seen caller q → (dataset : Package) → sees_in p caller dataset ≡ sees_in q caller dataset

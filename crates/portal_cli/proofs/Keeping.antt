@@ -12,20 +12,21 @@ use Rattle.std.proofs.lemmas.List.Sums.{AllPass-from_list_all}
 use Rattle.std.proofs.lemmas.Map.Text.{is_eq-slice_cmp}
 use Rattle.portal_base.specs.Name.{is_name}
 use Rattle.portal_base.specs.declared.json_value.Json.{Json}
-use Rattle.org_roles.specs.Ascending.{inserted, ascending}
+use Rattle.portal_base.specs.Ordered.{inserted, ascending}
 use Rattle.org_roles.specs.Order.{org_cmp, membership_cmp}
 use Rattle.org_roles.specs.Peopled.{Peopled, org_in}
 use Rattle.org_roles.specs.declared.entry.Membership.{Membership}
 use Rattle.org_roles.specs.declared.entry.Org.{Org}
-use Rattle.org_roles.proofs.Inserted.{list_any-same, list_any-find, list_any-ascending, IsAscending-inserted, both_false}
+use Rattle.portal_base.proofs.Inserted.{list_any-same, list_any-find, list_any-ascending, IsAscending-inserted, both_false}
 use Rattle.org_roles.proofs.PeopleLemmas.{IsPeopled-ascending}
-use Rattle.org_roles.proofs.Unique.{IsIn, IsIn-Contains, Contains-IsIn, inserted-IsIn}
+use Rattle.portal_base.proofs.Unique.{IsIn, IsIn-Contains, Contains-IsIn, inserted-IsIn}
 use Rattle.packages.specs.declared.package.TheConstants.{LONGEST_NAME}
+use Rattle.packages.specs.Order.{dataset_cmp, dataset_cmp_total}
 use Rattle.packages.specs.declared.package.Package.{Package}
 use Rattle.portal_cli.specs.Answer.{Answer, shown, refused, accepted, create_dataset, may_create, created_package, answer_to_creation, answer_to_create, shown_package, answer_to_show, answer_by, answer_to}
 use Rattle.portal_cli.specs.Opened.{opened, is_opening}
 use Rattle.portal_cli.specs.Request.{Creation, creation_of, creation_with, creation_name, creation_org, creation_private, creation_title, only_if, shown_of}
-use Rattle.portal_cli.specs.State.{State, dataset_cmp, with_dataset, has_name, has_id, is_named}
+use Rattle.portal_cli.specs.State.{State, with_dataset, has_name, has_id, is_named}
 use Rattle.portal_cli.specs.Stated.{stated_users, stated_org, stated_roles, stated_state}
 use Rattle.portal_cli.specs.Step.{changed, settled, step_of, replay}
 use Rattle.portal_cli.specs.Valid.{IsValid, IsSound, Stands}
@@ -38,7 +39,7 @@ use Rattle.portal_cli.specs.declared.call.Right.TheVariants.{CreateDataset}
 use Rattle.portal_cli.specs.declared.portal.Opening.{Opening}
 use Rattle.portal_cli.specs.declared.request.Action.{Action}
 use Rattle.portal_cli.specs.declared.request.Action.TheVariants.{PackageCreate, PackageShow}
-use Rattle.portal_cli.proofs.Isolating.{dataset_cmp_total, outcome_when}
+use Rattle.portal_cli.proofs.Isolating.{outcome_when}
 
 -- ---- lists
 

@@ -2,11 +2,9 @@
 use Rattle.std.specs.Prelude.{ℕ, List, Bool, ◌||◌}
 use Rattle.std.specs.List.{list_any}
 use Rattle.std.specs.Str.{bytes_eq}
-use Rattle.std.specs.declared.cmp.Ordering.{Ordering}
-use Rattle.std.specs.Ordering.{nat_cmp}
-use Rattle.std.specs.Cmp.Lexicographic.{slice_cmp}
-use Rattle.org_roles.specs.Ascending.{inserted}
+use Rattle.portal_base.specs.Ordered.{inserted}
 use Rattle.org_roles.specs.Peopled.{Peopled}
+use Rattle.packages.specs.Order.{dataset_cmp}
 use Rattle.packages.specs.declared.package.Package.{Package}
 
 -- Users ascend by name, organizations by name, roles by organization and user, datasets by id.
@@ -28,10 +26,6 @@ has_name name datasets = list_any (λ d. bytes_eq d.name name) datasets
 -- some dataset has this id
 abbrev pub has_id : List ℕ → List Package → Bool
 has_id id datasets = list_any (λ d. bytes_eq d.id id) datasets
-
--- the order by id
-abbrev pub dataset_cmp : Package → Package → Ordering
-dataset_cmp d e = slice_cmp nat_cmp d.id e.id
 
 -- the list with one more dataset, at its place by id
 abbrev pub with_dataset : Package → List Package → List Package

@@ -5,12 +5,13 @@ use Rattle.std.specs.Ordering.{nat_cmp}
 use Rattle.std.specs.Cmp.Lexicographic.{slice_cmp}
 use Rattle.portal_base.specs.Id.{id_text}
 use Rattle.portal_base.specs.Name.{is_name}
-use Rattle.org_roles.specs.Ascending.{IsAscending}
+use Rattle.portal_base.specs.Ordered.{IsAscending}
 use Rattle.org_roles.specs.Peopled.{Peopled, IsPeopled, org_in}
+use Rattle.packages.specs.Order.{dataset_cmp}
 use Rattle.packages.specs.declared.package.TheConstants.{LONGEST_NAME}
 use Rattle.packages.specs.declared.package.Package.{Package}
 use Rattle.visibility.specs.Visibility.{is_harvested}
-use Rattle.portal_cli.specs.State.{State, dataset_cmp}
+use Rattle.portal_cli.specs.State.{State}
 
 -- the text is the id of a number, of which it has the low 128 bits
 abbrev pub IsId : List ℕ → Type 0

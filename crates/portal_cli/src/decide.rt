@@ -1,12 +1,10 @@
 //! What a call is answered, and what it would change. It reads the portal and changes nothing.
-ghost use Rattle.std.specs.Prelude.{◌≡◌, ◌<◌, ◌≤◌, ◌&&◌, IfOk, OnOk, is_some, find, vec_len, vec_capacity, length};
-ghost use Rattle.std.specs.List.{prefix_len};
+ghost use Rattle.std.specs.Prelude.{◌≡◌, ◌&&◌, IfOk, is_some, find};
 ghost use Rattle.std.specs.Option.{option_copied};
-ghost use Rattle.std.specs.Ordering.{is_lt};
 ghost use Rattle.org_roles.specs.Peopled.{org_in};
 ghost use Rattle.visibility.specs.Visibility.{sees_in};
 ghost use Rattle.portal_cli.specs.Answer.{may_create, caller_name, title_or_name, created_package, answer_to_create};
-ghost use Rattle.portal_cli.specs.State.{state_of, has_name, has_id, is_named, dataset_cmp, with_dataset};
+ghost use Rattle.portal_cli.specs.State.{state_of, has_name, has_id, is_named};
 ghost use Rattle.portal_cli.specs.Step.{settled, call_step};
 ghost use Rattle.portal_cli.specs.Decided.{outcome_of, answer_to_show_in};
 ghost use Rattle.portal_cli.specs.Request.{creation_of, shown_of};
@@ -189,32 +187,4 @@ fn new_package(alloc: Global, call: &Call, creation: &Creation<'_>) -> Result<Pa
     let mut dataset = Package::fresh(alloc, id, name, title, org, creator, call.moment);
     dataset.private = creation.private;
     Ok(dataset)
-}
-
-/// Makes room for one more dataset.
-pub fn prepare(datasets: &mut Vec<Package>) -> Result<(), AllocError>
-    ensures room { OnOk result (vec_len datasets.new < vec_capacity datasets.new) }
-    ensures same { datasets.new.items ≡ datasets.old.items }
-{
-    datasets.reserve(1)
-}
-
-/// How many datasets stand before this one.
-fn place_of(datasets: &[Package], dataset: &Package) -> usize
-    ensures place { result ≡ prefix_len (λ other. is_lt (dataset_cmp other dataset.now)) datasets.now }
-    ensures within { result ≤ length datasets.now }
-{
-    datasets
-        .iter()
-        .take_while(|other| other.id < dataset.id)
-        .count()
-}
-
-/// Puts a dataset at its place by id. It takes no memory and can't fail.
-pub fn commit(datasets: &mut Vec<Package>, dataset: Package)
-    requires { vec_len datasets.old < vec_capacity datasets.old }
-    ensures { datasets.new.items ≡ with_dataset dataset datasets.old.items }
-{
-    let place = place_of(datasets.as_slice(), &dataset);
-    datasets.insert(place, dataset).unwrap();
 }

@@ -1,7 +1,7 @@
 //! Laws of the definitions: functions with an empty body, whose contracts are the laws.
 ghost use Rattle.std.specs.Prelude.{◌≡◌, ◌++◌, IsTrue, List, Some, true, false};
 ghost use Rattle.portal_base.specs.declared.caller.Caller.{Caller};
-ghost use Rattle.org_roles.specs.Ascending.{IsAscending};
+ghost use Rattle.portal_base.specs.Ordered.{IsAscending};
 ghost use Rattle.visibility.specs.Visibility.{sees_in};
 ghost use Rattle.portal_cli.specs.Answer.{created_package};
 ghost use Rattle.portal_cli.specs.Hidden.{IsHidden, is_caller};
@@ -9,7 +9,8 @@ ghost use Rattle.portal_cli.specs.History.{AreAlike, AreOthersHidden, calls_of, 
 ghost use Rattle.portal_cli.specs.Isolation.{tells_of_use};
 ghost use Rattle.portal_cli.specs.Opened.{opened, is_opening};
 ghost use Rattle.portal_cli.specs.Request.{Creation, creation_of};
-ghost use Rattle.portal_cli.specs.State.{State, dataset_cmp};
+ghost use Rattle.packages.specs.Order.{dataset_cmp};
+ghost use Rattle.portal_cli.specs.State.{State};
 ghost use Rattle.portal_cli.specs.Stated.{stated_state};
 ghost use Rattle.portal_cli.specs.Step.{call_step, step_of, replay};
 ghost use Rattle.portal_cli.specs.Valid.{IsValid};

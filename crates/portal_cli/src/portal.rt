@@ -5,12 +5,13 @@
 ghost use Rattle.std.specs.Prelude.{◌≡◌, ◌≢◌, IsTrue, IfOk, OnOk, OnErr};
 
 use crate::call::{Call, Event, Refusal, Reply};
-use crate::decide::{Decision, Plan, commit, decide, prepare};
+use crate::decide::{Decision, Plan, decide};
 use org_roles::entry::{Membership, Org, User};
 use org_roles::people::People;
 use packages::package::Package;
 use portal_base::caller::Caller;
 use portal_base::copy::TryClone;
+use portal_base::ordered::{put, reserve};
 use portal_base::seq::Seq;
 use std::alloc::{AllocError, Global};
 use std::marker::Model;
@@ -131,9 +132,9 @@ impl Portal {
         ensures state { OnOk result (self.new ≡ changed (create_dataset dataset) self.old) }
         ensures kept { OnErr result (self.new ≡ self.old) }
     {
-        match prepare(&mut self.datasets) {
+        match reserve(&mut self.datasets) {
             Ok(()) => {
-                commit(&mut self.datasets, dataset);
+                put(&mut self.datasets, dataset);
                 Ok(())
             }
             Err(refused) => Err(refused),
