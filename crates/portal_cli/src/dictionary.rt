@@ -1,14 +1,11 @@
 //! The dictionaries in which replies show things.
-ghost use Rattle.std.specs.Prelude.{◌≡◌, [], ◌∷◌, ◌++◌, pos, map, decimal, IfOk, OnOk};
-ghost use Rattle.portal_base.specs.MomentText.{moment_text};
-ghost use Rattle.portal_base.specs.declared.json_value.Json.{Text as text_value, Whole as whole_value};
-ghost use Rattle.portal_cli.specs.Dictionary.{state_name, organization_title, organization_dictionary, tag_dictionary, resource_id, resource_dictionary, resource_dictionaries, described, placed, listed, package_dictionary};
+ghost use Rattle.std.specs.Prelude.{◌≡◌, ◌∷◌, ◌++◌, map, decimal, IfOk};
+ghost use Rattle.portal_cli.specs.Dictionary.{state_name, organization_title, organization_dictionary, tag_dictionary, resource_id, resource_dictionary, resource_dictionaries, package_dictionary};
 
 use org_roles::people::People;
 use packages::package::{Package, Resource, State};
+use portal_base::dictionary::Value;
 use portal_base::json_value::Json;
-use portal_base::members::Members;
-use portal_base::moment::Moment;
 use portal_base::seq::Seq;
 use portal_base::text::Text;
 use std::alloc::{AllocError, Global};
@@ -35,20 +32,27 @@ fn title_of_organization<'a>(people: &'a People, name: &Text) -> &'a str
 fn organization_json(alloc: Global, people: &People, name: &Text) -> Result<Json, AllocError>
     ensures { IfOk result (λ json. json ≡ organization_dictionary people.now name.now) }
 {
-    let mut members = Members::new(alloc);
-    members.add_text("id", name.as_str())?;
-    members.add_text("name", name.as_str())?;
-    members.add_text("title", title_of_organization(people, name))?;
-    Ok(members.into_json())
+    let title = title_of_organization(people, name);
+    Json::dictionary(
+        alloc,
+        [
+            ("id", Value::Text(name)),
+            ("name", Value::Text(name)),
+            ("title", Value::Str(title)),
+        ],
+    )
 }
 
 fn tag_json(alloc: Global, tag: &Text) -> Result<Json, AllocError>
     ensures { IfOk result (λ json. json ≡ tag_dictionary tag.now) }
 {
-    let mut members = Members::new(alloc);
-    members.add_text("display_name", tag.as_str())?;
-    members.add_text("name", tag.as_str())?;
-    Ok(members.into_json())
+    Json::dictionary(
+        alloc,
+        [
+            ("display_name", Value::Text(tag)),
+            ("name", Value::Text(tag)),
+        ],
+    )
 }
 
 fn tags_json(alloc: Global, tags: &[Text]) -> Result<Seq<Json>, AllocError>
@@ -61,12 +65,6 @@ fn tags_json(alloc: Global, tags: &[Text]) -> Result<Seq<Json>, AllocError>
     Ok(Seq::from(list))
 }
 
-fn whole(count: usize) -> Json
-    ensures { result ≡ whole_value (pos count) }
-{
-    Json::Whole(count as i128)
-}
-
 fn id_of_resource(alloc: Global, dataset: &Text, number: u32) -> Result<Text, AllocError>
     ensures { IfOk result (λ id. id ≡ dataset.now ++ 46 ∷ decimal number) }
 {
@@ -75,26 +73,29 @@ fn id_of_resource(alloc: Global, dataset: &Text, number: u32) -> Result<Text, Al
     Ok(Text::from(id))
 }
 
-fn resource_json(
+fn resource_json<'a>(
     alloc: Global,
-    dataset: &Text,
+    dataset: &'a Text,
     position: usize,
-    resource: &Resource,
+    resource: &'a Resource,
 ) -> Result<Json, AllocError>
     ensures { IfOk result (λ json. json ≡ resource_dictionary dataset.now position resource.now) }
 {
     let id = id_of_resource(alloc, dataset, resource.number)?;
-    let mut members = Members::new(alloc);
-    members.add("datastore_active", Json::Truth(false))?;
-    members.add_text("description", resource.description.as_str())?;
-    members.add_text("format", resource.format.as_str())?;
-    members.add("id", Json::Text(id))?;
-    members.add_text("mimetype", resource.mimetype.as_str())?;
-    members.add_text("name", resource.name.as_str())?;
-    members.add_text("package_id", dataset.as_str())?;
-    members.add("position", whole(position))?;
-    members.add_text("url", resource.url.as_str())?;
-    Ok(members.into_json())
+    Json::dictionary(
+        alloc,
+        [
+            ("datastore_active", Value::Truth(false)),
+            ("description", Value::Text(&resource.description)),
+            ("format", Value::Text(&resource.format)),
+            ("id", Value::Json(Json::Text(id))),
+            ("mimetype", Value::Text(&resource.mimetype)),
+            ("name", Value::Text(&resource.name)),
+            ("package_id", Value::Text(dataset)),
+            ("position", Value::Whole(position)),
+            ("url", Value::Text(&resource.url)),
+        ],
+    )
 }
 
 fn resources_json(
@@ -111,69 +112,37 @@ fn resources_json(
     Ok(Seq::from(list))
 }
 
-fn add_moment(
-    alloc: Global,
-    members: &mut Members,
-    key: &str,
-    moment: Moment,
-) -> Result<(), AllocError>
-    ensures { OnOk result (members.new ≡ members.old ++ (key.now, text_value (moment_text moment)) ∷ []) }
-{
-    let text = moment.text(alloc)?;
-    members.add(key, Json::Text(text))
-}
-
-fn describe(alloc: Global, members: &mut Members, dataset: &Package) -> Result<(), AllocError>
-    ensures { OnOk result (members.new ≡ members.old ++ described dataset.now) }
-{
-    members.add_text("author", dataset.author.as_str())?;
-    members.add_text("creator_user_id", dataset.creator.as_str())?;
-    members.add_text("id", dataset.id.as_str())?;
-    members.add_text("license_id", dataset.license_id.as_str())?;
-    members.add_text("maintainer", dataset.maintainer.as_str())?;
-    add_moment(alloc, members, "metadata_created", dataset.created)?;
-    add_moment(alloc, members, "metadata_modified", dataset.modified)?;
-    members.add_text("name", dataset.name.as_str())?;
-    members.add_text("notes", dataset.notes.as_str())
-}
-
-fn place(
-    alloc: Global,
-    members: &mut Members,
-    people: &People,
-    dataset: &Package,
-) -> Result<(), AllocError>
-    ensures { OnOk result (members.new ≡ members.old ++ placed people.now dataset.now) }
-{
-    members.add("num_resources", whole(dataset.resources.len()))?;
-    members.add("num_tags", whole(dataset.tags.len()))?;
-    let organization = organization_json(alloc, people, &dataset.owner_org)?;
-    members.add("organization", organization)?;
-    members.add_text("owner_org", dataset.owner_org.as_str())?;
-    members.add("private", Json::Truth(dataset.private))
-}
-
-fn list(alloc: Global, members: &mut Members, dataset: &Package) -> Result<(), AllocError>
-    ensures { OnOk result (members.new ≡ members.old ++ listed dataset.now) }
-{
-    let resources = resources_json(alloc, &dataset.id, dataset.resources.as_slice())?;
-    members.add("resources", Json::List(resources))?;
-    members.add_text("state", name_of_state(dataset.state))?;
-    let tags = tags_json(alloc, dataset.tags.as_slice())?;
-    members.add("tags", Json::List(tags))?;
-    members.add_text("title", dataset.title.as_str())?;
-    members.add_text("type", "dataset")?;
-    members.add_text("url", dataset.url.as_str())?;
-    members.add_text("version", dataset.version.as_str())
-}
-
 /// The dictionary of a dataset. Its keys are those of CKAN 2.10's package dictionary that the portal keeps.
 pub fn package_json(alloc: Global, people: &People, dataset: &Package) -> Result<Json, AllocError>
     ensures { IfOk result (λ json. json ≡ package_dictionary people.now dataset.now) }
 {
-    let mut members = Members::new(alloc);
-    describe(alloc, &mut members, dataset)?;
-    place(alloc, &mut members, people, dataset)?;
-    list(alloc, &mut members, dataset)?;
-    Ok(members.into_json())
+    let organization = organization_json(alloc, people, &dataset.owner_org)?;
+    let resources = resources_json(alloc, &dataset.id, dataset.resources.as_slice())?;
+    let tags = tags_json(alloc, dataset.tags.as_slice())?;
+    Json::dictionary(
+        alloc,
+        [
+            ("author", Value::Text(&dataset.author)),
+            ("creator_user_id", Value::Text(&dataset.creator)),
+            ("id", Value::Text(&dataset.id)),
+            ("license_id", Value::Text(&dataset.license_id)),
+            ("maintainer", Value::Text(&dataset.maintainer)),
+            ("metadata_created", Value::Moment(dataset.created)),
+            ("metadata_modified", Value::Moment(dataset.modified)),
+            ("name", Value::Text(&dataset.name)),
+            ("notes", Value::Text(&dataset.notes)),
+            ("num_resources", Value::Whole(dataset.resources.len())),
+            ("num_tags", Value::Whole(dataset.tags.len())),
+            ("organization", Value::Json(organization)),
+            ("owner_org", Value::Text(&dataset.owner_org)),
+            ("private", Value::Truth(dataset.private)),
+            ("resources", Value::List(resources)),
+            ("state", Value::Static(name_of_state(dataset.state))),
+            ("tags", Value::List(tags)),
+            ("title", Value::Text(&dataset.title)),
+            ("type", Value::Static("dataset")),
+            ("url", Value::Text(&dataset.url)),
+            ("version", Value::Text(&dataset.version)),
+        ],
+    )
 }

@@ -4,8 +4,9 @@ ghost use Rattle.portal_cli.specs.Reply.{help_of, kind_name, right_name, refusal
 
 use crate::call::{Kind, Refusal, Reply, Right};
 use crate::request::Action;
+use portal_base::copy::TryClone;
+use portal_base::dictionary::Value;
 use portal_base::json_value::Json;
-use portal_base::members::Members;
 use portal_base::seq::Seq;
 use portal_base::text::Text;
 use std::alloc::{AllocError, Global};
@@ -64,44 +65,47 @@ fn joined(alloc: Global, first: &str, second: &str) -> Result<Text, AllocError>
     Ok(Text::from(string))
 }
 
-fn error_json(alloc: Global, kind: &str, message: &str) -> Result<Json, AllocError>
-    ensures { IfOk result (λ json. json ≡ error_dictionary kind.now message.now) }
+fn error_json(alloc: Global, kind: &'static str, message: Text) -> Result<Json, AllocError>
+    ensures { IfOk result (λ json. json ≡ error_dictionary kind.now message) }
 {
-    let mut members = Members::new(alloc);
-    members.add_text("__type", kind)?;
-    members.add_text("message", message)?;
-    Ok(members.into_json())
+    Json::dictionary(
+        alloc,
+        [
+            ("__type", Value::Static(kind)),
+            ("message", Value::Json(Json::Text(message))),
+        ],
+    )
 }
 
 /// An error whose message ends in the name of what it speaks of.
 fn named_error_json(
     alloc: Global,
-    kind: &str,
+    kind: &'static str,
     message: &str,
     name: &str,
 ) -> Result<Json, AllocError>
     ensures { IfOk result (λ json. json ≡ error_dictionary kind.now (message.now ++ name.now)) }
 {
-    let message = joined(alloc, message, name)?;
-    error_json(alloc, kind, message.as_str())
+    error_json(alloc, kind, joined(alloc, message, name)?)
 }
 
-fn validation_json(alloc: Global, key: &Text, message: &str) -> Result<Json, AllocError>
+fn validation_json(alloc: Global, key: &Text, message: &'static str) -> Result<Json, AllocError>
     ensures { IfOk result (λ json. json ≡ validation_dictionary key.now message.now) }
 {
     let mut messages = Vec::with_capacity(alloc, 1)?;
-    messages.push(Json::Text(Text::from_str(alloc, message)?))?;
-    let mut members = Members::new(alloc);
-    members.add_text("__type", "Validation Error")?;
-    members.add(key.as_str(), Json::List(Seq::from(messages)))?;
-    Ok(members.into_json())
+    messages.push(Json::Text(Text::from_static(message)))?;
+    let kind = Json::Text(Text::from_static("Validation Error"));
+    let mut members = Vec::with_capacity(alloc, 2)?;
+    members.push((Text::from_static("__type"), kind))?;
+    members.push((key.try_clone(alloc)?, Json::List(Seq::from(messages))))?;
+    Ok(Json::Map(Seq::from(members)))
 }
 
 fn refusal_json(alloc: Global, refusal: &Refusal) -> Result<Json, AllocError>
     ensures { IfOk result (λ json. json ≡ refusal_dictionary refusal.now) }
 {
     match refusal {
-        Refusal::NotBuilt => error_json(alloc, "Bad Request", "Not built yet"),
+        Refusal::NotBuilt => error_json(alloc, "Bad Request", Text::from_static("Not built yet")),
         Refusal::NotFound(kind) => named_error_json(
             alloc,
             "Not Found Error",
@@ -117,7 +121,11 @@ fn refusal_json(alloc: Global, refusal: &Refusal) -> Result<Json, AllocError>
             )
         }
         Refusal::NameInUse(key) => validation_json(alloc, key, "That name is already in use"),
-        Refusal::OutOfMemory => error_json(alloc, "Memory Error", "Want of memory"),
+        Refusal::OutOfMemory => error_json(
+            alloc,
+            "Memory Error",
+            Text::from_static("Want of memory"),
+        ),
     }
 }
 
@@ -136,21 +144,30 @@ fn help_of_refusal(alloc: Global, action: Action, refusal: &Refusal) -> Result<T
 fn success_json(alloc: Global, action: Action, value: Json) -> Result<Json, AllocError>
     ensures { IfOk result (λ json. json ≡ success_dictionary action value) }
 {
-    let mut members = Members::new(alloc);
-    members.add("help", Json::Text(help_text(alloc, action)?))?;
-    members.add("result", value)?;
-    members.add("success", Json::Truth(true))?;
-    Ok(members.into_json())
+    let help = help_text(alloc, action)?;
+    Json::dictionary(
+        alloc,
+        [
+            ("help", Value::Json(Json::Text(help))),
+            ("result", Value::Json(value)),
+            ("success", Value::Truth(true)),
+        ],
+    )
 }
 
 fn failure_json(alloc: Global, action: Action, refusal: &Refusal) -> Result<Json, AllocError>
     ensures { IfOk result (λ json. json ≡ failure_dictionary action refusal.now) }
 {
-    let mut members = Members::new(alloc);
-    members.add("error", refusal_json(alloc, refusal)?)?;
-    members.add("help", Json::Text(help_of_refusal(alloc, action, refusal)?))?;
-    members.add("success", Json::Truth(false))?;
-    Ok(members.into_json())
+    let error = refusal_json(alloc, refusal)?;
+    let help = help_of_refusal(alloc, action, refusal)?;
+    Json::dictionary(
+        alloc,
+        [
+            ("error", Value::Json(error)),
+            ("help", Value::Json(Json::Text(help))),
+            ("success", Value::Truth(false)),
+        ],
+    )
 }
 
 fn json_of_reply(alloc: Global, action: Action, reply: Reply) -> Result<Json, AllocError>

@@ -1,6 +1,15 @@
--- The three parts that were added are the dictionary's.
+-- The values that were made before are the dictionary's.
 use Rattle.portal_cli.proofs.dictionary.package_json.Goals as goal
 
 pub returns : goal.returns
 returns c =
-    rw (c.into_json.ensures, c.in_ok-list.ensures, c.in_ok-place.ensures, c.in_ok-describe.ensures, c.new-members.ensures)
+    rw (
+      c.in_ok-organization.ensures,
+      c.in_ok-resources.ensures,
+      c.in_ok-tags.ensures,
+      c.as_slice.ensures,
+      c.as_slice-2.ensures,
+      c.len.ensures,
+      c.len-2.ensures,
+      c.name_of_state.ensures,
+    ) at c.dictionary.ensures.same
