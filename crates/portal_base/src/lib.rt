@@ -9,7 +9,6 @@ pub mod json_value;
 pub mod kind_laws;
 pub mod kinds;
 pub mod lent;
-pub mod members;
 pub mod memory;
 pub mod moment;
 pub mod name;
