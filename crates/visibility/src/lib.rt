@@ -4,5 +4,3 @@
 pub mod class;
 pub mod laws;
 pub mod sight;
-#[cfg(test)]
-mod tests;
