@@ -5,5 +5,3 @@ pub mod entry;
 mod order;
 pub mod people;
 pub mod role;
-#[cfg(test)]
-mod tests;

@@ -3,5 +3,3 @@
 
 mod order;
 pub mod package;
-#[cfg(test)]
-mod tests;

@@ -1,7 +1,7 @@
 //! A portal of five users and one organization.
-use crate::entry::{Membership, Org, User};
-use crate::people::{People, names_are_distinct, org_names_are_distinct, pairs_are_distinct};
-use crate::role::{Role, rights_of};
+use org_roles::entry::{Membership, Org, User};
+use org_roles::people::{People, names_are_distinct, org_names_are_distinct, pairs_are_distinct};
+use org_roles::role::{Role, rights_of};
 use portal_base::caller::Caller;
 use portal_base::copy::TryClone;
 use portal_base::moment::Moment;

@@ -1,5 +1,5 @@
 //! A fresh dataset, and its copy.
-use crate::package::{Package, State};
+use packages::package::{Package, State};
 use portal_base::copy::TryClone;
 use portal_base::moment::Moment;
 use portal_base::text::Text;
