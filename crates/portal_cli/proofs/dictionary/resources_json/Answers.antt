@@ -14,10 +14,10 @@ one_more :
 one_more dataset i resources resource made all json within is made_of before =
     let first = ap (λ (r : Resource). r ∷ drop (suc i) resources) (sym is) in
     let split : drop i resources ≡ resource ∷ drop (i + 1) resources =
-        rw add-one (drop-cons resources i resource within ∙ first) in
+    rw add-one (drop-cons resources i resource within ∙ first) in
     let step : resource_dictionaries dataset i (drop i resources)
-            ≡ resource_dictionary dataset i resource ∷ resource_dictionaries dataset (i + 1) (drop (i + 1) resources) =
-        ap (resource_dictionaries dataset i) split in
+    ≡ resource_dictionary dataset i resource ∷ resource_dictionaries dataset (i + 1) (drop (i + 1) resources) =
+    ap (resource_dictionaries dataset i) split in
     rw (append_assoc, made_of) (ap (λ (rest : List Json). made ++ rest) (sym step) ∙ before)
 
 pub loop-position-preserved : goal.loop-position-preserved
