@@ -1,13 +1,3 @@
-mod Deciding
 mod Examples
-pub mod Filtering
-pub mod Hiding
-pub mod Histories
-pub mod Isolating
-pub mod Keeping
-pub mod Playing
-mod Replaying
 mod StreamExamples
 pub mod Streaming
-pub mod Viewing
-pub mod Working

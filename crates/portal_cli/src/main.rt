@@ -2,18 +2,8 @@
 //! output.
 #![tactic(auto)]
 
-mod call;
-mod decide;
-mod dictionary;
-pub mod laws;
-mod play;
-pub mod portal;
 pub mod real;
-pub mod reply;
-mod request;
 pub mod run;
-mod script;
-mod stated;
 #[cfg(test)]
 mod tests;
 

@@ -1,13 +1,13 @@
 //! The program's call: a script is read from input, worked line by line, and its transcript is written to output.
 ghost use Rattle.std.specs.Prelude.{◌≡◌, ◌↔◌, ℕ, List, Some, false, map, string_bytes, codes};
 ghost use Rattle.portal_base.specs.Outside.{Rose};
-ghost use Rattle.portal_cli.specs.Run.{is_play, status_code, devices, PlaysAll, PlaysPart, GaveTooMuch, IsCut, most_begun};
-ghost use Rattle.portal_cli.specs.Stated.{stated_state};
-ghost use Rattle.portal_cli.specs.Stopped.{status_for};
+ghost use Rattle.portal_cli.specs.Status.{is_play, status_code, status_for, IsCut, most_begun};
+ghost use Rattle.portal_serve.specs.Run.{devices, PlaysAll, PlaysPart, GaveTooMuch};
+ghost use Rattle.portal_serve.specs.Stated.{stated_state};
 
-use crate::play::{Stop, play};
 use portal_base::outside::{Clock, Nonces, Sink, Source};
 use portal_base::text::Text;
+use portal_serve::play::{Stop, play};
 use std::alloc::Global;
 
 /// How a run ended. Each is the process's exit status by `code`.

@@ -11,6 +11,7 @@ mod foreign;
 mod form;
 mod keys;
 pub mod laws;
+mod members;
 mod options;
 mod print;
 mod reading;

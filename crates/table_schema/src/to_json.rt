@@ -9,9 +9,9 @@ use crate::constraint::Constraints;
 use crate::field::Field;
 use crate::foreign::Foreign;
 use crate::form::{Form, Kind};
+use crate::members::Members;
 use crate::print::cell_json;
 use portal_base::json_value::Json;
-use portal_base::members::Members;
 use portal_base::seq::Seq;
 use portal_base::text::Text;
 use std::alloc::{AllocError, Global};
@@ -167,7 +167,7 @@ fn cells_json(alloc: Global, cells: &[Cell]) -> Result<Json, AllocError>
 }
 
 // Adds a length, if there is one.
-fn add_length(members: &mut Members, key: &str, length: Option<i128>) -> Result<(), AllocError>
+fn add_length(members: &mut Members, key: &'static str, length: Option<i128>) -> Result<(), AllocError>
     ensures { OnOk result (members.new ≡ members.old ++ member_where key.now whole_value length) }
 {
     match length {
@@ -180,7 +180,7 @@ fn add_length(members: &mut Members, key: &str, length: Option<i128>) -> Result<
 fn add_bound(
     alloc: Global,
     members: &mut Members,
-    key: &str,
+    key: &'static str,
     bound: &Option<Cell>,
 ) -> Result<(), AllocError>
     requires { IfSome bound.now IsValue }
@@ -193,7 +193,7 @@ fn add_bound(
 }
 
 // Adds a truth value, if it is true.
-fn add_truth(members: &mut Members, key: &str, truth: bool) -> Result<(), AllocError>
+fn add_truth(members: &mut Members, key: &'static str, truth: bool) -> Result<(), AllocError>
     ensures { OnOk result (members.new ≡ members.old ++ member_if key.now truth) }
 {
     if truth {

@@ -1,12 +1,22 @@
 //! Runs over devices that fail, each at every call that a run reaches, and over narrow ones.
-use super::{CREATE, CREATE_QUIET, CREATED, SHOW, SHOWN, both, play_over, seq_of};
-use crate::run::run;
 use portal_base::counted::{CountNonces, ScriptClock};
 use portal_base::memory::{MemorySink, MemorySource};
 use portal_base::outside::{Failed, Sink, Source};
 use portal_base::seq::Seq;
+use crate::run::run;
 use std::alloc::Global;
 use std::test::Fail;
+
+const CREATED: &str =
+    "200 {\"help\":\"/api/3/action/help_show?name=package_create\",\"result\":{\"author\":\"\",\"creator_user_id\":\"ann\",\"id\":\"00000000-0000-0000-0000-000000000001\",\"license_id\":\"\",\"maintainer\":\"\",\"metadata_created\":\"2024-01-01T00:00:00\",\"metadata_modified\":\"2024-01-01T00:00:00\",\"name\":\"air-quality\",\"notes\":\"\",\"num_resources\":0,\"num_tags\":0,\"organization\":{\"id\":\"city\",\"name\":\"city\",\"title\":\"City\"},\"owner_org\":\"city\",\"private\":false,\"resources\":[],\"state\":\"active\",\"tags\":[],\"title\":\"Air quality\",\"type\":\"dataset\",\"url\":\"\",\"version\":\"\"},\"success\":true}\n";
+
+const SHOWN: &str =
+    "200 {\"help\":\"/api/3/action/help_show?name=package_show\",\"result\":{\"author\":\"\",\"creator_user_id\":\"ann\",\"id\":\"00000000-0000-0000-0000-000000000001\",\"license_id\":\"\",\"maintainer\":\"\",\"metadata_created\":\"2024-01-01T00:00:00\",\"metadata_modified\":\"2024-01-01T00:00:00\",\"name\":\"air-quality\",\"notes\":\"\",\"num_resources\":0,\"num_tags\":0,\"organization\":{\"id\":\"city\",\"name\":\"city\",\"title\":\"City\"},\"owner_org\":\"city\",\"private\":false,\"resources\":[],\"state\":\"active\",\"tags\":[],\"title\":\"Air quality\",\"type\":\"dataset\",\"url\":\"\",\"version\":\"\"},\"success\":true}\n";
+
+const CREATE: &str =
+    "{\"action\":\"package_create\",\"as\":\"ann\",\"body\":{\"name\":\"air-quality\",\"owner_org\":\"city\",\"title\":\"Air quality\"}}\n";
+
+const SHOW: &str = "{\"action\":\"package_show\",\"body\":{\"id\":\"air-quality\"}}\n";
 
 /// A source that gives one byte at a time.
 #[derive(Drop)]
@@ -50,6 +60,15 @@ impl<O: Sink> Sink for Narrow<O> {
     }
 }
 
+/// The two texts, one after the other.
+fn both(alloc: Global, first: &str, second: &str) -> Result<String, Fail> {
+    Ok(format!(in alloc; "{first}{second}")?)
+}
+
+fn seq_of(alloc: Global, items: &[u64]) -> Result<Seq<u64>, Fail> {
+    Ok(Seq::from(items.to_vec(alloc)?))
+}
+
 /// A source in memory that fails at these calls.
 fn source(alloc: Global, script: &str, failing: &[u64]) -> Result<MemorySource, Fail> {
     let bytes = Seq::from(script.as_bytes().to_vec(alloc)?);
@@ -77,26 +96,6 @@ fn status_over<S: Source, O: Sink>(
         &mut CountNonces::new(),
     );
     Ok(status.code())
-}
-
-#[test]
-fn input_fails_at_its_first_read(rt: HostRuntime) -> Result<(), Fail> {
-    let alloc = rt.alloc();
-    let script = both(alloc, CREATE, CREATE)?;
-    let play = play_over(alloc, script.as_str(), "play", &[1], &[], 10_000)?;
-    assert_eq!(rt; play.code, 3);
-    assert_eq!(rt; play.written.as_str(), "");
-    Ok(())
-}
-
-#[test]
-fn output_has_room_for_ten_bytes(rt: HostRuntime) -> Result<(), Fail> {
-    let alloc = rt.alloc();
-    let script = both(alloc, CREATE, CREATE)?;
-    let play = play_over(alloc, script.as_str(), "play", &[], &[], 10)?;
-    assert_eq!(rt; play.code, 4);
-    assert_eq!(rt; play.written.as_str(), "200 {\"help");
-    Ok(())
 }
 
 #[test]
@@ -186,37 +185,6 @@ fn output_is_full_after_each_byte(rt: HostRuntime) -> Result<(), Fail> {
             &bytes[..room],
             "with room for {room} bytes"
         );
-    }
-    Ok(())
-}
-
-#[test]
-fn answers_with_ample_memory(rt: HostRuntime) -> Result<(), Fail> {
-    let alloc = rt.alloc();
-    for (script, start) in [
-        (CREATE, "200 "),
-        (CREATE_QUIET, "200 "),
-        (SHOW, "404 "),
-        (
-            "{\"action\":\"package_create\",\"as\":\"bob\",\"body\":{\"name\":\"b1\",\"owner_org\":\"city\"}}\n",
-            "403 ",
-        ),
-        (
-            "{\"action\":\"package_create\",\"body\":{\"name\":\"b1\",\"owner_org\":\"city\"}}\n",
-            "403 ",
-        ),
-        (
-            "{\"action\":\"package_show\",\"as\":\"root\",\"body\":{\"id\":\"x\"}}\n",
-            "404 ",
-        ),
-        ("{\"action\":\"package_list\"}\n", "501 "),
-        ("[1]\n", "501 "),
-        ("", ""),
-    ] {
-        let play = play_over(alloc, script, "play", &[], &[], 10_000)?;
-        assert_eq!(rt; play.code, 0, "at {script}");
-        assert!(rt; play.written.as_str().starts_with(start), "at {script}");
-        assert_eq!(rt; play.written.is_empty(), script.is_empty(), "at {script}");
     }
     Ok(())
 }

@@ -1,0 +1,35 @@
+-- The opening that every run begins with.
+use Rattle.std.specs.Prelude.{ℕ, List, [], ◌∷◌, Bool, true, false, codes, pos}
+use Rattle.org_roles.specs.declared.entry.User.{User}
+use Rattle.org_roles.specs.declared.entry.Org.{Org}
+use Rattle.org_roles.specs.declared.entry.Membership.{Membership}
+use Rattle.org_roles.specs.declared.role.Role.{Role}
+use Rattle.org_roles.specs.declared.role.Role.TheVariants.{Member, Editor, Admin}
+use Rattle.portal_serve.specs.State.{State}
+
+abbrev pub a_user : List ℕ → Bool → User
+a_user name sysadmin = record { name = name; sysadmin = sysadmin }
+
+abbrev pub city_role : List ℕ → Role → Membership
+city_role user role = record { org = codes "city"; user = user; role = role }
+
+-- ann, bob, cyn and dan, and root, who is a sysadmin
+abbrev pub stated_users : List User
+stated_users =
+    a_user (codes "ann") false ∷ a_user (codes "bob") false ∷ a_user (codes "cyn") false ∷ a_user (codes "dan") false
+    ∷ a_user (codes "root") true ∷ []
+
+-- the organization `city`, made at 1970-01-01T00:00:00
+abbrev pub stated_org : Org
+stated_org = record { name = codes "city"; title = codes "City"; description = []; created = pos 0 }
+
+-- ann edits, bob is a member, cyn administers
+abbrev pub stated_roles : List Membership
+stated_roles = city_role (codes "ann") Editor ∷ city_role (codes "bob") Member ∷ city_role (codes "cyn") Admin ∷ []
+
+-- The state before the first line of a script: these people, and no dataset.
+abbrev pub stated_state : State
+stated_state = record {
+  people = record { users = stated_users; orgs = stated_org ∷ []; roles = stated_roles };
+  datasets = [];
+}

@@ -1,0 +1,269 @@
+//! Playing a script: the loop over its lines, which holds one line and the portal.
+ghost use Rattle.std.specs.Prelude.{◌≡◌, ◌↔◌, ◌<◌, ◌≤◌, ℕ, List, [], ◌∷◌, true, false, Some, Ok, Err, length, IfOk, IfErr, OnOk, OnErr};
+ghost use Rattle.portal_base.specs.Outside.{Rose, Takes, TakesPrefix};
+ghost use Rattle.portal_serve.specs.Played.{WorksLines, StopsLines, TakesTurn, EndsTurn, StopsTurn, unless_empty};
+ghost use Rattle.portal_serve.specs.Stopped.{IsOfLine, stop_for, begun_at};
+ghost use Rattle.portal_serve.specs.Run.{outlet, devices};
+ghost use Rattle.portal_lines.specs.Lines.{bytes_left};
+ghost use Rattle.portal_serve.specs.Reply.{not_built_line};
+ghost use Rattle.portal_serve.specs.Run.{PlaysAll, PlaysPart, GaveTooMuch};
+ghost use Rattle.portal_serve.specs.Script.{call_of_line};
+ghost use Rattle.portal_serve.specs.Stated.{stated_state};
+ghost use Rattle.portal_serve.specs.Seen.{asked};
+ghost use Rattle.portal_serve.specs.Step.{step_of};
+
+use crate::call::{Call, Event, Refusal, Reply};
+use crate::portal::Portal;
+use crate::reply::line_of_reply;
+use crate::script::{LONGEST_LINE, ScriptCall, read_call};
+use crate::stated::stated_portal;
+use portal_base::outside::{Clock, Nonces, Sink, Source};
+use portal_lines::lines::{LineFault, LineReader, NextLine};
+use portal_lines::write::write_whole;
+use std::alloc::{AllocError, Global};
+
+/// The most bytes that input may give: 2^40.
+const MOST_INPUT: u64 = 1 << 40;
+
+/// The line for every line that isn't built so far.
+const NOT_BUILT_LINE: &str =
+    "501 {\"error\":{\"__type\":\"Bad Request\",\"message\":\"Not built yet\"},\"help\":\"\",\"success\":false}\n";
+
+/// Why a run ended before the end of its input.
+#[derive(Clone, Copy, Debug, PartialEq, Eq)]
+pub enum Stop {
+    /// Input's count of faults rose.
+    ReadFault,
+    /// Output's count of faults rose.
+    WriteFault,
+    /// Input gave more than 2^40 bytes.
+    TooMuch,
+    /// Want of memory.
+    OutOfMemory,
+}
+
+impl From<AllocError> for Stop {
+    ghost use Rattle.std.specs.Prelude.{◌≡◌};
+    ghost use Rattle.portal_serve.specs.declared.play.Stop.TheVariants.{OutOfMemory};
+
+    ghost from_gives = { λ _ stop. stop ≡ OutOfMemory };
+
+    fn from(_refused: AllocError) -> Stop {
+        Stop::OutOfMemory
+    }
+}
+
+/// Writes a line of the transcript.
+fn write_line<O: Sink>(output: &mut O, line: &str) -> Result<(), Stop>
+    ensures ok { OnOk result (Takes (O.taken output.old) line.now (O.taken output.new)) }
+    ensures failed { OnErr result (TakesPrefix (O.taken output.old) line.now (O.taken output.new)) }
+    ensures fault { OnErr result (Rose (O.faults output.old) (O.faults output.new)) }
+    ensures stop { OnErr result (result ≡ Err Stop.WriteFault) }
+    ensures counts { O.faults output.old ≤ O.faults output.new }
+{
+    match write_whole(output, line.as_bytes()) {
+        Ok(()) => Ok(()),
+        Err(_failed) => Err(Stop::WriteFault),
+    }
+}
+
+/// Works an event, and stops for want of memory.
+fn act_or_stop(portal: &mut Portal, event: &Event) -> Result<Reply, Stop>
+    ensures reply { IfOk result (λ reply. reply ≡ (step_of portal.old event.now).reply) }
+    ensures state { OnOk result (portal.new ≡ (step_of portal.old event.now).state) }
+    ensures stop { OnErr result (result ≡ Err Stop.OutOfMemory) }
+{
+    match portal.act(event) {
+        Reply::Refused(Refusal::OutOfMemory) => Err(Stop::OutOfMemory),
+        reply => Ok(reply),
+    }
+}
+
+/// Works the call that a line asks for.
+fn play_call<O: Sink, C: Clock, N: Nonces>(
+    alloc: Global,
+    portal: &mut Portal,
+    said: ScriptCall,
+    line: &[u8],
+    output: &mut O,
+    clock: &mut C,
+    nonces: &mut N,
+) -> Result<(), Stop>
+    requires { call_of_line line.now ≡ Some (asked said) }
+    ensures ok { OnOk result (WorksLines portal.old (line.now ∷ []) portal.new
+        (outlet (O.taken output.old) (C.given clock.old) (N.given nonces.old))
+        (outlet (O.taken output.new) (C.given clock.new) (N.given nonces.new))) }
+    ensures cut { OnErr result (StopsLines portal.old (line.now ∷ [])
+        (outlet (O.taken output.old) (C.given clock.old) (N.given nonces.old))
+        (outlet (O.taken output.new) (C.given clock.new) (N.given nonces.new))) }
+    ensures fault { result ≡ Err Stop.WriteFault → Rose (O.faults output.old) (O.faults output.new) }
+    ensures stop { IfErr result IsOfLine }
+    ensures counts { O.faults output.old ≤ O.faults output.new }
+{
+    let ScriptCall { caller, request } = said;
+    let action = request.action;
+    let moment = clock.now();
+    let nonce = nonces.next();
+    let event = Event::Call(Call {
+        caller: portal.known(caller),
+        request,
+        size: line.len() as u64,
+        moment,
+        nonce,
+    });
+    let reply = act_or_stop(portal, &event)?;
+    let text = line_of_reply(alloc, action, reply)?;
+    write_line(output, text.as_str())
+}
+
+/// Works a line that isn't empty.
+fn play_full_line<O: Sink, C: Clock, N: Nonces>(
+    alloc: Global,
+    portal: &mut Portal,
+    line: &[u8],
+    output: &mut O,
+    clock: &mut C,
+    nonces: &mut N,
+) -> Result<(), Stop>
+    requires { length line.now ≤ LONGEST_LINE }
+    ensures ok { OnOk result (WorksLines portal.old (line.now ∷ []) portal.new
+        (outlet (O.taken output.old) (C.given clock.old) (N.given nonces.old))
+        (outlet (O.taken output.new) (C.given clock.new) (N.given nonces.new))) }
+    ensures cut { OnErr result (StopsLines portal.old (line.now ∷ [])
+        (outlet (O.taken output.old) (C.given clock.old) (N.given nonces.old))
+        (outlet (O.taken output.new) (C.given clock.new) (N.given nonces.new))) }
+    ensures fault { result ≡ Err Stop.WriteFault → Rose (O.faults output.old) (O.faults output.new) }
+    ensures stop { IfErr result IsOfLine }
+    ensures counts { O.faults output.old ≤ O.faults output.new }
+{
+    match read_call(alloc, line)? {
+        Some(said) => play_call(alloc, portal, said, line, output, clock, nonces),
+        None => write_line(output, NOT_BUILT_LINE),
+    }
+}
+
+/// Works a line. An empty one is skipped.
+fn play_line<O: Sink, C: Clock, N: Nonces>(
+    alloc: Global,
+    portal: &mut Portal,
+    line: &[u8],
+    output: &mut O,
+    clock: &mut C,
+    nonces: &mut N,
+) -> Result<(), Stop>
+    requires { length line.now ≤ LONGEST_LINE }
+    ensures ok { OnOk result (WorksLines portal.old (unless_empty line.now) portal.new
+        (outlet (O.taken output.old) (C.given clock.old) (N.given nonces.old))
+        (outlet (O.taken output.new) (C.given clock.new) (N.given nonces.new))) }
+    ensures cut { OnErr result (StopsLines portal.old (unless_empty line.now)
+        (outlet (O.taken output.old) (C.given clock.old) (N.given nonces.old))
+        (outlet (O.taken output.new) (C.given clock.new) (N.given nonces.new))) }
+    ensures fault { result ≡ Err Stop.WriteFault → Rose (O.faults output.old) (O.faults output.new) }
+    ensures stop { IfErr result IsOfLine }
+    ensures counts { O.faults output.old ≤ O.faults output.new }
+{
+    if line.is_empty() {
+        Ok(())
+    } else {
+        play_full_line(alloc, portal, line, output, clock, nonces)
+    }
+}
+
+fn stop_of(fault: LineFault) -> Stop
+    ensures { result ≡ stop_for fault }
+{
+    match fault {
+        LineFault::Failed => Stop::ReadFault,
+        LineFault::TooMuch => Stop::TooMuch,
+        LineFault::OutOfMemory => Stop::OutOfMemory,
+    }
+}
+
+/// Works the next line of input, and says whether there was one.
+fn play_next<S: Source, O: Sink, C: Clock, N: Nonces>(
+    alloc: Global,
+    portal: &mut Portal,
+    reader: &mut LineReader,
+    input: &mut S,
+    output: &mut O,
+    clock: &mut C,
+    nonces: &mut N,
+) -> Result<bool, Stop>
+    requires { reader.old.longest ≡ LONGEST_LINE }
+    ensures longest { reader.new.longest ≡ reader.old.longest }
+    ensures most { reader.new.most ≡ reader.old.most }
+
+    ensures more { result ≡ Ok true → TakesTurn portal.old portal.new reader.old reader.new
+        (devices (S.to_come input.old) (O.taken output.old) (C.given clock.old) (N.given nonces.old))
+        (devices (S.to_come input.new) (O.taken output.new) (C.given clock.new) (N.given nonces.new)) }
+    ensures falls { result ≡ Ok true → bytes_left reader.new < bytes_left reader.old }
+    ensures end { result ≡ Ok false → EndsTurn portal.old portal.new reader.old reader.new
+        (devices (S.to_come input.old) (O.taken output.old) (C.given clock.old) (N.given nonces.old))
+        (devices (S.to_come input.new) (O.taken output.new) (C.given clock.new) (N.given nonces.new)) }
+    ensures within { OnOk result (reader.new.given ≤ reader.new.most) }
+
+    ensures cut { IfErr result (λ stop. StopsTurn (begun_at stop) portal.old reader.old reader.new
+        (devices (S.to_come input.old) (O.taken output.old) (C.given clock.old) (N.given nonces.old))
+        (devices (S.to_come input.new) (O.taken output.new) (C.given clock.new) (N.given nonces.new))) }
+    ensures read_fault { result ≡ Err Stop.ReadFault → Rose (S.faults input.old) (S.faults input.new) }
+    ensures write_fault { result ≡ Err Stop.WriteFault → Rose (O.faults output.old) (O.faults output.new) }
+    ensures too_much { (result ≡ Err Stop.TooMuch) ↔ (reader.new.most < reader.new.given) }
+    ensures reads { S.faults input.old ≤ S.faults input.new }
+    ensures writes { O.faults output.old ≤ O.faults output.new }
+{
+    match reader.next(input) {
+        Ok(NextLine::Line) => match play_line(alloc, portal, reader.line(), output, clock, nonces) {
+            Ok(()) => Ok(true),
+            Err(stop) => Err(stop),
+        },
+        Ok(NextLine::TooLong) => match write_line(output, NOT_BUILT_LINE) {
+            Ok(()) => Ok(true),
+            Err(stop) => Err(stop),
+        },
+        Ok(NextLine::End) => Ok(false),
+        Err(fault) => Err(stop_of(fault)),
+    }
+}
+
+/// Plays the script on input from the stated portal, and writes its transcript to output.
+pub fn play<S: Source, O: Sink, C: Clock, N: Nonces>(
+    alloc: Global,
+    input: &mut S,
+    output: &mut O,
+    clock: &mut C,
+    nonces: &mut N,
+) -> Result<(), Stop>
+    // Where input tells, all of it was read, and output took its transcript.
+    ensures done { OnOk result ((whole : List ℕ) → S.to_come input.old ≡ Some whole → PlaysAll stated_state whole
+        (devices (S.to_come input.old) (O.taken output.old) (C.given clock.old) (N.given nonces.old))
+        (devices (S.to_come input.new) (O.taken output.new) (C.given clock.new) (N.given nonces.new))) }
+    ensures cut { IfErr result (λ stop. (whole : List ℕ) → S.to_come input.old ≡ Some whole → PlaysPart (begun_at stop) stated_state whole
+        (devices (S.to_come input.old) (O.taken output.old) (C.given clock.old) (N.given nonces.old))
+        (devices (S.to_come input.new) (O.taken output.new) (C.given clock.new) (N.given nonces.new))) }
+
+    ensures read_fault { result ≡ Err Stop.ReadFault → Rose (S.faults input.old) (S.faults input.new) }
+    ensures write_fault { result ≡ Err Stop.WriteFault → Rose (O.faults output.old) (O.faults output.new) }
+    ensures too_much { (whole : List ℕ) → S.to_come input.old ≡ Some whole →
+        ((result ≡ Err Stop.TooMuch) ↔ GaveTooMuch whole (S.to_come input.new)) }
+{
+    let mut portal = stated_portal(alloc)?;
+    let mut reader = match LineReader::new(alloc, LONGEST_LINE, MOST_INPUT) {
+        Ok(reader) => reader,
+        Err(_refused) => return Err(Stop::OutOfMemory),
+    };
+    'lines: loop {
+        match play_next(
+            alloc,
+            &mut portal,
+            &mut reader,
+            input,
+            output,
+            clock,
+            nonces,
+        ) {
+            Ok(true) => {}
+            Ok(false) => return Ok(()),
+            Err(stop) => return Err(stop),
+        }
+    }
+}

@@ -1,0 +1,90 @@
+//! The portal that every run begins with: five users and one organization.
+ghost use Rattle.std.specs.Prelude.{◌≡◌, [], ◌∷◌, pos, IfOk};
+ghost use Rattle.portal_serve.specs.Stated.{a_user, city_role, stated_users, stated_org, stated_roles, stated_state};
+
+use crate::portal::{Opening, Portal};
+use org_roles::entry::{Membership, Org, User};
+use org_roles::role::Role;
+use portal_base::moment::Moment;
+use portal_base::seq::Seq;
+use portal_base::text::Text;
+use std::alloc::{AllocError, Global};
+
+fn user(alloc: Global, name: &str, sysadmin: bool) -> Result<User, AllocError>
+    ensures { IfOk result (λ user. user ≡ a_user name.now sysadmin) }
+{
+    let name = Text::from_str(alloc, name)?;
+    Ok(User { name, sysadmin })
+}
+
+fn users(alloc: Global) -> Result<Seq<User>, AllocError>
+    ensures { IfOk result (λ users. users ≡ stated_users) }
+{
+    let mut users = Vec::with_capacity(alloc, 5)?;
+    users.push(user(alloc, "ann", false)?)?;
+    users.push(user(alloc, "bob", false)?)?;
+    users.push(user(alloc, "cyn", false)?)?;
+    users.push(user(alloc, "dan", false)?)?;
+    users.push(user(alloc, "root", true)?)?;
+    Ok(Seq::from(users))
+}
+
+fn start_of_1970() -> Moment
+    ensures { result ≡ pos 0 }
+{
+    Moment::from_seconds(0).unwrap()
+}
+
+fn orgs(alloc: Global) -> Result<Seq<Org>, AllocError>
+    ensures { IfOk result (λ orgs. orgs ≡ stated_org ∷ []) }
+{
+    let mut orgs = Vec::with_capacity(alloc, 1)?;
+    orgs.push(Org {
+        name: Text::from_str(alloc, "city")?,
+        title: Text::from_str(alloc, "City")?,
+        description: Text::new(alloc),
+        created: start_of_1970(),
+    })?;
+    Ok(Seq::from(orgs))
+}
+
+fn role(alloc: Global, user: &str, role: Role) -> Result<Membership, AllocError>
+    ensures { IfOk result (λ membership. membership ≡ city_role user.now role) }
+{
+    let org = Text::from_str(alloc, "city")?;
+    let user = Text::from_str(alloc, user)?;
+    Ok(Membership { org, user, role })
+}
+
+fn roles(alloc: Global) -> Result<Seq<Membership>, AllocError>
+    ensures { IfOk result (λ roles. roles ≡ stated_roles) }
+{
+    let mut roles = Vec::with_capacity(alloc, 3)?;
+    roles.push(role(alloc, "ann", Role::Editor)?)?;
+    roles.push(role(alloc, "bob", Role::Member)?)?;
+    roles.push(role(alloc, "cyn", Role::Admin)?)?;
+    Ok(Seq::from(roles))
+}
+
+/// The opening: users `root` (a sysadmin), `ann`, `bob`, `cyn` and `dan`, the organization `city`, and in it ann as
+/// editor, bob as member and cyn as admin.
+pub fn stated_opening(alloc: Global) -> Result<Opening, AllocError>
+    ensures { IfOk result (λ opening. opening ≡ record { users = stated_users; orgs = stated_org ∷ []; roles = stated_roles }) }
+{
+    Ok(Opening {
+        users: users(alloc)?,
+        orgs: orgs(alloc)?,
+        roles: roles(alloc)?,
+    })
+}
+
+/// The portal of that opening.
+pub fn stated_portal(alloc: Global) -> Result<Portal, AllocError>
+    ensures { IfOk result (λ portal. portal ≡ stated_state) }
+{
+    let opening = stated_opening(alloc)?;
+    match Portal::open(alloc, &opening) {
+        Ok(portal) => Ok(portal),
+        Err(_fault) => Err(AllocError),
+    }
+}
