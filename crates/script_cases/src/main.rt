@@ -32,7 +32,7 @@ fn code_of(played: Result<(), Stop>) -> u8 {
 }
 
 /// Plays a script in memory.
-fn played(alloc: Global, script: &[u8]) -> Result<Played, AllocError> {
+fn play_in_memory(alloc: Global, script: &[u8]) -> Result<Played, AllocError> {
     let mut input = MemorySource::new(Seq::from(script.to_vec(alloc)?), Seq::new(alloc));
     let mut output = MemorySink::new(alloc, ROOM, Seq::new(alloc))?;
     let ended = play(
@@ -50,7 +50,7 @@ fn played(alloc: Global, script: &[u8]) -> Result<Played, AllocError> {
 
 /// A script: its transcript, and behind it the status where that isn't 0.
 fn transcript(alloc: Global, case: &Case) -> io::Result<Vec<u8>> {
-    let Played { code, mut written } = played(alloc, case.bytes(0))?;
+    let Played { code, mut written } = play_in_memory(alloc, case.bytes(0))?;
     if code != 0 {
         written.extend_from_slice(format!(in alloc; "status {code}\n")?.as_bytes())?;
     }

@@ -167,7 +167,11 @@ fn cells_json(alloc: Global, cells: &[Cell]) -> Result<Json, AllocError>
 }
 
 // Adds a length, if there is one.
-fn add_length(members: &mut Members, key: &'static str, length: Option<i128>) -> Result<(), AllocError>
+fn add_length(
+    members: &mut Members,
+    key: &'static str,
+    length: Option<i128>,
+) -> Result<(), AllocError>
     ensures { OnOk result (members.new ≡ members.old ++ member_where key.now whole_value length) }
 {
     match length {

@@ -1,9 +1,9 @@
 //! Runs over devices that fail, each at every call that a run reaches, and over narrow ones.
+use crate::run::run;
 use portal_base::counted::{CountNonces, ScriptClock};
 use portal_base::memory::{MemorySink, MemorySource};
 use portal_base::outside::{Failed, Sink, Source};
 use portal_base::seq::Seq;
-use crate::run::run;
 use std::alloc::Global;
 use std::test::Fail;
 
