@@ -10,8 +10,6 @@ mod pieces;
 mod record_reader;
 mod row;
 mod scan;
-#[cfg(test)]
-mod tests;
 
 pub use fault::LoadFault;
 pub use loader::Loader;
