@@ -4,6 +4,7 @@
 use portal_base::outside::Source;
 use portal_base::std_adapters::StdSource;
 use std::alloc::Global;
+use std::process::ExitCode;
 use std::{env, io};
 use table_schema::{Schema, SchemaFault};
 use thiserror::Error;
@@ -69,9 +70,15 @@ fn counted(rt: &(impl Input + env::Env + Alloc<A = Global>)) -> Result<u64, Faul
     rows_of(rt.alloc(), descriptor.as_str(), StdSource::new(rt.reader()))
 }
 
-fn main(rt: HostRuntime) -> io::Result<()> {
+fn main(rt: HostRuntime) -> io::Result<ExitCode> {
     match counted(&rt) {
-        Ok(rows) => println!(rt; "{rows} rows"),
-        Err(fault) => println!(rt; "{fault}"),
+        Ok(rows) => {
+            println!(rt; "{rows} rows")?;
+            Ok(ExitCode::SUCCESS)
+        }
+        Err(fault) => {
+            eprintln!(rt; "{fault}")?;
+            Ok(ExitCode::FAILURE)
+        }
     }
 }
