@@ -7,6 +7,7 @@ use ntriples::{NtFault, Triple, read};
 use portal_base::seq::Seq;
 use std::alloc::{AllocError, Global};
 use std::io::{self, Read};
+use std::process::ExitCode;
 use thiserror::Error;
 
 /// How many datasets are listed, and how many of them have a record.
@@ -67,14 +68,20 @@ fn counts_in(alloc: Global, document: &[u8]) -> Result<Counts, Fault> {
     }
 }
 
-fn main(rt: HostRuntime) -> io::Result<()> {
+fn main(rt: HostRuntime) -> io::Result<ExitCode> {
     let mut document = Vec::new(rt.alloc());
     rt.reader().read_to_end(&mut document)?;
     match counts_in(rt.alloc(), document.as_slice()) {
-        Ok(counts) => println!(rt;
-            "{} listed, {} with a record",
-            counts.listed, counts.recorded
-        ),
-        Err(fault) => println!(rt; "{fault}"),
+        Ok(counts) => {
+            println!(rt;
+                "{} listed, {} with a record",
+                counts.listed, counts.recorded
+            )?;
+            Ok(ExitCode::SUCCESS)
+        }
+        Err(fault) => {
+            eprintln!(rt; "{fault}")?;
+            Ok(ExitCode::FAILURE)
+        }
     }
 }
