@@ -3,6 +3,7 @@
 
 mod json;
 mod kinds;
+mod lines;
 mod moment;
 
 use cases::{Case, Tally, check};
@@ -39,5 +40,6 @@ fn main(rt: HostRuntime) -> io::Result<ExitCode> {
     check(&rt, &mut tally, "json_read", 2, json::rewritten)?;
     check(&rt, &mut tally, "json_members", 3, json::member)?;
     check(&rt, &mut tally, "kinds", 3, kinds::value)?;
+    check(&rt, &mut tally, "lines", 5, lines::read)?;
     tally.end(&rt)
 }
