@@ -16,7 +16,8 @@ less Less holds = refl
 less Equal holds = cc
 less Greater holds = cc
 
-comes_before : (key : List ℕ) (entries : List (List ℕ × Json)) → precedes key entries ≡ true → Precedes key (members_data entries)
+comes_before : (key : List ℕ) (entries : List (List ℕ × Json)) → precedes key entries ≡ true
+    → Precedes key (members_data entries)
 comes_before key [] holds = tt
 comes_before key (e ∷ es) holds =
     let parts = and_parts (is_less (slice_cmp nat_cmp key e.0)) (precedes key es) holds in
@@ -28,14 +29,17 @@ ascend (e ∷ es) holds =
     let parts = and_parts (precedes e.0 es) (keys_ascend es) holds in
     (comes_before e.0 es parts.0, ascend es parts.1)
 
-orderly : (entries : List (List ℕ × Json)) → keys_ascend entries ≡ true → ValuesAreOrderly (members_data entries) → MembersAreOrderly (members_data entries)
+orderly : (entries : List (List ℕ × Json)) → keys_ascend entries ≡ true → ValuesAreOrderly (members_data entries)
+    → MembersAreOrderly (members_data entries)
 orderly [] holds values = tt
 orderly (e ∷ es) holds values =
     let parts = and_parts (precedes e.0 es) (keys_ascend es) holds in
     (comes_before e.0 es parts.0, values.0, orderly es parts.1 values.1)
 
-pub map_ascends : (entries : List (List ℕ × Json)) → keys_ascend entries ≡ true → IsAscending (data_of (json.Map entries))
+pub map_ascends : (entries : List (List ℕ × Json)) → keys_ascend entries ≡ true
+    → IsAscending (data_of (json.Map entries))
 map_ascends entries holds = rw data_of-Map (ascend entries holds)
 
-pub map_is_orderly : (entries : List (List ℕ × Json)) → keys_ascend entries ≡ true → ValuesAreOrderly (members_data entries) → IsOrderly (data_of (json.Map entries))
+pub map_is_orderly : (entries : List (List ℕ × Json)) → keys_ascend entries ≡ true
+    → ValuesAreOrderly (members_data entries) → IsOrderly (data_of (json.Map entries))
 map_is_orderly entries holds values = rw data_of-Map (orderly entries holds values)

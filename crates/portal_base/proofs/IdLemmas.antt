@@ -15,7 +15,8 @@ byte_at_bound (suc place) n = omega arith
 -- Each byte is below 256.
 pub All-bytes_high_first : (count n : ℕ) → All (λ b. b < 256) (bytes_high_first count n)
 All-bytes_high_first zero n = All-nil _
-All-bytes_high_first (suc count) n = All-cons (λ b. b < 256) (byte_at count n) (bytes_high_first count n) (byte_at_bound count n) (All-bytes_high_first count n)
+All-bytes_high_first (suc count) n = All-cons (λ b. b < 256) (byte_at count n) (bytes_high_first count n)
+    (byte_at_bound count n) (All-bytes_high_first count n)
 
 -- An id parses to the bytes of its number.
 pub parsed-id_text : (n : ℕ) → parsed (id_text n) ≡ Some (to_be_bytes w128 n)
@@ -23,6 +24,7 @@ parsed-id_text n = sym (parses_hyphenated lower (to_be_bytes w128 n) (inl refl) 
 
 pub id_text_injective : (m n : ℕ) → m < 2 ^ 128 → n < 2 ^ 128 → id_text m ≡ id_text n → m ≡ n
 id_text_injective m n fits_m fits_n e =
-    let read : Some (to_be_bytes w128 m) ≡ Some (to_be_bytes w128 n) = sym (parsed-id_text m) ∙ ap parsed e ∙ parsed-id_text n in
+    let read : Some (to_be_bytes w128 m) ≡ Some (to_be_bytes w128 n) = sym (parsed-id_text m) ∙ ap parsed e
+    ∙ parsed-id_text n in
     let bytes : to_be_bytes w128 m ≡ to_be_bytes w128 n = cc in
     sym (from_be_bytes-to_be_bytes_16 m fits_m) ∙ ap (from_be_bytes w128) bytes ∙ from_be_bytes-to_be_bytes_16 n fits_n

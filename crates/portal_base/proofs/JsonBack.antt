@@ -1,5 +1,7 @@
 -- Orderly data is read back from its text.
-use Rattle.std.proofs.Common.{◌≡◌, ℕ, suc, max, ◌≤◌, pos, negsuc, List, [], false, Option, Some, option_map, option_and_then, Ok, Less, Greater, IsUtf8, nat_cmp, refl, sym, ap, ap₂, ◌∙◌, subst, append-nil}
+use Rattle.std.proofs.Common.{◌≡◌, ℕ, suc, max, ◌≤◌, pos, negsuc, List, [], false, Option, Some, option_map}
+use Rattle.std.proofs.Common.{option_and_then, Ok, Less, Greater, IsUtf8, nat_cmp, refl, sym, ap, ap₂, ◌∙◌, subst}
+use Rattle.std.proofs.Common.{append-nil}
 use Rattle.std.proofs.lemmas.Bool.{or_parts}
 use Rattle.std.proofs.lemmas.Cmp.{nat_list_cmp_total}
 use Rattle.std.specs.Cmp.Lexicographic.{slice_cmp}
@@ -14,13 +16,17 @@ use Rattle.json.specs.Tree.{json_tokens, HasNumbers, ItemsHaveNumbers, MembersHa
 use Rattle.json.proofs.Printed.Decimals.{IsNumber-decimal, IsNumber-signed_decimal}
 use Rattle.json.proofs.Printed.Tokens.{tokens-print}
 use Rattle.json.proofs.Printed.Trees.{value-json_tokens, ArePrintable-json_tokens}
-use Rattle.serde_json.specs.Data.{Num, unsigned, negative, float, Data, null, boolean, number, string, array, object, Items, no_items, item, Members, no_members, member, put, depth, items_depth, members_depth}
+use Rattle.serde_json.specs.Data.{Num, unsigned, negative, float, Data, null, boolean, number, string, array, object}
+use Rattle.serde_json.specs.Data.{Items, no_items, item, Members, no_members, member, put, depth, items_depth}
+use Rattle.serde_json.specs.Data.{members_depth}
 use Rattle.serde_json.specs.Find.{is_float}
 use Rattle.serde_json.specs.Read.{number_of, of_json, of_items, of_members, read, max_depth}
-use Rattle.serde_json.specs.Written.{number_text, outline, items_outline, members_outline, has_float, items_have_float, members_have_float, compact_text}
+use Rattle.serde_json.specs.Written.{number_text, outline, items_outline, members_outline, has_float}
+use Rattle.serde_json.specs.Written.{items_have_float, members_have_float, compact_text}
 use Rattle.serde_json.proofs.Numbers.{number_of-decimal, number_of-negative}
 use Rattle.serde_json.proofs.Texts.{print-outline}
-use Rattle.portal_base.specs.Json.{Fits, Precedes, IsOrderly, ItemsAreOrderly, MembersAreOrderly, IsReadable, data_of, json_text, json_reading, or_fault}
+use Rattle.portal_base.specs.Json.{Fits, Precedes, IsOrderly, ItemsAreOrderly, MembersAreOrderly, IsReadable, data_of}
+use Rattle.portal_base.specs.Json.{json_text, json_reading, or_fault}
 use Rattle.portal_base.specs.declared.json_value.Json.{Json}
 use Rattle.portal_base.specs.declared.json_value.JsonFault.TheVariants.{Fraction}
 use Rattle.portal_base.proofs.JsonKept.{has_float-data_of, json_of-data_of}
@@ -56,13 +62,17 @@ AllPrecede (member k d done) ms = Precedes k ms × AllPrecede done ms
 after : (k l : List ℕ) → slice_cmp nat_cmp l k ≡ Less → slice_cmp nat_cmp k l ≡ Greater
 after k l below = nat_list_cmp_total.antisymm k l ∙ ap ordering_reverse below
 
-put_last : (done : Members) (k : List ℕ) (d : Data) (ms : Members) → AllPrecede done (member k d ms) → joined (put k d done) ms ≡ joined done (member k d ms)
+put_last : (done : Members) (k : List ℕ) (d : Data) (ms : Members) → AllPrecede done (member k d ms)
+    → joined (put k d done) ms ≡ joined done (member k d ms)
 put_last no_members k d ms h = refl
-put_last (member l e done) k d ms h = let above = after k l h.0.0 in rw above (ap (member l e) (put_last done k d ms h.1))
+put_last (member l e done) k d ms h = let above = after k l h.0.0 in
+    rw above (ap (member l e) (put_last done k d ms h.1))
 
-put_precedes : (done : Members) (k : List ℕ) (d : Data) (ms : Members) → AllPrecede done (member k d ms) → Precedes k ms → AllPrecede (put k d done) ms
+put_precedes : (done : Members) (k : List ℕ) (d : Data) (ms : Members) → AllPrecede done (member k d ms)
+    → Precedes k ms → AllPrecede (put k d done) ms
 put_precedes no_members k d ms h first = (first, tt)
-put_precedes (member l e done) k d ms h first = let above = after k l h.0.0 in rw above (h.0.1, put_precedes done k d ms h.1 first)
+put_precedes (member l e done) k d ms h first = let above = after k l h.0.0 in
+    rw above (h.0.1, put_precedes done k d ms h.1 first)
 
 -- ---- the grammar's value of the data
 
@@ -85,10 +95,21 @@ mutual
   back : (d : Data) → has_float d ≡ false → IsOrderly d → IsBack d
   back null whole h = record { numbers = tt; nests = refl; reads = refl }
   back (boolean b) whole h = record { numbers = tt; nests = refl; reads = refl }
-  back (number n) whole h = record { numbers = IsNumber-number_text n whole h; nests = refl; reads = ap (option_map number) (number_of-number_text n whole h) }
+  back (number n) whole h =
+      record {
+        numbers = IsNumber-number_text n whole h;
+        nests = refl;
+        reads = ap (option_map number) (number_of-number_text n whole h);
+      }
   back (string s) whole h = record { numbers = tt; nests = refl; reads = refl }
-  back (array ds) whole h = let all = items_back ds whole h in record { numbers = all.numbers; nests = ap suc all.nests; reads = ap (option_map array) all.reads }
-  back (object ms) whole h = let all = members_back ms whole h in record { numbers = all.numbers; nests = ap suc all.nests; reads = ap (option_map object) (all.reads no_members tt) }
+  back (array ds) whole h = let all = items_back ds whole h in
+      record { numbers = all.numbers; nests = ap suc all.nests; reads = ap (option_map array) all.reads }
+  back (object ms) whole h = let all = members_back ms whole h in
+      record {
+        numbers = all.numbers;
+        nests = ap suc all.nests;
+        reads = ap (option_map object) (all.reads no_members tt);
+      }
 
   items_back : (ds : Items) → items_have_float ds ≡ false → ItemsAreOrderly ds → AreItemsBack ds
   items_back no_items whole h = record { numbers = tt; nests = refl; reads = refl }
@@ -96,10 +117,15 @@ mutual
       let parts = or_parts (has_float d) (items_have_float ds) whole in
       let first = back d parts.0 h.0 in
       let rest = items_back ds parts.1 h.1 in
-      record { numbers = (first.numbers, rest.numbers); nests = ap₂ max first.nests rest.nests; reads = rw first.reads (ap (option_map (item d)) rest.reads) }
+      record {
+        numbers = (first.numbers, rest.numbers);
+        nests = ap₂ max first.nests rest.nests;
+        reads = rw first.reads (ap (option_map (item d)) rest.reads);
+      }
 
   members_back : (ms : Members) → members_have_float ms ≡ false → MembersAreOrderly ms → AreMembersBack ms
-  members_back no_members whole h = record { numbers = tt; nests = refl; reads = λ done before. ap Some (sym (joined_none done)) }
+  members_back no_members whole h =
+      record { numbers = tt; nests = refl; reads = λ done before. ap Some (sym (joined_none done)) }
   members_back (member k d ms) whole h =
       let parts = or_parts (has_float d) (members_have_float ms) whole in
       let first = back d parts.0 h.1 in
@@ -107,7 +133,8 @@ mutual
       record {
         numbers = (first.numbers, rest.numbers);
         nests = ap₂ max first.nests rest.nests;
-        reads = λ done before. ap (option_and_then (λ e. of_members (members_outline ms) (put k e done))) first.reads ∙ rest.reads (put k d done) (put_precedes done k d ms before h.0) ∙ ap Some (put_last done k d ms before);
+        reads = λ done before. ap (option_and_then (λ e. of_members (members_outline ms) (put k e done))) first.reads
+            ∙ rest.reads (put k d done) (put_precedes done k d ms before h.0) ∙ ap Some (put_last done k d ms before);
       }
 
 -- the data of a whole text
@@ -118,11 +145,13 @@ data_back : (d : Data) → has_float d ≡ false → IsOrderly d → depth d ≤
 data_back d whole_numbers orderly shallow =
     let is = back d whole_numbers orderly in
     let ts = json_tokens (outline d) in
-    let lexed : tokens (compact_text d) ≡ ts = ap tokens (sym (print-outline d)) ∙ tokens-print ts (ArePrintable-json_tokens (outline d) is.numbers) in
+    let lexed : tokens (compact_text d) ≡ ts = ap tokens (sym (print-outline d))
+    ∙ tokens-print ts (ArePrintable-json_tokens (outline d) is.numbers) in
     let parsed = value-json_tokens (outline d) max_depth [] (subst (λ n. n ≤ max_depth) (sym is.nests) shallow) in
     ap (λ us. whole (grammar.value max_depth us)) (lexed ∙ sym (append-nil ts)) ∙ ap whole parsed ∙ is.reads
 
 pub read_back : (j : Json) (text : List ℕ) → IsUtf8 text → text ≡ json_text j → IsReadable j → json_reading text ≡ Ok j
 read_back j text utf8 is readable =
-    let found : read text ≡ Some (data_of j) = ap read is ∙ data_back (data_of j) (has_float-data_of j) readable.0 readable.1 in
+    let found : read text ≡ Some (data_of j) = ap read is ∙ data_back (data_of j) (has_float-data_of j) readable.0
+    readable.1 in
     reading_of_data text (data_of j) utf8 found ∙ ap (or_fault Fraction) (json_of-data_of j)

@@ -11,7 +11,8 @@ use Rattle.portal_base.specs.declared.json_value.Json.{Json, the_lemmas}
 use Rattle.portal_base.specs.declared.json_value.JsonFault.TheVariants.{NotJson, Fraction}
 
 -- the last value of a key counts, and the keys ascend
-keys_in_order : json_reading (codes "{\"b\":1,\"a\":2,\"b\":3}") ≡ Ok (json.Map ((codes "a", json.Whole (pos 2)) ∷ (codes "b", json.Whole (pos 3)) ∷ []))
+keys_in_order : json_reading (codes "{\"b\":1,\"a\":2,\"b\":3}")
+    ≡ Ok (json.Map ((codes "a", json.Whole (pos 2)) ∷ (codes "b", json.Whole (pos 3)) ∷ []))
 unfolding serde_json_on_literals is_utf8 chars
 keys_in_order = refl
 
@@ -30,7 +31,8 @@ not_closed = refl
 abbrev two_entries : Json
 two_entries = json.Map ((codes "b", json.Whole (pos 18446744073709551616)) ∷ (codes "a", json.Null) ∷ [])
 
-two_entries_data : data_of two_entries ≡ object (member (codes "b") (number (unsigned 18446744073709551616)) (member (codes "a") null no_members))
+two_entries_data : data_of two_entries
+    ≡ object (member (codes "b") (number (unsigned 18446744073709551616)) (member (codes "a") null no_members))
 two_entries_data = search (rules, the_lemmas)
 
 -- a map keeps the order of its list, and a whole number its digits

@@ -17,6 +17,7 @@ one_more : (b : Bool) (e : Entry) (rest : Option Json) (found : Option Entry) �
 one_more true e rest found h = refl
 one_more false e rest found h = h
 
-pub first_of-find : (key : List ℕ) (es : List Entry) → first_of key es ≡ value_of_found (find (λ x. bytes_eq key x.0) es)
+pub first_of-find : (key : List ℕ) (es : List Entry)
+    → first_of key es ≡ value_of_found (find (λ x. bytes_eq key x.0) es)
 first_of-find key [] = refl
 first_of-find key (e ∷ es) = one_more (bytes_eq key e.0) e _ _ (first_of-find key es)

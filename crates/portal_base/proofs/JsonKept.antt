@@ -7,7 +7,8 @@ use Rattle.portal_base.specs.Json.{data_of, data_step, items_data, members_data,
 use Rattle.portal_base.specs.declared.json_value.Json.{Json}
 use Rattle.portal_base.specs.declared.json_value.Json.TheOpen.{Json-F}
 use Rattle.portal_base.specs.declared.json_value.Json.TheFolds.{map-Json, fold-roll-Json, ind-Json}
-use Rattle.portal_base.specs.declared.json_value.Json.TheVariants.{rolls-Null, rolls-Truth, rolls-Whole, rolls-Text, rolls-List, rolls-Map}
+use Rattle.portal_base.specs.declared.json_value.Json.TheVariants.{rolls-Null, rolls-Truth, rolls-Whole, rolls-Text}
+use Rattle.portal_base.specs.declared.json_value.Json.TheVariants.{rolls-List, rolls-Map}
 use Rattle.portal_base.specs.declared.json_value.Json.TheViews.{roll-Json}
 
 pub as_integer-of_integer : (z : ℤ) → as_integer (of_integer z) ≡ Some z
@@ -24,17 +25,21 @@ IsKept j = (has_float (data_of j) ≡ false) × (json_of (data_of j) ≡ Some j)
 abbrev Kept : Type 0
 Kept = (j : Json) × IsKept j
 
-items_kept : (es : List Kept) → (items_have_float (items_data (map (λ e. e.0) es)) ≡ false) × (list_of (items_data (map (λ e. e.0) es)) ≡ Some (map (λ e. e.0) es))
+items_kept : (es : List Kept)
+    → (items_have_float (items_data (map (λ e. e.0) es)) ≡ false)
+    × (list_of (items_data (map (λ e. e.0) es)) ≡ Some (map (λ e. e.0) es))
 items_kept [] = (refl, refl)
 items_kept (e ∷ es) = let rest = items_kept es in (rw e.1.0 rest.0, rw e.1.1 (rw rest.1))
 
 entries_kept : (es : List (List ℕ × Kept))
-    → (members_have_float (members_data (map (λ e. (e.0, e.1.0)) es)) ≡ false) × (entries_of (members_data (map (λ e. (e.0, e.1.0)) es)) ≡ Some (map (λ e. (e.0, e.1.0)) es))
+    → (members_have_float (members_data (map (λ e. (e.0, e.1.0)) es)) ≡ false)
+    × (entries_of (members_data (map (λ e. (e.0, e.1.0)) es)) ≡ Some (map (λ e. (e.0, e.1.0)) es))
 entries_kept [] = (refl, refl)
 entries_kept (e ∷ es) = let rest = entries_kept es in (rw e.1.1.0 rest.0, rw e.1.1.1 (rw rest.1))
 
 abbrev IsLayerKept : Json-F Json → Type 0
-IsLayerKept x = (has_float (data_step (map-Json Json Data data_of x)) ≡ false) × (json_of (data_step (map-Json Json Data data_of x)) ≡ Some (roll-Json x))
+IsLayerKept x = (has_float (data_step (map-Json Json Data data_of x)) ≡ false)
+    × (json_of (data_step (map-Json Json Data data_of x)) ≡ Some (roll-Json x))
 
 layer_kept : (y : Json-F Kept) → IsLayerKept (map-Json Kept Json (λ e. e.0) y)
 layer_kept Json-F.Null = (refl, ap Some (sym rolls-Null))

@@ -1,4 +1,7 @@
 pub mod CivilLemmas
+mod FaultExamples
+pub mod FaultLemmas
+pub mod Filtered
 pub mod FormLemmas
 mod IdExamples
 mod KindExamples
@@ -19,6 +22,7 @@ mod NameExamples
 mod OutsideExamples
 pub mod OutsideLemmas
 mod OrderedExamples
+pub mod Placed
 pub mod ReadingBack
 pub mod ReadingLemmas
 mod JsonFirst

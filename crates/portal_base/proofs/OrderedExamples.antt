@@ -1,7 +1,8 @@
 -- Numbers in order: what is inserted, found and removed.
 use Rattle.std.proofs.Common.{◌≡◌, ℕ, true, false, List, [], ◌∷◌, Some, None, refl}
+use Rattle.std.specs.declared.cmp.Ordering.{Ordering}
 use Rattle.std.specs.Ordering.{nat_cmp}
-use Rattle.portal_base.specs.Ordered.{inserted, ascending, are_apart, found, removed}
+use Rattle.portal_base.specs.Ordered.{inserted, ascending, are_apart, found, removed, dropped, placed}
 
 abbrev some_numbers : List ℕ
 some_numbers = 2 ∷ 5 ∷ 7 ∷ []
@@ -39,3 +40,23 @@ one_gone = refl
 
 none_gone : removed (λ x. nat_cmp x 6) some_numbers ≡ some_numbers
 none_gone = refl
+
+dropped_there : dropped (λ x. nat_cmp x 5) some_numbers ≡ 2 ∷ 7 ∷ []
+dropped_there = refl
+
+none_dropped : dropped (λ x. nat_cmp x 6) some_numbers ≡ some_numbers
+none_dropped = refl
+
+-- All at the key go.
+both_dropped : dropped (λ x. nat_cmp x 5) (5 ∷ 2 ∷ 5 ∷ []) ≡ 2 ∷ []
+both_dropped = refl
+
+placed_between : placed nat_cmp 6 some_numbers ≡ 2 ∷ 5 ∷ 6 ∷ 7 ∷ []
+placed_between = refl
+
+-- the order of pairs by their first number
+abbrev by_first : ℕ × ℕ → ℕ × ℕ → Ordering
+by_first x y = nat_cmp x.0 y.0
+
+placed_in_place : placed by_first (5, 1) ((2, 0) ∷ (5, 0) ∷ (7, 0) ∷ []) ≡ (2, 0) ∷ (5, 1) ∷ (7, 0) ∷ []
+placed_in_place = refl

@@ -1,5 +1,7 @@
 -- The day and time of day that a text names, and the second of them.
-use Rattle.std.proofs.Common.{◌≡◌, ℕ, ◌+◌, ◌*◌, ◌≤◌, true, false, ◌&&◌, ◌↔◌, nat_lt, nat_le, cond, refl, sym, ap, ◌∙◌, subst, arith, List, get_or, ℤ, pos, negsuc, ◌+ℤ◌, ◌*ℤ◌, ◌≤ℤ◌, Option, Some, None, w8, w16, w64, to_z, of_z, FitsSigned}
+use Rattle.std.proofs.Common.{◌≡◌, ℕ, ◌+◌, ◌*◌, ◌≤◌, true, false, ◌&&◌, ◌↔◌, nat_lt, nat_le, cond, refl, sym, ap, ◌∙◌}
+use Rattle.std.proofs.Common.{subst, arith, List, get_or, ℤ, pos, negsuc, ◌+ℤ◌, ◌*ℤ◌, ◌≤ℤ◌, Option, Some, None, w8}
+use Rattle.std.proofs.Common.{w16, w64, to_z, of_z, FitsSigned}
 use Rattle.std.specs.Prelude.{Result, Ok, Err, is_ok, IsOk, IfOk, IsSome, IfSome, int_div}
 use Rattle.std.specs.Result.{result_ok}
 use borrow.Author.Differences.{up, down}
@@ -11,17 +13,21 @@ use Rattle.jiff_core.specs.Calendar.{IsBetween, IsDate, days_in_month, days_from
 use Rattle.jiff_core.specs.DateTime.{civil_seconds}
 use Rattle.jiff_core.specs.Date.{IsYmd}
 use Rattle.jiff_core.specs.Time.{IsTime, IsHms}
-use Rattle.jiff_core.proofs.CalendarLemmas.{day_count_bounds, day_count-last_of_year, day_count-lt_year, day_count-next_year, days_from_civil-day_count}
+use Rattle.jiff_core.proofs.CalendarLemmas.{day_count_bounds, day_count-last_of_year, day_count-lt_year}
+use Rattle.jiff_core.proofs.CalendarLemmas.{day_count-next_year, days_from_civil-day_count}
 use Rattle.jiff_core.proofs.DateLemmas.{epoch_day_range}
 use Rattle.jiff_core.proofs.SignedLemmas.{signed_arith}
 use Rattle.portal_base.specs.Moment.{IsMoment}
-use Rattle.portal_base.specs.MomentReading.{fits_form, moment_form, number_at, year_in, month_in, day_in, hour_in, minute_in, second_in, has_day, has_time, names_moment, seconds_in, moment_reading}
+use Rattle.portal_base.specs.MomentReading.{fits_form, moment_form, number_at, year_in, month_in, day_in, hour_in}
+use Rattle.portal_base.specs.MomentReading.{minute_in, second_in, has_day, has_time, names_moment, seconds_in}
+use Rattle.portal_base.specs.MomentReading.{moment_reading}
 use Rattle.portal_base.proofs.CivilLemmas.{FitsSigned-moment}
 use Rattle.portal_base.proofs.FormLemmas.{fits_form-digit}
 use Rattle.portal_base.proofs.MomentTextLemmas.{civil_seconds-parts, day_count-year_zero}
 
 -- Two digits make a number below 100.
-pub number_at-bound : (text : List ℕ) (place : ℕ) → fits_form moment_form text ≡ true → get_or moment_form place 0 ≡ 48 → get_or moment_form (place + 1) 0 ≡ 48 → number_at place text ≤ 99
+pub number_at-bound : (text : List ℕ) (place : ℕ) → fits_form moment_form text ≡ true
+    → get_or moment_form place 0 ≡ 48 → get_or moment_form (place + 1) 0 ≡ 48 → number_at place text ≤ 99
 number_at-bound text place h tens units =
     let first = fits_form-digit moment_form text place h tens in
     let second = fits_form-digit moment_form text (place + 1) h units in
@@ -37,21 +43,29 @@ pub le-pos : (a b : ℕ) → pos a ≤ℤ pos b → a ≤ b
 le-pos a b h = omega (arith, signed_arith)
 
 -- The tests of the calendar and the clock, as the library states them.
-day_within : (m d n : ℕ) → ((nat_le 1 m && nat_le m 12 && nat_le 1 d && nat_le d n) ≡ true) ↔ (IsBetween (pos 1) (pos 12) (pos m) × IsBetween (pos 1) (pos n) (pos d))
+day_within : (m d n : ℕ)
+    → ((nat_le 1 m && nat_le m 12 && nat_le 1 d && nat_le d n) ≡ true) ↔
+    (IsBetween (pos 1) (pos 12) (pos m) × IsBetween (pos 1) (pos n) (pos d))
 day_within m d n = (
   λ t. let last = and_parts (nat_le 1 m && nat_le m 12 && nat_le 1 d) (nat_le d n) t in
       let first = and_parts (nat_le 1 m && nat_le m 12) (nat_le 1 d) last.0 in
-      let month = and_parts (nat_le 1 m) (nat_le m 12) first.0 in
-      ((pos-le 1 m (leb-true 1 m month.0), pos-le m 12 (leb-true m 12 month.1)), (pos-le 1 d (leb-true 1 d first.1), pos-le d n (leb-true d n last.1))),
+      let month = and_parts (nat_le 1 m) (nat_le m 12) first.0 in (
+        (pos-le 1 m (leb-true 1 m month.0), pos-le m 12 (leb-true m 12 month.1)),
+        (pos-le 1 d (leb-true 1 d first.1), pos-le d n (leb-true d n last.1)),
+      ),
   λ h. and_from (nat_le 1 m && nat_le m 12 && nat_le 1 d) (nat_le d n)
       (and_from (nat_le 1 m && nat_le m 12) (nat_le 1 d)
-      (and_from (nat_le 1 m) (nat_le m 12) (le-leb 1 m (le-pos 1 m h.0.0)) (le-leb m 12 (le-pos m 12 h.0.1))) (le-leb 1 d (le-pos 1 d h.1.0))) (le-leb d n (le-pos d n h.1.1)),
+      (and_from (nat_le 1 m) (nat_le m 12) (le-leb 1 m (le-pos 1 m h.0.0)) (le-leb m 12 (le-pos m 12 h.0.1)))
+      (le-leb 1 d (le-pos 1 d h.1.0))) (le-leb d n (le-pos d n h.1.1)),
 )
 
 pub has_day-is : (y m d : ℕ) → y ≤ 9999 → (has_day y m d ≡ true) ↔ IsDate (pos y) (pos m) (pos d)
 has_day-is y m d h =
-    let within = day_within m d (days_in_month (pos y) m) in
-    (λ t. ((omega (arith, signed_arith), pos-le y 9999 h), (within.0 t).0, (within.0 t).1), λ date. within.1 (date.1, date.2))
+    let within = day_within m d (days_in_month (pos y) m) in (
+      λ t. ((omega (arith, signed_arith), pos-le y 9999 h), (within.0 t).0, (within.0 t).1),
+      λ date. within.1
+          (date.1, date.2),
+    )
 
 pub has_time-is : (h m s : ℕ) → (has_time h m s ≡ true) ↔ IsTime (pos h) (pos m) (pos s) (pos 0)
 has_time-is h m s = (
@@ -59,29 +73,42 @@ has_time-is h m s = (
       let first = and_parts (nat_lt h 24) (nat_lt m 60) last.0 in
       let hour : h ≤ 23 = omega (arith, ltb-true h 24 first.0) in
       let minute : m ≤ 59 = omega (arith, ltb-true m 60 first.1) in
-      let second : s ≤ 59 = omega (arith, ltb-true s 60 last.1) in
-      ((pos-le 0 h (omega arith), pos-le h 23 hour), (pos-le 0 m (omega arith), pos-le m 59 minute), (pos-le 0 s (omega arith), pos-le s 59 second), (pos-le 0 0 (omega arith), pos-le 0 999999999 (omega arith))),
+      let second : s ≤ 59 = omega (arith, ltb-true s 60 last.1) in (
+        (pos-le 0 h (omega arith), pos-le h 23 hour),
+        (pos-le 0 m (omega arith), pos-le m 59 minute),
+        (pos-le 0 s (omega arith), pos-le s 59 second),
+        (pos-le 0 0 (omega arith), pos-le 0 999999999 (omega arith)),
+      ),
   λ time. and_from (nat_lt h 24 && nat_lt m 60) (nat_lt s 60)
-      (and_from (nat_lt h 24) (nat_lt m 60) (lt-ltb h 24 (omega (arith, le-pos h 23 time.0.1))) (lt-ltb m 60 (omega (arith, le-pos m 59 time.1.1)))) (lt-ltb s 60 (omega (arith, le-pos s 59 time.2.1))),
+      (and_from (nat_lt h 24) (nat_lt m 60) (lt-ltb h 24 (omega (arith, le-pos h 23 time.0.1)))
+      (lt-ltb m 60 (omega (arith, le-pos m 59 time.1.1)))) (lt-ltb s 60 (omega (arith, le-pos s 59 time.2.1))),
 )
 
 -- A text that names a moment names a day and time of day that the library has, and the other way round.
-pub names_moment-is : (text : List ℕ) → fits_form moment_form text ≡ true → (names_moment text ≡ true) ↔ (IsDate (pos (year_in text)) (pos (month_in text)) (pos (day_in text)) × IsTime (pos (hour_in text)) (pos (minute_in text)) (pos (second_in text)) (pos 0))
+pub names_moment-is : (text : List ℕ) → fits_form moment_form text ≡ true
+    → (names_moment text ≡ true) ↔
+    (IsDate (pos (year_in text)) (pos (month_in text)) (pos (day_in text))
+    × IsTime (pos (hour_in text)) (pos (minute_in text)) (pos (second_in text)) (pos 0))
 names_moment-is text h =
     let day = has_day-is (year_in text) (month_in text) (day_in text) (year_in-bound text h) in
     let time = has_time-is (hour_in text) (minute_in text) (second_in text) in
-    let both = and_parts (has_day (year_in text) (month_in text) (day_in text)) (has_time (hour_in text) (minute_in text) (second_in text)) in
+    let both = and_parts (has_day (year_in text) (month_in text) (day_in text))
+    (has_time (hour_in text) (minute_in text) (second_in text)) in
     (λ t. (day.0 (both t).0, time.0 (both t).1), λ k. and_from _ _ (day.1 k.0) (time.1 k.1))
 
 -- What making a date and time of day of these parts answers, where the parts are those that the text names.
 abbrev pub MakesNamed : List ℕ → Result DateTime Error → Type 0
 MakesNamed text made =
-    (IsOk made ↔ (IsDate (pos (year_in text)) (pos (month_in text)) (pos (day_in text)) × IsTime (pos (hour_in text)) (pos (minute_in text)) (pos (second_in text)) (pos 0)))
-    × IfOk made (λ at. IsYmd (pos (year_in text)) (pos (month_in text)) (pos (day_in text)) at.date × IsHms (pos (hour_in text)) (pos (minute_in text)) (pos (second_in text)) (pos 0) at.time)
+    (IsOk made ↔
+    (IsDate (pos (year_in text)) (pos (month_in text)) (pos (day_in text))
+    × IsTime (pos (hour_in text)) (pos (minute_in text)) (pos (second_in text)) (pos 0)))
+    × IfOk made (λ at. IsYmd (pos (year_in text)) (pos (month_in text)) (pos (day_in text)) at.date
+    × IsHms (pos (hour_in text)) (pos (minute_in text)) (pos (second_in text)) (pos 0) at.time)
 
 abbrev pub Makes : ℤ → ℤ → ℤ → ℤ → ℤ → ℤ → Result DateTime Error → Type 0
 Makes y m d h n s made =
-    (IsOk made ↔ (IsDate y m d × IsTime h n s (pos 0))) × IfOk made (λ at. IsYmd y m d at.date × IsHms h n s (pos 0) at.time)
+    (IsOk made ↔ (IsDate y m d × IsTime h n s (pos 0)))
+    × IfOk made (λ at. IsYmd y m d at.date × IsHms h n s (pos 0) at.time)
 
 same_year : (z : ℤ) (n : ℕ) → z ≡ pos n → n ≤ 9999 → to_z w16 (of_z w16 z) ≡ pos n
 same_year z n e h = ap (λ x. to_z w16 (of_z w16 x)) e ∙ to_z-of_z w16 (pos n) (omega (arith, ints))
@@ -89,7 +116,8 @@ same_year z n e h = ap (λ x. to_z w16 (of_z w16 x)) e ∙ to_z-of_z w16 (pos n)
 same_part : (z : ℤ) (n : ℕ) → z ≡ pos n → n ≤ 99 → to_z w8 (of_z w8 z) ≡ pos n
 same_part z n e h = ap (λ x. to_z w8 (of_z w8 x)) e ∙ to_z-of_z w8 (pos n) (omega (arith, ints))
 
-parts_from : (made : Result DateTime Error) (y m d h n s y' m' d' h' n' s' : ℤ) → y ≡ y' → m ≡ m' → d ≡ d' → h ≡ h' → n ≡ n' → s ≡ s' → Makes y m d h n s made → Makes y' m' d' h' n' s' made
+parts_from : (made : Result DateTime Error) (y m d h n s y' m' d' h' n' s' : ℤ) → y ≡ y' → m ≡ m' → d ≡ d' → h ≡ h'
+    → n ≡ n' → s ≡ s' → Makes y m d h n s made → Makes y' m' d' h' n' s' made
 parts_from made y m d h n s y' m' d' h' n' s' year month day hour minute second makes =
     subst (λ z. Makes z m' d' h' n' s' made) year
     (subst (λ z. Makes y z d' h' n' s' made) month
@@ -98,19 +126,31 @@ parts_from made y m d h n s y' m' d' h' n' s' year month day hour minute second 
     (subst (λ z. Makes y m d h z s' made) minute
     (subst (λ z. Makes y m d h n z made) second makes)))))
 
-pub MakesNamed-from : (text : List ℕ) (made : Result DateTime Error) (y m d h n s : ℤ) → fits_form moment_form text ≡ true → y ≡ pos (year_in text) → m ≡ pos (month_in text) → d ≡ pos (day_in text) → h ≡ pos (hour_in text) → n ≡ pos (minute_in text) → s ≡ pos (second_in text) → Makes (to_z w16 (of_z w16 y)) (to_z w8 (of_z w8 m)) (to_z w8 (of_z w8 d)) (to_z w8 (of_z w8 h)) (to_z w8 (of_z w8 n)) (to_z w8 (of_z w8 s)) made → MakesNamed text made
+pub MakesNamed-from : (text : List ℕ) (made : Result DateTime Error) (y m d h n s : ℤ)
+    → fits_form moment_form text ≡ true → y ≡ pos (year_in text) → m ≡ pos (month_in text) → d ≡ pos (day_in text)
+    → h ≡ pos (hour_in text) → n ≡ pos (minute_in text) → s ≡ pos (second_in text)
+    → Makes (to_z w16 (of_z w16 y)) (to_z w8 (of_z w8 m)) (to_z w8 (of_z w8 d)) (to_z w8 (of_z w8 h))
+    (to_z w8 (of_z w8 n)) (to_z w8 (of_z w8 s)) made → MakesNamed text made
 MakesNamed-from text made y m d h n s form year month day hour minute second makes =
-    parts_from made _ _ _ _ _ _ _ _ _ _ _ _ (same_year y (year_in text) year (year_in-bound text form)) (same_part m (month_in text) month (number_at-bound text 5 form refl refl)) (same_part d (day_in text) day (number_at-bound text 8 form refl refl))
-    (same_part h (hour_in text) hour (number_at-bound text 11 form refl refl)) (same_part n (minute_in text) minute (number_at-bound text 14 form refl refl)) (same_part s (second_in text) second (number_at-bound text 17 form refl refl)) makes
+    parts_from made _ _ _ _ _ _ _ _ _ _ _ _ (same_year y (year_in text) year (year_in-bound text form))
+    (same_part m (month_in text) month (number_at-bound text 5 form refl refl))
+    (same_part d (day_in text) day (number_at-bound text 8 form refl refl))
+    (same_part h (hour_in text) hour (number_at-bound text 11 form refl refl))
+    (same_part n (minute_in text) minute (number_at-bound text 14 form refl refl))
+    (same_part s (second_in text) second (number_at-bound text 17 form refl refl)) makes
 
 -- It is made exactly where the text names a moment.
-pub MakesNamed-there : (text : List ℕ) (made : Result DateTime Error) → fits_form moment_form text ≡ true → MakesNamed text made → (is_ok made ≡ true) ↔ (names_moment text ≡ true)
+pub MakesNamed-there : (text : List ℕ) (made : Result DateTime Error) → fits_form moment_form text ≡ true
+    → MakesNamed text made → (is_ok made ≡ true) ↔ (names_moment text ≡ true)
 MakesNamed-there text made h makes =
     let named = names_moment-is text h in
     (λ ok. named.1 (makes.0.0 ok), λ t. makes.0.1 (named.0 t))
 
 -- The second of the date and time of day with these parts.
-civil_seconds-named : (text : List ℕ) (at : DateTime) → IsYmd (pos (year_in text)) (pos (month_in text)) (pos (day_in text)) at.date → IsHms (pos (hour_in text)) (pos (minute_in text)) (pos (second_in text)) (pos 0) at.time → civil_seconds at ≡ seconds_in text
+civil_seconds-named : (text : List ℕ) (at : DateTime)
+    → IsYmd (pos (year_in text)) (pos (month_in text)) (pos (day_in text)) at.date
+    → IsHms (pos (hour_in text)) (pos (minute_in text)) (pos (second_in text)) (pos 0) at.time
+    → civil_seconds at ≡ seconds_in text
 unfolding civil_seconds
 civil_seconds-named text at ymd hms =
     let month : at.date.month ≡ month_in text = omega (arith, signed_arith, ymd.1) in
@@ -120,7 +160,8 @@ civil_seconds-named text at ymd hms =
     let second : at.time.second ≡ second_in text = omega (arith, signed_arith, hms.2) in
     rw (ymd.0, month, day, hour, minute, second) refl
 
-pub MakesNamed-second : (text : List ℕ) (made : Result DateTime Error) → MakesNamed text made → IfSome (result_ok made) (λ at. civil_seconds at ≡ seconds_in text)
+pub MakesNamed-second : (text : List ℕ) (made : Result DateTime Error) → MakesNamed text made
+    → IfSome (result_ok made) (λ at. civil_seconds at ≡ seconds_in text)
 MakesNamed-second text (Ok at) makes = civil_seconds-named text at makes.1.0 makes.1.1
 MakesNamed-second text (Err e) makes = tt
 
@@ -129,7 +170,16 @@ pub int_div-whole : (nanos seconds : ℤ) → nanos ≡ seconds *ℤ pos 1000000
 int_div-whole nanos seconds e = omega (arith, signed_arith)
 
 pub civil_seconds-fits : (at : DateTime) → FitsSigned w64 (civil_seconds at)
-civil_seconds-fits at = omega (arith, signed_arith, civil_seconds-parts at, epoch_day_range at.date, at.time.hour_in, at.time.minute_in, at.time.second_in)
+civil_seconds-fits at =
+    omega (
+      arith,
+      signed_arith,
+      civil_seconds-parts at,
+      epoch_day_range at.date,
+      at.time.hour_in,
+      at.time.minute_in,
+      at.time.second_in,
+    )
 
 -- A text of another form, or one that names no day and time of day, is read as none.
 pub moment_reading-other_form : (text : List ℕ) → fits_form moment_form text ≡ false → moment_reading text ≡ None
@@ -138,11 +188,14 @@ moment_reading-other_form text h = ap (λ b. cond (b && names_moment text) (Some
 
 pub moment_reading-unnamed : (text : List ℕ) → names_moment text ≡ false → moment_reading text ≡ None
 unfolding moment_reading
-moment_reading-unnamed text h = ap (λ b. cond b (Some (seconds_in text)) None) (and_right (fits_form moment_form text) (names_moment text) h)
+moment_reading-unnamed text h =
+    ap (λ b. cond b (Some (seconds_in text)) None) (and_right (fits_form moment_form text) (names_moment text) h)
 
-pub moment_reading-named : (text : List ℕ) → fits_form moment_form text ≡ true → names_moment text ≡ true → moment_reading text ≡ Some (seconds_in text)
+pub moment_reading-named : (text : List ℕ) → fits_form moment_form text ≡ true → names_moment text ≡ true
+    → moment_reading text ≡ Some (seconds_in text)
 unfolding moment_reading
-moment_reading-named text h t = ap (λ b. cond b (Some (seconds_in text)) None) (and_from (fits_form moment_form text) (names_moment text) h t)
+moment_reading-named text h t =
+    ap (λ b. cond b (Some (seconds_in text)) None) (and_from (fits_form moment_form text) (names_moment text) h t)
 
 -- The days of the calendar from the year 0000 on, counted from the year -10000, begin with this one.
 from_year_zero : (y m d : ℕ) → 1 ≤ d → 3652425 ≤ day_count (pos y) m d
@@ -150,39 +203,50 @@ from_year_zero y m d first =
     let before : pos 0 ≡ negsuc 0 +ℤ pos 1 = refl in
     omega (
       arith,
-      day_count-lt_year (negsuc 0) 12 31 (pos y) m d ((omega (arith, signed_arith), omega (arith, signed_arith)), (omega arith, omega arith), (omega arith, omega arith)) first (omega (arith, signed_arith)),
+      day_count-lt_year (negsuc 0) 12 31 (pos y) m d (
+        (omega (arith, signed_arith), omega (arith, signed_arith)),
+        (omega arith, omega arith),
+        (omega arith, omega arith),
+      ) first (omega (arith, signed_arith)),
       day_count-last_of_year (negsuc 0),
       day_count-next_year (negsuc 0) (pos 0) (omega (arith, signed_arith)) before,
       day_count-year_zero,
     )
 
 -- What a text names is a moment.
-pub IsMoment-named : (text : List ℕ) → fits_form moment_form text ≡ true → names_moment text ≡ true → IsMoment (seconds_in text)
+pub IsMoment-named : (text : List ℕ) → fits_form moment_form text ≡ true → names_moment text ≡ true
+    → IsMoment (seconds_in text)
 IsMoment-named text h t =
     let named = (names_moment-is text h).0 t in
     let y = year_in text in
     let m = month_in text in
     let d = day_in text in
     let month : (1 ≤ m) × (m ≤ 12) = (le-pos 1 m named.0.1.0, le-pos m 12 named.0.1.1) in
-    let day : (1 ≤ d) × (d ≤ days_in_month (pos y) m) = (le-pos 1 d named.0.2.0, le-pos d (days_in_month (pos y) m) named.0.2.1) in
+    let day : (1 ≤ d) × (d ≤ days_in_month (pos y) m) =
+    (le-pos 1 d named.0.2.0, le-pos d (days_in_month (pos y) m) named.0.2.1) in
     let hour : hour_in text ≤ 23 = le-pos (hour_in text) 23 named.1.0.1 in
     let minute : minute_in text ≤ 59 = le-pos (minute_in text) 59 named.1.1.1 in
     let second : second_in text ≤ 59 = le-pos (second_in text) 59 named.1.2.1 in
     let high = (day_count_bounds (pos y) m d (named.0.0, month, day)).1 in
     let low = from_year_zero y m d day.0 in
     let days = days_from_civil-day_count (pos y) m d in
-    within (days_from_civil (pos y) m d) (day_count (pos y) m d) (hour_in text) (minute_in text) (second_in text) days low high hour minute second
+    within (days_from_civil (pos y) m d) (day_count (pos y) m d) (hour_in text) (minute_in text) (second_in text) days
+    low high hour minute second
   where
-    within : (days : ℤ) (count h n s : ℕ) → up days + 4371953 ≡ down days + count → 3652425 ≤ count → count ≤ 7304849 → h ≤ 23 → n ≤ 59 → s ≤ 59 → IsMoment (days *ℤ pos 86400 +ℤ pos (h * 3600 + n * 60 + s))
+    within : (days : ℤ) (count h n s : ℕ) → up days + 4371953 ≡ down days + count → 3652425 ≤ count → count ≤ 7304849
+        → h ≤ 23 → n ≤ 59 → s ≤ 59 → IsMoment (days *ℤ pos 86400 +ℤ pos (h * 3600 + n * 60 + s))
     within days count h n s e low high hour minute second = (omega (arith, signed_arith), omega (arith, signed_arith))
 
 -- What is made of the second that the text names is the moment that is read.
-pub moment_reading-made : (text : List ℕ) (made : Option ℤ) (second : ℤ) → fits_form moment_form text ≡ true → names_moment text ≡ true → second ≡ seconds_in text → (IsMoment (to_z w64 (of_z w64 second)) → IsSome made) → IfSome made (λ moment. moment ≡ to_z w64 (of_z w64 second)) → made ≡ moment_reading text
+pub moment_reading-made : (text : List ℕ) (made : Option ℤ) (second : ℤ) → fits_form moment_form text ≡ true
+    → names_moment text ≡ true → second ≡ seconds_in text → (IsMoment (to_z w64 (of_z w64 second)) → IsSome made)
+    → IfSome made (λ moment. moment ≡ to_z w64 (of_z w64 second)) → made ≡ moment_reading text
 moment_reading-made text made second h t e within same =
     let moment : IsMoment second = subst IsMoment (sym e) (IsMoment-named text h t) in
     let fits : to_z w64 (of_z w64 second) ≡ second = FitsSigned-moment second moment in
     some made (within (subst IsMoment (sym fits) moment)) same (fits ∙ e) ∙ sym (moment_reading-named text h t)
   where
-    some : (o : Option ℤ) → IsSome o → {z : ℤ} → IfSome o (λ moment. moment ≡ z) → z ≡ seconds_in text → o ≡ Some (seconds_in text)
+    some : (o : Option ℤ) → IsSome o → {z : ℤ} → IfSome o (λ moment. moment ≡ z) → z ≡ seconds_in text
+        → o ≡ Some (seconds_in text)
     some None is {z} k e = cc
     some (Some x) is {z} k e = ap (λ y. Some y) (k ∙ e)

@@ -71,13 +71,13 @@ IsAscending-removed cmp at (x ∷ xs) up =
       | false ↦ (IsBelowAll-removed cmp at x xs up.0, IsAscending-removed cmp at xs up.1)
     ]
 
-is_eq_true : (r : Ordering) → is_eq r ≡ true → r ≡ Equal
+pub is_eq_true : (r : Ordering) → is_eq r ≡ true → r ≡ Equal
 is_eq_true Less h = absurd (cc)
 is_eq_true Equal h = refl
 is_eq_true Greater h = absurd (cc)
 
 -- Where the first item is at the key, no later one is.
-none_above : {X : Type 0} (cmp : X → X → Ordering) (o : IsTotalOrder cmp) (at : X → Ordering) (key : IsKey cmp at)
+pub none_above : {X : Type 0} (cmp : X → X → Ordering) (o : IsTotalOrder cmp) (at : X → Ordering) (key : IsKey cmp at)
     (x : X) (xs : List X) → at x ≡ Equal → IsBelowAll cmp x xs → found at xs ≡ None
 none_above cmp o at key x [] here below = refl
 none_above {X} cmp o at key x (y ∷ ys) here below =
@@ -116,7 +116,7 @@ found-removed_other {X} at other (x ∷ xs) apart =
         ∙ ap (λ o. cond (is_eq (other x)) (Some x) o) go
 
 -- An item below all others goes in front.
-inserted_front : {X : Type 0} (cmp : X → X → Ordering) (o : IsTotalOrder cmp) (x : X) (xs : List X)
+pub inserted_front : {X : Type 0} (cmp : X → X → Ordering) (o : IsTotalOrder cmp) (x : X) (xs : List X)
     → IsBelowAll cmp x xs → inserted cmp x xs ≡ x ∷ xs
 inserted_front cmp o x [] below = refl
 inserted_front cmp o x (y ∷ ys) below =
@@ -171,7 +171,7 @@ AreApart-are_apart {X} cmp (x ∷ xs) e =
 
 -- ---- by places
 
-add_one_left : (n : ℕ) → 1 + n ≡ suc n
+pub add_one_left : (n : ℕ) → 1 + n ≡ suc n
 add_one_left n = omega arith
 
 -- how many items at the front aren't at the key

@@ -13,6 +13,7 @@ use Rattle.std.proofs.lemmas.List.Sorted.{sorted_far, ranks_by, sum_by-IsPermuta
 use Rattle.std.proofs.lemmas.List.Sorted.{IsPermutation-sym}
 use Rattle.portal_base.specs.Ordered.{IsBelowAll, IsAscending, ascending}
 use Rattle.portal_base.proofs.Inserted.{list_any-same, both_false, AreApart, IsAscending-ascending}
+use Rattle.portal_base.proofs.Removed.{is_eq_true}
 use Rattle.portal_base.proofs.Unique.{IsIn-Contains, Contains-IsIn, unique, IsIn-ascending, ascending-IsIn}
 
 -- how many items are like z
@@ -43,11 +44,6 @@ none_counted {X} cmp z (x ∷ xs) n =
       | false ↦ λ e. none_counted cmp z xs (omega arith)
     ]) (sym (count_like-cons cmp z x xs) ∙ n)
 
-equal_from_is_eq : (r : Ordering) → is_eq r ≡ true → r ≡ Equal
-equal_from_is_eq Less h = absurd (cc)
-equal_from_is_eq Equal h = refl
-equal_from_is_eq Greater h = absurd (cc)
-
 -- Of items of which no two are alike at most one is like z.
 pub count_apart : {X : Type 0} (cmp : X → X → Ordering) (o : IsTotalOrder cmp) (z : X) (xs : List X)
     → AreApart cmp xs → count_like cmp z xs ≤ 1
@@ -58,7 +54,7 @@ count_apart {X} cmp o z (x ∷ xs) apart =
     rw (count_like-cons cmp z x xs) ((elim (is_eq (cmp x z)) as P [
       | true ↦ λ e.
           let same : (y : X) → is_eq (cmp y z) ≡ is_eq (cmp y x) =
-          λ y. sym (ap is_eq (alike_right o x z y (equal_from_is_eq (cmp x z) e))) in
+          λ y. sym (ap is_eq (alike_right o x z y (is_eq_true (cmp x z) e))) in
           let none : count_like cmp z xs ≡ 0 = count_none cmp z xs (list_any-same _ _ same xs ∙ apart.0) in
           omega arith
       | false ↦ λ e. omega arith

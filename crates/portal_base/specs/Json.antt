@@ -1,10 +1,12 @@
 -- JSON values (RFC 8259) without fractions: the data they stand for, their text, and the value of a text.
-use Rattle.std.specs.Prelude.{◌≡◌, ◌≤◌, ◌<◌, ◌^◌, ℕ, ℤ, pos, negsuc, List, [], ◌∷◌, map, Option, Some, None, option_map, option_and_then, Result, Ok, Err, if◌then◌else◌, bytes_eq, ⊤}
+use Rattle.std.specs.Prelude.{◌≡◌, ◌≤◌, ◌<◌, ◌^◌, ℕ, ℤ, pos, negsuc, List, [], ◌∷◌, map, Option, Some, None}
+use Rattle.std.specs.Prelude.{option_map, option_and_then, Result, Ok, Err, if◌then◌else◌, bytes_eq, ⊤}
 use Rattle.std.specs.Ordering.{nat_cmp}
 use Rattle.std.specs.declared.cmp.Ordering.TheVariants.{Less}
 use Rattle.std.specs.Cmp.Lexicographic.{slice_cmp}
 use Rattle.std.specs.Str.{is_utf8}
-use Rattle.serde_json.specs.Data.{Num, unsigned, negative, float, Data, null, boolean, number, string, array, object, Items, no_items, item, Members, no_members, member, depth}
+use Rattle.serde_json.specs.Data.{Num, unsigned, negative, float, Data, null, boolean, number, string, array, object}
+use Rattle.serde_json.specs.Data.{Items, no_items, item, Members, no_members, member, depth}
 use Rattle.serde_json.specs.Find.{as_integer, of_integer}
 use Rattle.serde_json.specs.Read.{read, max_depth}
 use Rattle.serde_json.specs.View.{items_of}
@@ -69,7 +71,8 @@ abbrev pub reading_of : Option Data → Result Json JsonFault
 reading_of None = Err NotJson
 reading_of (Some d) = or_fault Fraction (json_of d)
 
--- What bytes are read as. They are JSON where they are UTF-8 and one value of the grammar (RFC 8259), which nests 127 levels at most.
+-- What bytes are read as. They are JSON where they are UTF-8 and one value of the grammar (RFC 8259), which nests 127
+-- levels at most.
 abbrev pub json_reading : List ℕ → Result Json JsonFault
 json_reading bytes = if is_utf8 bytes then reading_of (read bytes) else Err NotJson
 

@@ -1,4 +1,5 @@
 pub mod Counted
+pub mod Faults
 pub mod formers
 pub mod Json
 pub mod Kinds

@@ -1,6 +1,7 @@
 -- The texts that are read as moments: the extended format of ISO 8601, section 5.4.2.1, on the proleptic Gregorian
 -- calendar, with a year of four digits, without a fraction and without a sign for UTC.
-use Rattle.std.specs.Prelude.{ℕ, ◌+◌, ◌-◌, ◌*◌, Bool, true, false, ◌&&◌, ◌==◌, nat_lt, nat_le, if◌then◌else◌, List, [], ◌∷◌, codes, slice_index, ℤ, pos, ◌+ℤ◌, ◌*ℤ◌, Option, Some, None}
+use Rattle.std.specs.Prelude.{ℕ, ◌+◌, ◌-◌, ◌*◌, Bool, true, false, ◌&&◌, ◌==◌, nat_lt, nat_le, if◌then◌else◌, List}
+use Rattle.std.specs.Prelude.{[], ◌∷◌, codes, slice_index, ℤ, pos, ◌+ℤ◌, ◌*ℤ◌, Option, Some, None}
 use Rattle.jiff_core.specs.Calendar.{days_in_month, days_from_civil}
 
 -- `YYYY-MM-DDThh:mm:ss`, where a 0 stands for any decimal digit

@@ -1,5 +1,6 @@
 -- The text of a moment in the extended format of ISO 8601, section 5.4.2.1, on the proleptic Gregorian calendar.
-use Rattle.std.specs.Prelude.{◌≡◌, ℕ, zero, suc, ◌+◌, ◌-◌, ◌/◌, ◌%◌, nat_lt, if◌then◌else◌, List, [], ◌∷◌, ◌++◌, codes, ℤ, pos, ◌-ℤ◌, unsigned_abs}
+use Rattle.std.specs.Prelude.{◌≡◌, ℕ, zero, suc, ◌+◌, ◌-◌, ◌/◌, ◌%◌, nat_lt, if◌then◌else◌, List, [], ◌∷◌, ◌++◌}
+use Rattle.std.specs.Prelude.{codes, ℤ, pos, ◌-ℤ◌, unsigned_abs}
 use Rattle.jiff.specs.Words.{civil_seconds}
 use Rattle.jiff.specs.Names.{iso_datetime_text}
 use Rattle.jiff.specs.declared.civil.datetimes.DateTime.{DateTime}
@@ -45,7 +46,8 @@ day_text day =
 
 -- `hh:mm:ss`: the time of day so many seconds after midnight.
 abbrev pub clock_text : ℕ → List ℕ
-clock_text second = two_digits (second / 3600) ++ codes ":" ++ two_digits (second / 60 % 60) ++ codes ":" ++ two_digits (second % 60)
+clock_text second = two_digits (second / 3600) ++ codes ":" ++ two_digits (second / 60 % 60) ++ codes ":"
+    ++ two_digits (second % 60)
 
 -- The seconds since 0000-01-01T00:00:00, for a moment given in seconds since 1970-01-01T00:00:00.
 abbrev pub calendar_seconds : ℤ → ℕ

@@ -1,9 +1,11 @@
 -- Which texts are names, and the first fault of those that aren't.
-use Rattle.std.specs.Prelude.{ℕ, ◌==◌, nat_le, nat_eq, Bool, not, is_none, ◌&&◌, ◌||◌, if◌then◌else◌, List, length, Option, Some, None, codes}
+use Rattle.std.specs.Prelude.{ℕ, ◌==◌, nat_le, nat_eq, Bool, not, is_none, ◌&&◌, ◌||◌, if◌then◌else◌, List, length}
+use Rattle.std.specs.Prelude.{Option, Some, None, codes, ◌++◌}
+use Rattle.std.specs.Fmt.{decimal}
 use Rattle.std.specs.List.{list_all, enumerate_from, starts_with}
 use Rattle.std.specs.Str.{bytes_eq, chars}
 use Rattle.portal_base.specs.declared.name.NameFault.{NameFault}
-use Rattle.portal_base.specs.declared.name.NameFault.TheVariants.{Length, Character, Reserved}
+use Rattle.portal_base.specs.declared.name.NameFault.TheVariants.{Length, Character, Reserved, OutOfMemory}
 
 -- an ASCII letter in lower case, a digit, `-` or `_`
 abbrev pub is_name_character : ℕ → Bool
@@ -58,3 +60,10 @@ is_name text longest = is_none (name_fault text longest)
 -- whether the text is a name, however long names may be
 abbrev pub is_some_name : List ℕ → Bool
 is_some_name text = nat_le 2 (length (chars text)) && has_name_characters text && not (is_reserved text)
+
+-- what is told of a text that is no name of at most so many characters
+abbrev pub name_fault_message : ℕ → NameFault → List ℕ
+name_fault_message longest Length = codes "Name must have 2 to " ++ decimal longest ++ codes " characters"
+name_fault_message longest Character = codes "Name may hold only lower-case ASCII letters, digits, - and _"
+name_fault_message longest Reserved = codes "That name is reserved"
+name_fault_message longest OutOfMemory = codes "Want of memory"

@@ -1,5 +1,5 @@
 -- Lists in strictly ascending order by a comparison: what stands in them, and how they change by one item.
-use Rattle.std.specs.Prelude.{◌≡◌, ◌&&◌, cond, Bool, true, not, List, [], ◌∷◌, Option}
+use Rattle.std.specs.Prelude.{◌≡◌, ◌&&◌, cond, Bool, true, not, List, [], ◌∷◌, Option, filter}
 use Rattle.std.specs.declared.cmp.Ordering.{Ordering}
 use Rattle.std.specs.declared.cmp.Ordering.TheVariants.{Less, Equal}
 use Rattle.std.specs.Ordering.{is_lt, is_eq}
@@ -43,6 +43,14 @@ found at xs = find (λ x. is_eq (at x)) xs
 abbrev pub removed : {X : Type 0} → (X → Ordering) → List X → List X
 removed at [] = []
 removed at (x ∷ xs) = cond (is_eq (at x)) xs (x ∷ removed at xs)
+
+-- the items that aren't at the key
+abbrev pub dropped : {X : Type 0} → (X → Ordering) → List X → List X
+dropped at xs = filter (λ x. not (is_eq (at x))) xs
+
+-- x in place of what is like it, or at its place where nothing is
+abbrev pub placed : {X : Type 0} → (X → X → Ordering) → X → List X → List X
+placed cmp x xs = inserted cmp x (dropped (λ y. cmp y x) xs)
 
 -- An item at the key stands to all others as the key does.
 abbrev pub IsKey : {X : Type 0} → (X → X → Ordering) → (X → Ordering) → Type 0

@@ -5,6 +5,7 @@ pub mod caller;
 pub mod copy;
 pub mod counted;
 pub mod dictionary;
+pub mod faults;
 pub mod json_value;
 pub mod kind_laws;
 pub mod kinds;

@@ -2,7 +2,8 @@
 ghost use Rattle.std.specs.Prelude.{◌≡◌, ◌+◌, ◌↔◌, IsTrue, IsSome, IfSome, IfOk, Some, pos, slice_index};
 ghost use Rattle.jiff.specs.Words.{civil_seconds};
 ghost use Rattle.portal_base.specs.Moment.{IsMoment};
-ghost use Rattle.portal_base.specs.MomentReading.{fits_form, fits_place, moment_form, moment_reading, names_moment, number_at, seconds_in, year_in};
+ghost use Rattle.portal_base.specs.MomentReading.{fits_form, fits_place, moment_form, moment_reading, names_moment};
+ghost use Rattle.portal_base.specs.MomentReading.{number_at, seconds_in, year_in};
 ghost use Rattle.portal_base.specs.MomentText.{IsMomentText, moment_text};
 
 use crate::text::Text;

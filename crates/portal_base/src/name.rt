@@ -1,10 +1,13 @@
 //! Names of datasets, organizations and users, as they stand in addresses.
 ghost use Rattle.std.specs.Prelude.{◌≡◌, List, length, MatchOption, IfOk, IsOkUnless, Err, IsTrue};
 ghost use Rattle.std.specs.Str.{chars};
-ghost use Rattle.portal_base.specs.Name.{name_fault, has_name_length, has_name_characters, is_name_character, is_portal_address, is_id_character, has_id_characters, is_id_shaped, is_reserved, is_some_name};
+ghost use Rattle.portal_base.specs.Name.{name_fault, has_name_length, has_name_characters, is_name_character};
+ghost use Rattle.portal_base.specs.Name.{is_portal_address, is_id_character, has_id_characters, is_id_shaped};
+ghost use Rattle.portal_base.specs.Name.{is_reserved, is_some_name};
+ghost use Rattle.portal_base.specs.Name.{name_fault_message};
 
 use crate::text::Text;
-use std::alloc::Global;
+use std::alloc::{AllocError, Global};
 use std::marker::Model;
 use thiserror::Error;
 
@@ -41,6 +44,25 @@ pub enum NameFault {
     Reserved,
     #[error("out of memory")]
     OutOfMemory,
+}
+
+impl NameFault {
+    /// What a caller is told of a text that is no name of at most `longest` characters. Only the text of a length
+    /// takes memory.
+    pub fn message(&self, alloc: Global, longest: usize) -> Result<Text, AllocError>
+        ensures { IfOk result (λ text. text ≡ name_fault_message longest self.now) }
+    {
+        let words = match self {
+            NameFault::Length => {
+                let words = format!(in alloc; "Name must have 2 to {longest} characters")?;
+                return Ok(Text::from(words));
+            }
+            NameFault::Character => "Name may hold only lower-case ASCII letters, digits, - and _",
+            NameFault::Reserved => "That name is reserved",
+            NameFault::OutOfMemory => "Want of memory",
+        };
+        Ok(Text::from_static(words))
+    }
 }
 
 impl Name {

@@ -8,10 +8,12 @@ ghost use Rattle.std.specs.List.{list_any, prefix_len};
 ghost use Rattle.std.specs.Option.{option_copied};
 ghost use Rattle.std.specs.Ordering.{is_lt, is_eq};
 ghost use Rattle.std.specs.declared.cmp.Ordering.{Ordering};
-ghost use Rattle.portal_base.specs.Ordered.{inserted, ascending, are_apart, found, removed};
+ghost use Rattle.portal_base.specs.Ordered.{IsAscending, inserted, ascending, are_apart, found, removed};
+ghost use Rattle.portal_base.specs.Ordered.{dropped, placed};
 
 use std::alloc::{AllocError, AllocFailed};
 use std::cmp::Ordering;
+use std::mem;
 
 /// What stands in a list by a key of its own.
 pub trait Ordered {
@@ -103,6 +105,34 @@ pub fn insert<T: Ordered>(items: &mut Vec<T>, item: T) -> Result<(), AllocFailed
 {
     let place = place_of(items.as_slice(), &item);
     items.insert(place, item)
+}
+
+/// Puts an item in place of the one that is like it, which is handed back, or at its place where none is. There is
+/// room for one more. It takes no memory and can't fail.
+pub fn replace_or_put<T: Ordered>(items: &mut Vec<T>, item: T) -> Option<T>
+    requires ascending { IsAscending T.order items.old.items }
+    requires room { vec_len items.old < vec_capacity items.old }
+    ensures replaced { result ≡ found (λ other. T.order other item) items.old.items }
+    ensures items { items.new.items ≡ placed T.order item items.old.items }
+    ensures ascending { IsAscending T.order items.new.items }
+{
+    let there = place_of(items.as_slice(), &item);
+    if there < items.len() && items[there].compare(&item).is_eq() {
+        Some(mem::replace(&mut items[there], item))
+    } else {
+        items.insert(there, item).unwrap();
+        None
+    }
+}
+
+/// Takes out the item at the key, of which there is at most one. It takes no memory.
+pub fn drop_at<T: Ordered, K: Key<T>>(items: &mut Vec<T>, key: &K) -> Option<T>
+    requires { IsAscending T.order items.old.items }
+    ensures item { result ≡ found (K.at key.now) items.old.items }
+    ensures rest { items.new.items ≡ dropped (K.at key.now) items.old.items }
+    ensures ascending { IsAscending T.order items.new.items }
+{
+    remove(items, key)
 }
 
 /// Takes out the first item at the key. It takes no memory.

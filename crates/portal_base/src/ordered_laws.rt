@@ -1,8 +1,8 @@
 //! Laws of lists in ascending order: functions with an empty body, whose contracts are the laws.
-ghost use Rattle.std.specs.Prelude.{◌≡◌, false, List, Some, None};
+ghost use Rattle.std.specs.Prelude.{◌≡◌, Bool, false, List, Some, None, filter, if◌then◌else◌};
 ghost use Rattle.std.specs.declared.cmp.Ordering.TheVariants.{Equal};
 ghost use Rattle.std.specs.Ordering.{is_eq};
-ghost use Rattle.portal_base.specs.Ordered.{IsAscending, inserted, found, removed};
+ghost use Rattle.portal_base.specs.Ordered.{IsAscending, inserted, found, removed, dropped, placed};
 
 use crate::ordered::{Key, Ordered};
 
@@ -34,4 +34,39 @@ pub fn insertion_and_removal_undo_each_other<T: Ordered, K: Key<T>>()
         found (K.at key) items ≡ None → removed (K.at key) (inserted T.order item items) ≡ items }
     ensures removed { (key : K) (item : T) (items : List T) → IsAscending T.order items →
         found (K.at key) items ≡ Some item → inserted T.order item (removed (K.at key) items) ≡ items }
+{}
+
+/// What is placed is found at its key, whatever was there before, and the list still ascends. At other keys all is
+/// found as before.
+pub fn what_is_placed_is_found<T: Ordered, K: Key<T>>()
+    ensures found { (key : K) (item : T) (items : List T) → K.at key item ≡ Equal →
+        found (K.at key) (placed T.order item items) ≡ Some item }
+    ensures others { (key : K) (item : T) (items : List T) → is_eq (K.at key item) ≡ false →
+        found (K.at key) (placed T.order item items) ≡ found (K.at key) items }
+    ensures ascends { (item : T) (items : List T) → IsAscending T.order items →
+        IsAscending T.order (placed T.order item items) }
+{}
+
+/// What is dropped isn't found, and the list still ascends. At keys that no dropped item shares all is found as
+/// before. Of a list that ascends no more than the first item at the key is dropped.
+pub fn what_is_dropped_is_not_found<T: Ordered, K: Key<T>>()
+    ensures found { (key : K) (items : List T) → found (K.at key) (dropped (K.at key) items) ≡ None }
+    ensures others { (key other : K) (items : List T) →
+        ((item : T) → K.at key item ≡ Equal → is_eq (K.at other item) ≡ false) →
+        found (K.at other) (dropped (K.at key) items) ≡ found (K.at other) items }
+    ensures ascends { (key : K) (items : List T) → IsAscending T.order items →
+        IsAscending T.order (dropped (K.at key) items) }
+    ensures one { (key : K) (items : List T) → IsAscending T.order items →
+        dropped (K.at key) items ≡ removed (K.at key) items }
+{}
+
+/// What a test keeps of a changed list is the list that it kept, changed alike. Where it doesn't keep the item that
+/// is placed, what is like that item is dropped.
+pub fn what_is_kept_changes_alike<T: Ordered, K: Key<T>>()
+    ensures placed { (keeps : T → Bool) (item : T) (items : List T) → IsAscending T.order items →
+        filter keeps (placed T.order item items) ≡
+        (if keeps item then placed T.order item (filter keeps items)
+        else dropped (λ other. T.order other item) (filter keeps items)) }
+    ensures dropped { (keeps : T → Bool) (key : K) (items : List T) →
+        filter keeps (dropped (K.at key) items) ≡ dropped (K.at key) (filter keeps items) }
 {}

@@ -1,5 +1,6 @@
 //! A list that owns its items, which contracts see as the list of them.
-ghost use Rattle.std.specs.Prelude.{◌≡◌, ◌↔◌, [], ◌∷◌, ◌++◌, ◌<◌, length, slice_get, IfOk, OnOk, OnErr, IfErr, IsTrue, Some};
+ghost use Rattle.std.specs.Prelude.{◌≡◌, ◌↔◌, [], ◌∷◌, ◌++◌, ◌<◌, length, slice_get, IfOk, OnOk, OnErr, IfErr};
+ghost use Rattle.std.specs.Prelude.{IsTrue, Some};
 ghost use Rattle.std.specs.Option.{option_copied};
 
 use crate::copy::TryClone;

@@ -1,5 +1,7 @@
 //! Words by their numbers: each call where there is enough memory.
-use portal_base::ordered::{Key, Ordered, are_apart, find, insert, put, remove, reserve, sort};
+use portal_base::ordered::{
+    Key, Ordered, are_apart, drop_at, find, insert, put, remove, replace_or_put, reserve, sort,
+};
 use std::alloc::{AllocError, Global};
 use std::cmp::Ordering;
 use std::process::Abort;
@@ -95,6 +97,46 @@ fn changes_by_one_item(rt: HostRuntime) -> Result<(), Fail> {
     assert_eq!(rt;
         words(rt.alloc(), items.as_slice())?.as_slice(),
         b"aei".as_slice()
+    );
+    Ok(())
+}
+
+#[test]
+fn puts_in_place_of_what_is_like(rt: HostRuntime) -> Result<(), Fail> {
+    let mut items: Vec<Numbered> = Vec::new(rt.alloc());
+    reserve(&mut items)?;
+    replace_or_put(
+        &mut items,
+        Numbered {
+            number: 5,
+            word: b'e',
+        },
+    );
+    reserve(&mut items)?;
+    replace_or_put(
+        &mut items,
+        Numbered {
+            number: 2,
+            word: b'b',
+        },
+    );
+    reserve(&mut items)?;
+    let replaced = replace_or_put(
+        &mut items,
+        Numbered {
+            number: 5,
+            word: b'x',
+        },
+    );
+    assert_eq!(rt; replaced.ok_or("an item")?.word, b'e');
+    assert_eq!(rt;
+        words(rt.alloc(), items.as_slice())?.as_slice(),
+        b"bx".as_slice()
+    );
+    assert_eq!(rt; drop_at(&mut items, &2).ok_or("an item")?.word, b'b');
+    assert_eq!(rt;
+        words(rt.alloc(), items.as_slice())?.as_slice(),
+        b"x".as_slice()
     );
     Ok(())
 }

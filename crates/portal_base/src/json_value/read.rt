@@ -2,7 +2,8 @@
 ghost use Rattle.std.specs.Prelude.{◌≡◌, ◌⊎◌, None, Some, IfOk, IfErr, OnOk};
 ghost use Rattle.serde_json.specs.Find.{as_integer};
 ghost use Rattle.serde_json.specs.View.{view, number_view, items_view, members_view};
-ghost use Rattle.portal_base.specs.Json.{json_of, list_of, entries_of, Fits, IsOrderly, ItemsAreOrderly, MembersAreOrderly};
+ghost use Rattle.portal_base.specs.Json.{json_of, list_of, entries_of, Fits, IsOrderly, ItemsAreOrderly};
+ghost use Rattle.portal_base.specs.Json.{MembersAreOrderly};
 
 use super::{Json, JsonFault};
 use crate::seq::Seq;

@@ -4,7 +4,9 @@ use Rattle.portal_base.proofs.JsonFirst.{first_of-find, value_of_found}
 use Rattle.portal_base.proofs.json_value.take_value.Goals as goal
 
 pub returns-in-Some : goal.returns-in-Some
-returns-in-Some c = sym (first_of-find c.args.key.now c.args.entries ∙ ap value_of_found (sym c.take_entry.ensures ∙ c.in-Some.is))
+returns-in-Some c =
+    sym (first_of-find c.args.key.now c.args.entries ∙ ap value_of_found (sym c.take_entry.ensures ∙ c.in-Some.is))
 
 pub returns-in-None : goal.returns-in-None
-returns-in-None c = sym (first_of-find c.args.key.now c.args.entries ∙ ap value_of_found (sym c.take_entry.ensures ∙ c.in-None.is))
+returns-in-None c =
+    sym (first_of-find c.args.key.now c.args.entries ∙ ap value_of_found (sym c.take_entry.ensures ∙ c.in-None.is))

@@ -11,4 +11,6 @@ returns-then-not-fits_place c =
     sym (fits_form-other_place moment_form c.args.text.now place lt other)
 
 pub returns : goal.returns
-returns c = sym (fits_form-all moment_form c.args.text.now (c.loop-place.invariant.0) (λ k lt. c.loop-place.invariant.1 k (omega arith)))
+returns c =
+    sym (fits_form-all moment_form c.args.text.now (c.loop-place.invariant.0)
+    (λ k lt. c.loop-place.invariant.1 k (omega arith)))

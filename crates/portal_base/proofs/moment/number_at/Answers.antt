@@ -11,10 +11,12 @@ pub overflow_sub-tens : goal.overflow_sub-tens
 overflow_sub-tens c = (fits_form-digit moment_form c.args.text.now c.args.place c.requires.form c.requires.tens).1
 
 pub bounds-text-place-2 : goal.bounds-text-place-2
-bounds-text-place-2 c = (fits_form-digit moment_form c.args.text.now (c.args.place + 1) c.requires.form c.requires.units).0
+bounds-text-place-2 c =
+    (fits_form-digit moment_form c.args.text.now (c.args.place + 1) c.requires.form c.requires.units).0
 
 pub overflow_sub-units : goal.overflow_sub-units
-overflow_sub-units c = (fits_form-digit moment_form c.args.text.now (c.args.place + 1) c.requires.form c.requires.units).1
+overflow_sub-units c =
+    (fits_form-digit moment_form c.args.text.now (c.args.place + 1) c.requires.form c.requires.units).1
 
 pub overflow_mul-result : goal.overflow_mul-result
 overflow_mul-result c =

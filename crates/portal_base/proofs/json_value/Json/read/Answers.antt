@@ -18,7 +18,9 @@ returns-in-Ok-clause-fault c =
 
 pub returns-in-Err-2-clause-fault : goal.returns-in-Err-2-clause-fault
 returns-in-Err-2-clause-fault c =
-    inr (reading_refused c.args.bytes.now (c.in-Err.ensures.err (λ m. true≢false (sym (c.is_memory.ensures.1 m) ∙ c.if-is_memory.false))))
+    inr (reading_refused c.args.bytes.now
+    (c.in-Err.ensures.err (λ m. true≢false (sym (c.is_memory.ensures.1 m) ∙ c.if-is_memory.false))))
 
 pub returns-in-Ok-clause-readable : goal.returns-in-Ok-clause-readable
-returns-in-Ok-clause-readable c = readable_read c.value_of.result (view c.in-Ok.value) c.in-Ok.ensures.nests c.value_of.ensures.ok c.value_of.ensures.orderly
+returns-in-Ok-clause-readable c = readable_read c.value_of.result (view c.in-Ok.value) c.in-Ok.ensures.nests
+    c.value_of.ensures.ok c.value_of.ensures.orderly

@@ -10,10 +10,12 @@ use Rattle.portal_base.proofs.json_value.read.+value_of.Given as goal
 abbrev pub invariant-list-loop-item : goal.invariant-list-loop-item
 invariant-list-loop-item l =
     (ItemsAreOrderly (items_view (drop l.item-index l.item-items)) → ItemsAreOrderly (items_view l.item-items))
-    × (list_of (items_view l.item-items) ≡ option_map (λ js. l.list.items ++ js) (list_of (items_view (drop l.item-index l.item-items))))
+    × (list_of (items_view l.item-items)
+    ≡ option_map (λ js. l.list.items ++ js) (list_of (items_view (drop l.item-index l.item-items))))
 
 abbrev pub invariant-entries-loop-key : goal.invariant-entries-loop-key
 invariant-entries-loop-key l =
     IsStrictlySortedBy string_cmp (keys_of l.key-iterator)
     × (MembersAreOrderly (members_view l.key-iterator) → MembersAreOrderly (members_view l.initial.key-iterator))
-    × (entries_of (members_view l.initial.key-iterator) ≡ option_map (λ es. l.entries.items ++ es) (entries_of (members_view l.key-iterator)))
+    × (entries_of (members_view l.initial.key-iterator) ≡ option_map (λ es. l.entries.items ++ es)
+    (entries_of (members_view l.key-iterator)))

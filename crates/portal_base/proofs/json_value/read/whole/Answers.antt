@@ -1,4 +1,5 @@
-use Rattle.std.proofs.Common.{◌≡◌, ℕ, ℤ, pos, negsuc, ◌<◌, ◌^◌, Some, None, true, FitsSigned, arith, subst, rules, ltb-true}
+use Rattle.std.proofs.Common.{◌≡◌, ℕ, ℤ, pos, negsuc, ◌<◌, ◌^◌, Some, None, true, FitsSigned, arith, subst, rules}
+use Rattle.std.proofs.Common.{ltb-true}
 use Rattle.std.specs.Int.{w64}
 use Rattle.serde_json.specs.Data.{Num, unsigned, negative, float}
 use Rattle.serde_json.specs.Find.{as_u64, as_i64}
@@ -15,10 +16,12 @@ fits_unsigned (negative z) n is small = absurd (cc)
 fits_unsigned (float x) n is small = tt
 
 -- what is below zero is no `u64`, and what is a `u64` is not negative
-fits_signed : (n : N) (z : ℤ) → is_valid n ≡ true → Some z ≡ as_i64 (num_of n) → None ≡ as_u64 (num_of n) → FitsSigned w64 z → Fits (num_of n)
+fits_signed : (n : N) (z : ℤ) → is_valid n ≡ true → Some z ≡ as_i64 (num_of n) → None ≡ as_u64 (num_of n)
+    → FitsSigned w64 z → Fits (num_of n)
 fits_signed (PosInt n) z valid is none small = absurd (cc)
 fits_signed (NegInt (pos n)) z valid is none small = absurd (omega (arith, ltb-true n 0 valid))
-fits_signed (NegInt (negsuc n)) z valid is none small = let same : z ≡ negsuc n = cc in omega (arith, subst (λ y. FitsSigned w64 y) same small)
+fits_signed (NegInt (negsuc n)) z valid is none small = let same : z ≡ negsuc n = cc in
+    omega (arith, subst (λ y. FitsSigned w64 y) same small)
 fits_signed (Float x) z valid is none small = tt
 
 pub returns-in-Some-clause-orderly : goal.returns-in-Some-clause-orderly

@@ -7,8 +7,10 @@ use Rattle.portal_base.proofs.json_value.write.+send.Given as goal
 -- whatever ends it well from here ends it well from the start
 abbrev pub invariant-send_items-loop-item : goal.invariant-send_items-loop-item
 invariant-send_items-loop-item g l =
-    (end : Log) → SendsItems (items_data (drop l.item-index l.items)) (g.S.Serializer.written l.out) end → SendsItems (items_data l.items) (g.S.Serializer.written l.initial.out) end
+    (end : Log) → SendsItems (items_data (drop l.item-index l.items)) (g.S.Serializer.written l.out) end
+    → SendsItems (items_data l.items) (g.S.Serializer.written l.initial.out) end
 
 abbrev pub invariant-send_entries-loop-entry : goal.invariant-send_entries-loop-entry
 invariant-send_entries-loop-entry g l =
-    (end : Log) → SendsMembers (members_data (drop l.entry-index l.entries)) (g.S.Serializer.written l.out) end → SendsMembers (members_data l.entries) (g.S.Serializer.written l.initial.out) end
+    (end : Log) → SendsMembers (members_data (drop l.entry-index l.entries)) (g.S.Serializer.written l.out) end
+    → SendsMembers (members_data l.entries) (g.S.Serializer.written l.initial.out) end

@@ -13,12 +13,16 @@ returns-then-not-has_form c =
 pub returns-in_err-civil : goal.returns-in_err-civil
 returns-in_err-civil c =
     let bytes = c.as_bytes-bytes.result.now in
-    let unnamed : names_moment bytes ≡ false = false_from_ne_true (names_moment bytes) (λ t. cc (c.in_err-civil.ensures.there.1 t)) in
-    c.from_residual.ensures ∙ sym (moment_reading-unnamed bytes unnamed) ∙ ap moment_reading c.as_bytes-bytes.ensures.value
+    let unnamed : names_moment bytes ≡ false =
+    false_from_ne_true (names_moment bytes) (λ t. cc (c.in_err-civil.ensures.there.1 t)) in
+    c.from_residual.ensures ∙ sym (moment_reading-unnamed bytes unnamed)
+    ∙ ap moment_reading c.as_bytes-bytes.ensures.value
 
 pub returns : goal.returns
 returns c =
     let bytes = c.as_bytes-bytes.result.now in
     let form : fits_form moment_form bytes ≡ true = sym c.has_form.ensures ∙ c.if-not-has_form.false in
     let named : names_moment bytes ≡ true = c.in_ok-civil.ensures.there.0 (cc) in
-    moment_reading-made bytes c.from_seconds.result c.seconds_of.result form named (c.seconds_of.ensures ∙ c.in_ok-civil.ensures.second) c.from_seconds.ensures.within.1 c.from_seconds.ensures.same ∙ ap moment_reading c.as_bytes-bytes.ensures.value
+    moment_reading-made bytes c.from_seconds.result c.seconds_of.result form named
+    (c.seconds_of.ensures ∙ c.in_ok-civil.ensures.second) c.from_seconds.ensures.within.1
+    c.from_seconds.ensures.same ∙ ap moment_reading c.as_bytes-bytes.ensures.value
