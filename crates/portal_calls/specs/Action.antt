@@ -1,0 +1,77 @@
+-- The actions' names, as in CKAN's Action API (2.10).
+use Rattle.std.specs.Prelude.{ℕ, List, [], ◌∷◌, codes, Bool, true, false, Option, find}
+use Rattle.std.specs.Str.{bytes_eq}
+use Rattle.portal_calls.specs.declared.action.Action.{Action}
+use Rattle.portal_calls.specs.declared.action.Action.TheVariants.{PackageCreate, PackageUpdate, PackagePatch}
+use Rattle.portal_calls.specs.declared.action.Action.TheVariants.{PackageDelete}
+use Rattle.portal_calls.specs.declared.action.Action.TheVariants.{DatasetPurge, PackageShow, PackageList}
+use Rattle.portal_calls.specs.declared.action.Action.TheVariants.{ResourceCreate}
+use Rattle.portal_calls.specs.declared.action.Action.TheVariants.{ResourceUpdate, ResourceDelete, ResourceShow}
+use Rattle.portal_calls.specs.declared.action.Action.TheVariants.{OrganizationCreate}
+use Rattle.portal_calls.specs.declared.action.Action.TheVariants.{OrganizationPatch, OrganizationDelete}
+use Rattle.portal_calls.specs.declared.action.Action.TheVariants.{OrganizationShow, OrganizationList}
+use Rattle.portal_calls.specs.declared.action.Action.TheVariants.{OrganizationListForUser, OrganizationMemberCreate}
+use Rattle.portal_calls.specs.declared.action.Action.TheVariants.{OrganizationMemberDelete, MemberList}
+use Rattle.portal_calls.specs.declared.action.Action.TheVariants.{UserList}
+
+abbrev pub action_name : Action → List ℕ
+action_name PackageCreate = codes "package_create"
+action_name PackageUpdate = codes "package_update"
+action_name PackagePatch = codes "package_patch"
+action_name PackageDelete = codes "package_delete"
+action_name DatasetPurge = codes "dataset_purge"
+action_name PackageShow = codes "package_show"
+action_name PackageList = codes "package_list"
+action_name ResourceCreate = codes "resource_create"
+action_name ResourceUpdate = codes "resource_update"
+action_name ResourceDelete = codes "resource_delete"
+action_name ResourceShow = codes "resource_show"
+action_name OrganizationCreate = codes "organization_create"
+action_name OrganizationPatch = codes "organization_patch"
+action_name OrganizationDelete = codes "organization_delete"
+action_name OrganizationShow = codes "organization_show"
+action_name OrganizationList = codes "organization_list"
+action_name OrganizationListForUser = codes "organization_list_for_user"
+action_name OrganizationMemberCreate = codes "organization_member_create"
+action_name OrganizationMemberDelete = codes "organization_member_delete"
+action_name MemberList = codes "member_list"
+action_name UserList = codes "user_list"
+
+abbrev pub all_actions : List Action
+all_actions =
+    PackageCreate ∷ PackageUpdate ∷ PackagePatch
+    ∷ PackageDelete ∷ DatasetPurge ∷ PackageShow
+    ∷ PackageList ∷ ResourceCreate ∷ ResourceUpdate
+    ∷ ResourceDelete ∷ ResourceShow ∷ OrganizationCreate
+    ∷ OrganizationPatch ∷ OrganizationDelete ∷ OrganizationShow
+    ∷ OrganizationList ∷ OrganizationListForUser ∷ OrganizationMemberCreate
+    ∷ OrganizationMemberDelete ∷ MemberList ∷ UserList
+    ∷ []
+
+-- the action of that name
+abbrev pub action_named : List ℕ → Option Action
+action_named name = find (λ a. bytes_eq (action_name a) name) all_actions
+
+-- Whether the action shows and changes nothing, whoever calls.
+abbrev pub is_reading : Action → Bool
+is_reading PackageCreate = false
+is_reading PackageUpdate = false
+is_reading PackagePatch = false
+is_reading PackageDelete = false
+is_reading DatasetPurge = false
+is_reading PackageShow = true
+is_reading PackageList = true
+is_reading ResourceCreate = false
+is_reading ResourceUpdate = false
+is_reading ResourceDelete = false
+is_reading ResourceShow = true
+is_reading OrganizationCreate = false
+is_reading OrganizationPatch = false
+is_reading OrganizationDelete = false
+is_reading OrganizationShow = true
+is_reading OrganizationList = true
+is_reading OrganizationListForUser = true
+is_reading OrganizationMemberCreate = false
+is_reading OrganizationMemberDelete = false
+is_reading MemberList = true
+is_reading UserList = true

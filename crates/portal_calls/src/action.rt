@@ -1,0 +1,112 @@
+//! Actions, by the names that CKAN's Action API (2.10) gives them.
+ghost use Rattle.std.specs.Prelude.{◌≡◌};
+ghost use Rattle.portal_calls.specs.Action.{action_name, action_named, is_reading};
+
+/// What a call asks for.
+#[derive(Clone, Copy, Debug, PartialEq, Eq)]
+pub enum Action {
+    PackageCreate,
+    PackageUpdate,
+    PackagePatch,
+    PackageDelete,
+    DatasetPurge,
+    PackageShow,
+    PackageList,
+    ResourceCreate,
+    ResourceUpdate,
+    ResourceDelete,
+    ResourceShow,
+    OrganizationCreate,
+    OrganizationPatch,
+    OrganizationDelete,
+    OrganizationShow,
+    OrganizationList,
+    OrganizationListForUser,
+    OrganizationMemberCreate,
+    OrganizationMemberDelete,
+    MemberList,
+    UserList,
+}
+
+impl Action {
+    /// Every action.
+    pub const ALL: [Action; 21] = [
+        Action::PackageCreate,
+        Action::PackageUpdate,
+        Action::PackagePatch,
+        Action::PackageDelete,
+        Action::DatasetPurge,
+        Action::PackageShow,
+        Action::PackageList,
+        Action::ResourceCreate,
+        Action::ResourceUpdate,
+        Action::ResourceDelete,
+        Action::ResourceShow,
+        Action::OrganizationCreate,
+        Action::OrganizationPatch,
+        Action::OrganizationDelete,
+        Action::OrganizationShow,
+        Action::OrganizationList,
+        Action::OrganizationListForUser,
+        Action::OrganizationMemberCreate,
+        Action::OrganizationMemberDelete,
+        Action::MemberList,
+        Action::UserList,
+    ];
+
+    /// The action's name in a call.
+    pub fn name(self) -> &'static str
+        ensures { result.now ≡ action_name self }
+    {
+        match self {
+            Action::PackageCreate => "package_create",
+            Action::PackageUpdate => "package_update",
+            Action::PackagePatch => "package_patch",
+            Action::PackageDelete => "package_delete",
+            Action::DatasetPurge => "dataset_purge",
+            Action::PackageShow => "package_show",
+            Action::PackageList => "package_list",
+            Action::ResourceCreate => "resource_create",
+            Action::ResourceUpdate => "resource_update",
+            Action::ResourceDelete => "resource_delete",
+            Action::ResourceShow => "resource_show",
+            Action::OrganizationCreate => "organization_create",
+            Action::OrganizationPatch => "organization_patch",
+            Action::OrganizationDelete => "organization_delete",
+            Action::OrganizationShow => "organization_show",
+            Action::OrganizationList => "organization_list",
+            Action::OrganizationListForUser => "organization_list_for_user",
+            Action::OrganizationMemberCreate => "organization_member_create",
+            Action::OrganizationMemberDelete => "organization_member_delete",
+            Action::MemberList => "member_list",
+            Action::UserList => "user_list",
+        }
+    }
+
+    /// The action of that name.
+    pub fn named(name: &str) -> Option<Action>
+        ensures { result ≡ action_named name.now }
+    {
+        Action::ALL
+            .iter()
+            .copied()
+            .find(|action| action.name() == name)
+    }
+
+    /// Whether it shows and changes nothing, whoever calls.
+    pub fn is_reading(self) -> bool
+        ensures { result ≡ is_reading self }
+    {
+        matches!(
+            self,
+            Action::PackageShow
+                | Action::PackageList
+                | Action::ResourceShow
+                | Action::OrganizationShow
+                | Action::OrganizationList
+                | Action::OrganizationListForUser
+                | Action::MemberList
+                | Action::UserList
+        )
+    }
+}

@@ -1,0 +1,23 @@
+//! Calls: who asks for what, and what was drawn for it.
+use crate::action::Action;
+use portal_base::caller::Caller;
+use portal_base::json_value::Json;
+use portal_base::moment::Moment;
+use portal_base::nonce::Nonce;
+
+/// An action and its body.
+#[derive(Drop)]
+pub struct Request {
+    pub action: Action,
+    pub body: Json,
+}
+
+/// A request with its caller, its size in bytes, and the moment and number that were drawn for it.
+#[derive(Drop)]
+pub struct Call {
+    pub caller: Caller,
+    pub request: Request,
+    pub size: u64,
+    pub moment: Moment,
+    pub nonce: Nonce,
+}
