@@ -1,2 +1,10 @@
+pub mod Body
+pub mod Named
+pub mod Numbered
 pub mod Order
 pub mod Package
+pub mod Resources
+pub mod Tag
+pub mod Tags
+pub mod Texts
+pub mod Told

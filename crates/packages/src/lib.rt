@@ -1,5 +1,13 @@
-//! Datasets as the catalogue keeps them.
+//! Datasets as the catalogue keeps them, and how they are built of what callers send.
 #![tactic(auto)]
 
+pub mod build;
+pub mod named;
 mod order;
 pub mod package;
+mod resource_list;
+pub mod resources;
+pub mod tag;
+mod tags;
+pub mod texts;
+mod told;

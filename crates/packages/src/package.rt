@@ -10,6 +10,15 @@ use std::alloc::{AllocError, Global};
 /// The most bytes of a title.
 pub const LONGEST_TITLE: usize = 2000;
 
+/// The most bytes of the other texts of a dataset, and of those of a resource.
+pub const LONGEST_TEXT: usize = 2000;
+
+/// The most bytes of a dataset's notes.
+pub const LONGEST_NOTES: usize = 100_000;
+
+/// The most bytes of a resource's description.
+pub const LONGEST_DESCRIPTION: usize = 20_000;
+
 /// The most characters of a name.
 pub const LONGEST_NAME: usize = 100;
 

@@ -1,0 +1,101 @@
+//! Worked examples of bodies: the dataset or the resource that each says, or what is told of it.
+#![tactic(auto)]
+
+ghost use Rattle.std.specs.Prelude.{IfNone, IsTrue};
+
+mod old;
+mod short;
+mod shown;
+
+use cases::{Case, Tally, check};
+use old::dataset_of;
+use packages::build::{BuildFault, build};
+use packages::package::Package;
+use packages::resources::resource_of;
+use portal_base::json_value::Json;
+use short::in_full;
+use shown::{dataset_shown, faults_shown, resource_shown};
+use std::alloc::{AllocError, Global};
+use std::io::{self, ErrorKind};
+use std::process::ExitCode;
+
+/// The body of a column, in which texts stand in short.
+fn body_of(alloc: Global, text: &str) -> io::Result<Json> {
+    let text = in_full(alloc, text)?;
+    match Json::read(alloc, text.as_bytes()) {
+        Ok(body) => Ok(body),
+        Err(_) => Err(io::Error::from(ErrorKind::InvalidData)),
+    }
+}
+
+/// What is told of a body, or that there is no memory.
+fn fault_shown(alloc: Global, fault: &BuildFault) -> Result<String, AllocError> {
+    match fault {
+        BuildFault::Fields(faults) => faults_shown(alloc, faults.as_slice()),
+        BuildFault::OutOfMemory => String::from_str(alloc, "out of memory"),
+    }
+}
+
+/// The dataset that a call builds, or what is told of its body.
+fn built_shown(
+    alloc: Global,
+    body: &Json,
+    old: Option<&Package>,
+    whole: bool,
+) -> Result<String, AllocError>
+    requires { IfNone old (IsTrue whole) }
+{
+    match build(alloc, body, old, whole) {
+        Ok(dataset) => dataset_shown(alloc, &dataset),
+        Err(fault) => fault_shown(alloc, &fault),
+    }
+}
+
+/// How a body is taken, and the body: the dataset that is built, or what is told of each faulty key.
+fn dataset(alloc: Global, case: &Case) -> io::Result<Vec<u8>> {
+    let body = body_of(alloc, case.text(1)?)?;
+    let shown = match case.text(0)?.split_once(' ') {
+        None => built_shown(alloc, &body, None, true)?,
+        Some(("update", name)) => {
+            let old = dataset_of(alloc, name)?;
+            built_shown(alloc, &body, Some(&old), true)?
+        }
+        Some((_, name)) => {
+            let old = dataset_of(alloc, name)?;
+            built_shown(alloc, &body, Some(&old), false)?
+        }
+    };
+    Ok(
+        shown
+            .as_str()
+            .trim_end_matches(' ')
+            .as_bytes()
+            .to_vec(alloc)?,
+    )
+}
+
+/// A resource's number, and its body: the resource, or what is told of each faulty key.
+fn resource(alloc: Global, case: &Case) -> io::Result<Vec<u8>> {
+    let body = body_of(alloc, case.text(1)?)?;
+    let shown = match resource_of(alloc, &body, case.parsed(0)?) {
+        Ok(resource) => resource_shown(alloc, &resource)?,
+        Err(fault) => fault_shown(alloc, &fault)?,
+    };
+    Ok(
+        shown
+            .as_str()
+            .trim_end_matches(' ')
+            .as_bytes()
+            .to_vec(alloc)?,
+    )
+}
+
+fn main(rt: HostRuntime) -> io::Result<ExitCode> {
+    let mut tally = Tally::new();
+    check(&rt, &mut tally, "datasets", 3, dataset)?;
+    check(&rt, &mut tally, "texts", 3, dataset)?;
+    check(&rt, &mut tally, "tags", 3, dataset)?;
+    check(&rt, &mut tally, "resources", 3, dataset)?;
+    check(&rt, &mut tally, "resource", 3, resource)?;
+    tally.end(&rt)
+}
