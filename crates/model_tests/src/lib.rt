@@ -1,4 +1,5 @@
-//! Tests of what people and datasets are kept as, which stand above org_roles and packages, so that these are proved once.
+//! Tests of what people and datasets are kept as, which stand above org_roles and packages, so that these are proved
+//! once.
 #![tactic(auto)]
 
 #[cfg(test)]

@@ -25,23 +25,32 @@ IsOutcome call said people datasets json dataset =
 -- nothing in use hinders the dataset
 abbrev Goes : Call → Option Creation → Peopled → List Package → Package → Type 0
 Goes call said people datasets dataset =
-    (json : Json) → json ≡ package_dictionary people dataset → has_name dataset.name datasets ≡ false → has_id dataset.id datasets ≡ false
+    (json : Json) → json ≡ package_dictionary people dataset → has_name dataset.name datasets ≡ false
+    → has_id dataset.id datasets ≡ false
     → IsOutcome call said people datasets json dataset
 
 goes_as_said : (call : Call) (seen : Creation) (people : Peopled) (datasets : List Package)
-    → may_create people call.caller seen.org ≡ true → is_some (org_in people seen.org) ≡ true → Goes call (Some seen) people datasets (created_package call seen)
+    → may_create people call.caller seen.org ≡ true → is_some (org_in people seen.org) ≡ true
+    → Goes call (Some seen) people datasets (created_package call seen)
 goes_as_said call seen people datasets may there json told unnamed unknown = rw (may, there, unnamed, unknown, told)
 
-pub planned-outcome : (call : Call) (said : Option Creation) (seen : Creation) (people : Peopled) (datasets : List Package) (dataset : Package) (json : Json)
-    → Some seen ≡ said → may_create people call.caller seen.org ≡ true → is_some (org_in people seen.org) ≡ true → dataset ≡ created_package call seen
-    → json ≡ package_dictionary people dataset → has_name dataset.name datasets ≡ false → has_id dataset.id datasets ≡ false
+pub planned-outcome : (call : Call) (said : Option Creation) (seen : Creation) (people : Peopled)
+    (datasets : List Package) (dataset : Package) (json : Json)
+    → Some seen ≡ said → may_create people call.caller seen.org ≡ true → is_some (org_in people seen.org) ≡ true
+    → dataset ≡ created_package call seen
+    → json ≡ package_dictionary people dataset → has_name dataset.name datasets ≡ false
+    → has_id dataset.id datasets ≡ false
     → IsOutcome call said people datasets json dataset
 planned-outcome call said seen people datasets dataset json is may there made told unnamed unknown =
     subst (λ (s : Option Creation). IsOutcome call s people datasets json dataset) is
-    (subst (λ (d : Package). Goes call (Some seen) people datasets d) (sym made) (goes_as_said call seen people datasets may there) json told unnamed unknown)
+    (subst (λ (d : Package). Goes call (Some seen) people datasets d) (sym made)
+    (goes_as_said call seen people datasets may there) json told unnamed unknown)
 
 -- the dataset that is found is shown
-pub shown-outcome : (said : Option (List ℕ)) (key : List ℕ) (caller : Caller) (people : Peopled) (datasets : List Package) (dataset : Package) (json : Json)
-    → Some key ≡ said → Some dataset ≡ find (λ (d : Package). is_named key d && sees_in people caller d) datasets → json ≡ package_dictionary people dataset
-    → unchanged (Shown json) (state_of people datasets) ≡ settled (answer_to_show_in said caller (state_of people datasets)) (state_of people datasets)
+pub shown-outcome : (said : Option (List ℕ)) (key : List ℕ) (caller : Caller) (people : Peopled)
+    (datasets : List Package) (dataset : Package) (json : Json)
+    → Some key ≡ said → Some dataset ≡ find (λ (d : Package). is_named key d && sees_in people caller d) datasets
+    → json ≡ package_dictionary people dataset
+    → unchanged (Shown json) (state_of people datasets)
+    ≡ settled (answer_to_show_in said caller (state_of people datasets)) (state_of people datasets)
 shown-outcome said key caller people datasets dataset json is found told = rw (← is, ← found, told) refl

@@ -21,7 +21,8 @@ use Rattle.portal_serve.specs.State.{State}
 use Rattle.portal_serve.specs.Stated.{a_user, city_role, stated_state}
 use Rattle.portal_serve.specs.View.{view_of}
 
--- a carriage return before a line feed is no part of the line, empty lines are left out, and the last line keeps what it has
+-- a carriage return before a line feed is no part of the line, empty lines are left out, and the last line keeps what
+-- it has
 lines_of_a_script : script_lines (codes "a\r\n\n\r\nb\r") ≡ codes "a" ∷ codes "b\r" ∷ []
 lines_of_a_script = refl
 
@@ -101,7 +102,9 @@ quiet_again = record { name = codes "quiet"; org = codes "city"; private = false
 
 -- ann may create, and is told of the name that she doesn't see
 hidden_name_in_use : (call : Call)
-    → (settled (answer_to_create (record call { caller = Named (codes "ann") }) (Some quiet_again) (view_of (Named (codes "ann")) with_hidden)) with_hidden).reply
+    → (settled
+    (answer_to_create (record call { caller = Named (codes "ann") }) (Some quiet_again)
+    (view_of (Named (codes "ann")) with_hidden)) with_hidden).reply
     ≡ Refused (NameInUse (codes "name"))
 hidden_name_in_use call = refl
 
@@ -129,12 +132,17 @@ one_name_is_not_valid valid =
 
 -- that the dataset comes is not hidden from bob, who sees it
 quiet_is_not_hidden_from_bob : IsHiddenBetween (Named (codes "bob")) stated_state with_quiet → ⊥
-quiet_is_not_hidden_from_bob hidden = let stood = hidden.datasets.stood quiet (0, omega arith, refl) refl in absurd (omega arith)
+quiet_is_not_hidden_from_bob hidden = let stood = hidden.datasets.stood quiet (0, omega arith, refl) refl in
+    absurd (omega arith)
 
 -- the loss of a role is not hidden from whoever had it
-role_lost_is_not_hidden : IsHiddenBetween (Named (codes "ann")) stated_state (record stated_state { people = record stated_state.people { roles = [] } }) → ⊥
-role_lost_is_not_hidden hidden = let stays = hidden.roles.stays (city_role (codes "ann") Editor) (0, omega arith, refl) refl in absurd (omega arith)
+role_lost_is_not_hidden : IsHiddenBetween (Named (codes "ann")) stated_state
+    (record stated_state { people = record stated_state.people { roles = [] } }) → ⊥
+role_lost_is_not_hidden hidden = let stays =
+    hidden.roles.stays (city_role (codes "ann") Editor) (0, omega arith, refl) refl in absurd (omega arith)
 
 -- and a new user is hidden from nobody
-user_is_not_hidden : IsHiddenBetween Anonymous (record stated_state { people = record stated_state.people { users = [] } }) stated_state → ⊥
-user_is_not_hidden hidden = let stood = hidden.users.stood (a_user (codes "ann") false) (0, omega arith, refl) refl in absurd (omega arith)
+user_is_not_hidden : IsHiddenBetween Anonymous
+    (record stated_state { people = record stated_state.people { users = [] } }) stated_state → ⊥
+user_is_not_hidden hidden = let stood = hidden.users.stood (a_user (codes "ann") false) (0, omega arith, refl) refl in
+    absurd (omega arith)

@@ -7,7 +7,8 @@ use Rattle.portal_base.specs.declared.json_value.Json.{Json}
 use Rattle.packages.specs.declared.package.Package.{Package}
 use Rattle.portal_serve.specs.Answer.{Answer, shown, refused, accepted, create_dataset, answer_to}
 use Rattle.portal_serve.specs.Hidden.{is_caller, is_call_of, IsHidden}
-use Rattle.portal_serve.specs.History.{calls_of, AreOthersHidden, Exchange, exchange_of, exchanges_of, AreAlike, tell_of_no_use}
+use Rattle.portal_serve.specs.History.{calls_of, AreOthersHidden, Exchange, exchange_of, exchanges_of, AreAlike}
+use Rattle.portal_serve.specs.History.{tell_of_no_use}
 use Rattle.portal_serve.specs.Isolation.{tells_of_use}
 use Rattle.portal_serve.specs.State.{State, has_name, has_id}
 use Rattle.portal_serve.specs.Step.{settled, call_step, step_of, replay}
@@ -22,17 +23,21 @@ use Rattle.portal_serve.proofs.Keeping.{step-valid}
 
 -- ---- an event of somebody else
 
-settled-same : (answer : Answer) (state : State) → (settled answer state).is_accepted ≡ false → (settled answer state).state ≡ state
+settled-same : (answer : Answer) (state : State) → (settled answer state).is_accepted ≡ false
+    → (settled answer state).state ≡ state
 settled-same (shown json) state not_made = refl
 settled-same (refused refusal) state not_made = refl
-settled-same (accepted json (create_dataset dataset)) state not_made = by (has_name dataset.name state.datasets) (has_id dataset.id state.datasets) not_made
+settled-same (accepted json (create_dataset dataset)) state not_made =
+    by (has_name dataset.name state.datasets) (has_id dataset.id state.datasets) not_made
   where
-    by : (named known : Bool) → (outcome_when json dataset state named known).is_accepted ≡ false → (outcome_when json dataset state named known).state ≡ state
+    by : (named known : Bool) → (outcome_when json dataset state named known).is_accepted ≡ false
+        → (outcome_when json dataset state named known).state ≡ state
     by true known r = refl
     by false true r = refl
     by false false r = absurd (cc)
 
-pub refused-same : (state : State) (event : Event) → (step_of state event).is_accepted ≡ false → (step_of state event).state ≡ state
+pub refused-same : (state : State) (event : Event) → (step_of state event).is_accepted ≡ false
+    → (step_of state event).state ≡ state
 refused-same state (a_call call) not_made = settled-same (answer_to call (view_of call.caller state)) state not_made
 
 pub hidden-view : (caller : Caller) (state : State) (event : Event) → IsValid state → IsHidden caller state event
@@ -41,11 +46,13 @@ hidden-view caller state event valid hidden =
     sym (view_of-hidden caller state (step_of state event).state valid (step-valid state event valid) hidden.between)
 
 -- an event that is refused or hidden leaves what the caller sees
-other-view : (caller : Caller) (state : State) (event : Event) → IsValid state → ((step_of state event).is_accepted ≡ true → IsHidden caller state event)
+other-view : (caller : Caller) (state : State) (event : Event) → IsValid state
+    → ((step_of state event).is_accepted ≡ true → IsHidden caller state event)
     → view_of caller (step_of state event).state ≡ view_of caller state
 other-view caller state event valid hidden = by (step_of state event).is_accepted refl
   where
-    by : (b : Bool) → (step_of state event).is_accepted ≡ b → view_of caller (step_of state event).state ≡ view_of caller state
+    by : (b : Bool) → (step_of state event).is_accepted ≡ b
+        → view_of caller (step_of state event).state ≡ view_of caller state
     by true is = hidden-view caller state event valid (hidden is)
     by false is = ap (view_of caller) (refused-same state event is)
 
@@ -58,17 +65,21 @@ same_caller (Named user) Anonymous is = absurd (cc)
 same_caller (Named user) (Named other) is = ap Named (sym ((bytes_eq-Decides user other).0 is))
 
 -- a change that tells of nothing in use is accepted
-quiet-accepted : (json : Json) (dataset : Package) (state : State) → tells_of_use (settled (accepted json (create_dataset dataset)) state).reply ≡ false
+quiet-accepted : (json : Json) (dataset : Package) (state : State)
+    → tells_of_use (settled (accepted json (create_dataset dataset)) state).reply ≡ false
     → (settled (accepted json (create_dataset dataset)) state).is_accepted ≡ true
-quiet-accepted json dataset state quiet = by (has_name dataset.name state.datasets) (has_id dataset.id state.datasets) quiet
+quiet-accepted json dataset state quiet = by (has_name dataset.name state.datasets) (has_id dataset.id state.datasets)
+    quiet
   where
-    by : (named known : Bool) → tells_of_use (outcome_when json dataset state named known).reply ≡ false → (outcome_when json dataset state named known).is_accepted ≡ true
+    by : (named known : Bool) → tells_of_use (outcome_when json dataset state named known).reply ≡ false
+        → (outcome_when json dataset state named known).is_accepted ≡ true
     by true known q = absurd (cc)
     by false true q = absurd (cc)
     by false false q = refl
 
 -- what one answer leaves in states of which the caller sees the same
-quiet_views : (answer : Answer) (caller : Caller) (s t : State) → IsValid s → IsValid t → view_of caller s ≡ view_of caller t
+quiet_views : (answer : Answer) (caller : Caller) (s t : State) → IsValid s → IsValid t
+    → view_of caller s ≡ view_of caller t
     → tells_of_use (settled answer s).reply ≡ false → tells_of_use (settled answer t).reply ≡ false
     → view_of caller (settled answer s).state ≡ view_of caller (settled answer t).state
 quiet_views (shown json) caller s t in_s in_t same first second = same
@@ -82,7 +93,8 @@ call-exchange : (s t : State) (call : Call) → IsValid s → IsValid t → view
     → tells_of_use (call_step s call).reply ≡ false → tells_of_use (call_step t call).reply ≡ false
     → exchange_of call.caller (call_step s call) ≡ exchange_of call.caller (call_step t call)
 call-exchange s t call in_s in_t same first second =
-    let onto : answer_to call (view_of call.caller s) ≡ answer_to call (view_of call.caller t) = ap (answer_to call) same in
+    let onto : answer_to call (view_of call.caller s) ≡ answer_to call (view_of call.caller t) =
+    ap (answer_to call) same in
     let first_there : tells_of_use (settled (answer_to call (view_of call.caller t)) s).reply ≡ false =
     subst (λ (a : Answer). tells_of_use (settled a s).reply ≡ false) onto first in
     let views : view_of call.caller (call_step s call).state ≡ view_of call.caller (call_step t call).state =
@@ -90,11 +102,13 @@ call-exchange s t call in_s in_t same first second =
     ∙ quiet_views (answer_to call (view_of call.caller t)) call.caller s t in_s in_t same first_there second in
     rw (replies_alike s t call same first second, views) refl
 
-own-exchange : (caller : Caller) (s t : State) (event : Event) → is_call_of caller event ≡ true → IsValid s → IsValid t → view_of caller s ≡ view_of caller t
+own-exchange : (caller : Caller) (s t : State) (event : Event) → is_call_of caller event ≡ true → IsValid s
+    → IsValid t → view_of caller s ≡ view_of caller t
     → tells_of_use (step_of s event).reply ≡ false → tells_of_use (step_of t event).reply ≡ false
     → exchange_of caller (step_of s event) ≡ exchange_of caller (step_of t event)
 own-exchange caller s t (a_call call) is in_s in_t same first second =
-    subst (λ (c : Caller). view_of c s ≡ view_of c t → exchange_of c (call_step s call) ≡ exchange_of c (call_step t call)) (same_caller caller call.caller is)
+    subst (λ (c : Caller). view_of c s ≡ view_of c t
+    → exchange_of c (call_step s call) ≡ exchange_of c (call_step t call)) (same_caller caller call.caller is)
     (λ alike. call-exchange s t call in_s in_t alike first second) same
 
 -- ---- a history
@@ -107,22 +121,32 @@ own_exchanges caller state events = exchanges_of caller state (calls_of caller e
 abbrev IsSameEnd : Caller → State → State → List Event → Type 0
 IsSameEnd caller s t events = view_of caller (replay s events) ≡ view_of caller (replay t (calls_of caller events))
 
-pub exchanges-alike : (caller : Caller) (s t : State) (events : List Event) → IsValid s → IsValid t → view_of caller s ≡ view_of caller t → AreOthersHidden caller s events
+pub exchanges-alike : (caller : Caller) (s t : State) (events : List Event) → IsValid s → IsValid t
+    → view_of caller s ≡ view_of caller t → AreOthersHidden caller s events
     → AreAlike (exchanges_of caller s events) (exchanges_of caller t (calls_of caller events))
 exchanges-alike caller s t [] in_s in_t same hidden = tt
 exchanges-alike caller s t (e ∷ events) in_s in_t same hidden =
     by (is_call_of caller e) refl
-    (λ alike. exchanges-alike caller (step_of s e).state (step_of t e).state events (step-valid s e in_s) (step-valid t e in_t) alike hidden.1)
+    (λ alike. exchanges-alike caller (step_of s e).state (step_of t e).state events (step-valid s e in_s)
+    (step-valid t e in_t) alike hidden.1)
     (λ alike. exchanges-alike caller (step_of s e).state t events (step-valid s e in_s) in_t alike hidden.1)
   where
     by : (b : Bool) → is_call_of caller e ≡ b
-        → (view_of caller (step_of s e).state ≡ view_of caller (step_of t e).state → AreAlike (exchanges_of caller (step_of s e).state events) (own_exchanges caller (step_of t e).state events))
-        → (view_of caller (step_of s e).state ≡ view_of caller t → AreAlike (exchanges_of caller (step_of s e).state events) (own_exchanges caller t events))
-        → AreAlike (cond b (exchange_of caller (step_of s e) ∷ exchanges_of caller (step_of s e).state events) (exchanges_of caller (step_of s e).state events))
+        → (view_of caller (step_of s e).state ≡ view_of caller (step_of t e).state
+        → AreAlike (exchanges_of caller (step_of s e).state events) (own_exchanges caller (step_of t e).state events))
+        → (view_of caller (step_of s e).state ≡ view_of caller t
+        → AreAlike (exchanges_of caller (step_of s e).state events) (own_exchanges caller t events))
+        → AreAlike
+        (cond b (exchange_of caller (step_of s e) ∷ exchanges_of caller (step_of s e).state events)
+        (exchanges_of caller (step_of s e).state events))
         (exchanges_of caller t (cond b (e ∷ calls_of caller events) (calls_of caller events)))
     by true is own other =
-        subst (λ (b : Bool). AreAlike (exchange_of caller (step_of s e) ∷ exchanges_of caller (step_of s e).state events) (cond b (exchange_of caller (step_of t e) ∷ own_exchanges caller (step_of t e).state events) (own_exchanges caller (step_of t e).state events))) (sym is)
-        (λ first second. let exchange = own-exchange caller s t e is in_s in_t same first second in (exchange, own (ap (λ (u : Exchange). u.view) exchange)))
+        subst (λ (b : Bool). AreAlike
+        (exchange_of caller (step_of s e) ∷ exchanges_of caller (step_of s e).state events)
+        (cond b (exchange_of caller (step_of t e) ∷ own_exchanges caller (step_of t e).state events)
+        (own_exchanges caller (step_of t e).state events))) (sym is)
+        (λ first second. let exchange = own-exchange caller s t e is in_s in_t same first second in
+        (exchange, own (ap (λ (u : Exchange). u.view) exchange)))
     by false is own other = other (other-view caller s e in_s (hidden.0 is) ∙ same)
 
 both_true : (a b : Bool) → (a && b) ≡ true → (a ≡ true) × (b ≡ true)
@@ -133,19 +157,24 @@ not_told : (b : Bool) → not b ≡ true → b ≡ false
 not_told true is = absurd (cc)
 not_told false is = refl
 
-pub ends-alike : (caller : Caller) (s t : State) (events : List Event) → IsValid s → IsValid t → view_of caller s ≡ view_of caller t → AreOthersHidden caller s events
-    → tell_of_no_use (exchanges_of caller s events) ≡ true → tell_of_no_use (exchanges_of caller t (calls_of caller events)) ≡ true
+pub ends-alike : (caller : Caller) (s t : State) (events : List Event) → IsValid s → IsValid t
+    → view_of caller s ≡ view_of caller t → AreOthersHidden caller s events
+    → tell_of_no_use (exchanges_of caller s events) ≡ true
+    → tell_of_no_use (exchanges_of caller t (calls_of caller events)) ≡ true
     → view_of caller (replay s events) ≡ view_of caller (replay t (calls_of caller events))
 ends-alike caller s t [] in_s in_t same hidden first second = same
 ends-alike caller s t (e ∷ events) in_s in_t same hidden first second =
     by (is_call_of caller e) refl
-    (λ alike. ends-alike caller (step_of s e).state (step_of t e).state events (step-valid s e in_s) (step-valid t e in_t) alike hidden.1)
+    (λ alike. ends-alike caller (step_of s e).state (step_of t e).state events (step-valid s e in_s)
+    (step-valid t e in_t) alike hidden.1)
     (λ alike. ends-alike caller (step_of s e).state t events (step-valid s e in_s) in_t alike hidden.1)
     first second
   where
     own_end : is_call_of caller e ≡ true
-        → (view_of caller (step_of s e).state ≡ view_of caller (step_of t e).state → tell_of_no_use (exchanges_of caller (step_of s e).state events) ≡ true
-        → tell_of_no_use (own_exchanges caller (step_of t e).state events) ≡ true → IsSameEnd caller (step_of s e).state (step_of t e).state events)
+        → (view_of caller (step_of s e).state ≡ view_of caller (step_of t e).state
+        → tell_of_no_use (exchanges_of caller (step_of s e).state events) ≡ true
+        → tell_of_no_use (own_exchanges caller (step_of t e).state events) ≡ true
+        → IsSameEnd caller (step_of s e).state (step_of t e).state events)
         → tell_of_no_use (exchange_of caller (step_of s e) ∷ exchanges_of caller (step_of s e).state events) ≡ true
         → tell_of_no_use (exchange_of caller (step_of t e) ∷ own_exchanges caller (step_of t e).state events) ≡ true
         → IsSameEnd caller (step_of s e).state (step_of t e).state events
@@ -156,14 +185,22 @@ ends-alike caller s t (e ∷ events) in_s in_t same hidden first second =
         own (ap (λ (u : Exchange). u.view) exchange) parts_s.1 parts_t.1
 
     by : (b : Bool) → is_call_of caller e ≡ b
-        → (view_of caller (step_of s e).state ≡ view_of caller (step_of t e).state → tell_of_no_use (exchanges_of caller (step_of s e).state events) ≡ true
-        → tell_of_no_use (own_exchanges caller (step_of t e).state events) ≡ true → IsSameEnd caller (step_of s e).state (step_of t e).state events)
-        → (view_of caller (step_of s e).state ≡ view_of caller t → tell_of_no_use (exchanges_of caller (step_of s e).state events) ≡ true
+        → (view_of caller (step_of s e).state ≡ view_of caller (step_of t e).state
+        → tell_of_no_use (exchanges_of caller (step_of s e).state events) ≡ true
+        → tell_of_no_use (own_exchanges caller (step_of t e).state events) ≡ true
+        → IsSameEnd caller (step_of s e).state (step_of t e).state events)
+        → (view_of caller (step_of s e).state ≡ view_of caller t
+        → tell_of_no_use (exchanges_of caller (step_of s e).state events) ≡ true
         → tell_of_no_use (own_exchanges caller t events) ≡ true → IsSameEnd caller (step_of s e).state t events)
-        → tell_of_no_use (cond b (exchange_of caller (step_of s e) ∷ exchanges_of caller (step_of s e).state events) (exchanges_of caller (step_of s e).state events)) ≡ true
+        → tell_of_no_use
+        (cond b (exchange_of caller (step_of s e) ∷ exchanges_of caller (step_of s e).state events)
+        (exchanges_of caller (step_of s e).state events)) ≡ true
         → tell_of_no_use (exchanges_of caller t (cond b (e ∷ calls_of caller events) (calls_of caller events))) ≡ true
-        → view_of caller (replay (step_of s e).state events) ≡ view_of caller (replay t (cond b (e ∷ calls_of caller events) (calls_of caller events)))
+        → view_of caller (replay (step_of s e).state events)
+        ≡ view_of caller (replay t (cond b (e ∷ calls_of caller events) (calls_of caller events)))
     by true is own other quiet_s quiet_t =
         own_end is own quiet_s
-        (subst (λ (b : Bool). tell_of_no_use (cond b (exchange_of caller (step_of t e) ∷ own_exchanges caller (step_of t e).state events) (own_exchanges caller (step_of t e).state events)) ≡ true) is quiet_t)
+        (subst (λ (b : Bool). tell_of_no_use
+        (cond b (exchange_of caller (step_of t e) ∷ own_exchanges caller (step_of t e).state events)
+        (own_exchanges caller (step_of t e).state events)) ≡ true) is quiet_t)
     by false is own other quiet_s quiet_t = other (other-view caller s e in_s (hidden.0 is) ∙ same) quiet_s quiet_t

@@ -1,26 +1,30 @@
 -- A run on an input that tells: how each turn carries it on, and what stands at its end.
-use Rattle.std.proofs.Common.{◌≡◌, ◌⊎◌, ℕ, ◌+◌, ◌<◌, ◌≤◌, ℤ, List, [], ◌∷◌, ◌++◌, Bool, true, false, cond, length, Option, Some, Result, Err, refl, sym, ap, subst, ◌∙◌, append_assoc, append-nil, length-append, inl, inr, arith}
+use Rattle.std.proofs.Common.{◌≡◌, ◌⊎◌, ℕ, ◌+◌, ◌<◌, ◌≤◌, ℤ, List, [], ◌∷◌, ◌++◌, Bool, true, false, cond, length}
+use Rattle.std.proofs.Common.{Option, Some, Result, Err, refl, sym, ap, subst, ◌∙◌, append_assoc, append-nil}
+use Rattle.std.proofs.Common.{length-append, inl, inr, arith}
 use Rattle.std.proofs.lemmas.List.Elements.{filter-append}
 use Rattle.std.specs.Prelude.{◌↔◌, filter}
 use Rattle.std.specs.Str.Lines.{lines}
 use Rattle.portal_base.proofs.OutsideLemmas.{Takes-none, Takes-append}
 use Rattle.portal_base.specs.Outside.{Gives, IsAtEnd}
 use Rattle.portal_lines.specs.Lines.{Reading, EndsLine, TakesLine}
-use Rattle.portal_serve.proofs.Working.{works_none, works_more, works_wrote, works_then, AreDrawn-append, DrawsAll-none, DrawsAll-more, begins_no_line}
-use Rattle.portal_serve.specs.Played.{Works, BeginsLines, StopsLines, TakesTurn, EndsTurn, StopsTurn, EndsAll, Running, unless_empty}
+use Rattle.portal_serve.proofs.Working.{works_none, works_more, works_wrote, works_then, AreDrawn-append}
+use Rattle.portal_serve.proofs.Working.{DrawsAll-none, DrawsAll-more, begins_no_line}
+use Rattle.portal_serve.specs.Played.{Works, BeginsLines, StopsLines, TakesTurn, EndsTurn, StopsTurn, EndsAll}
+use Rattle.portal_serve.specs.Played.{Running, unless_empty}
 use Rattle.portal_serve.specs.Script.{script_lines, is_nonempty}
 use Rattle.portal_serve.specs.State.{State}
-use Rattle.portal_serve.specs.Transcript.{Standing, AreDrawn, written_for}
-use Rattle.portal_serve.specs.Run.{Begins, DrawsAll, standing, Devices, Outlet, outlet_of, Stops, PlaysAll, PlaysPart, GaveTooMuch, most_input}
+use Rattle.portal_serve.specs.Transcript.{AreDrawn, written_for}
+use Rattle.portal_serve.specs.Run.{Begins, DrawsAll, standing, Devices, Outlet, outlet_of, Stops, PlaysAll, PlaysPart}
+use Rattle.portal_serve.specs.Run.{GaveTooMuch, most_input}
 use Rattle.portal_serve.specs.Stated.{stated_state}
-use Rattle.portal_serve.specs.Stopped.{begun_at}
-use Rattle.portal_serve.specs.declared.play.Stop.{Stop}
 use Rattle.portal_serve.specs.declared.script.TheConstants.{LONGEST_LINE}
 
 -- ---- lines
 
 -- a line that is taken ends where a line ends, or nothing comes after it
-line_ends : (front line held : List ℕ) (left : Option (List ℕ)) → lines front ≡ line ∷ [] → EndsLine front line ⊎ ((held ≡ []) × IsAtEnd left)
+line_ends : (front line held : List ℕ) (left : Option (List ℕ)) → lines front ≡ line ∷ []
+    → EndsLine front line ⊎ ((held ≡ []) × IsAtEnd left)
     → EndsAll front ⊎ ((held ≡ []) × IsAtEnd left)
 line_ends front line held left only (inl ends) = inl (λ more. ends more ∙ sym (ap (λ ls. ls ++ lines more) only))
 line_ends front line held left only (inr over) = inr over
@@ -34,14 +38,16 @@ nothing_second [] ys e = e
 nothing_second (x ∷ xs) ys e = absurd (cc)
 
 -- the lines of a front that ends where a line ends come before those of what comes after
-ended_lines : (front taken after : List ℕ) → EndsAll front ⊎ (taken ++ after ≡ []) → lines (front ++ taken) ≡ lines front ++ lines taken
+ended_lines : (front taken after : List ℕ) → EndsAll front ⊎ (taken ++ after ≡ [])
+    → lines (front ++ taken) ≡ lines front ++ lines taken
 ended_lines front taken after (inl all) = all taken
 ended_lines front taken after (inr none) =
     subst (λ h. lines (front ++ h) ≡ lines front ++ lines h) (sym (nothing_first taken after none))
     (ap lines (append-nil front) ∙ sym (append-nil (lines front)))
 
 -- two pieces that end so
-ended_both : (front taken after : List ℕ) → EndsAll front ⊎ (taken ++ after ≡ []) → EndsAll taken ⊎ (after ≡ []) → EndsAll (front ++ taken) ⊎ (after ≡ [])
+ended_both : (front taken after : List ℕ) → EndsAll front ⊎ (taken ++ after ≡ []) → EndsAll taken ⊎ (after ≡ [])
+    → EndsAll (front ++ taken) ⊎ (after ≡ [])
 ended_both front taken after (inr none) second = inr (nothing_second taken after none)
 ended_both front taken after (inl all) (inr none) = inr none
 ended_both front taken after (inl all) (inl ends) = inl (λ more.
@@ -49,14 +55,18 @@ ended_both front taken after (inl all) (inl ends) = inl (λ more.
     ∙ sym (append_assoc (lines front) (lines taken) (lines more)) ∙ sym (ap (λ ls. ls ++ lines more) (all taken)))
 
 -- where nothing more is told, what ends at the end has nothing after it
-ended_told : (taken after more : List ℕ) (left : Option (List ℕ)) → left ≡ Some more → EndsAll taken ⊎ ((after ≡ []) × IsAtEnd left)
+ended_told : (taken after more : List ℕ) (left : Option (List ℕ)) → left ≡ Some more
+    → EndsAll taken ⊎ ((after ≡ []) × IsAtEnd left)
     → EndsAll taken ⊎ (after ++ more ≡ [])
 ended_told taken after more left told (inl ends) = inl ends
-ended_told taken after more left told (inr p) = let over : more ≡ [] = subst IsAtEnd told p.1 in inr (ap (λ a. a ++ more) p.0 ∙ over)
+ended_told taken after more left told (inr p) = let over : more ≡ [] = subst IsAtEnd told p.1 in
+    inr (ap (λ a. a ++ more) p.0 ∙ over)
 
 -- bytes in hand, some more that came, and those that were taken off the front
-regroup : (held bytes taken after more : List ℕ) → held ++ bytes ≡ taken ++ after → held ++ (bytes ++ more) ≡ taken ++ (after ++ more)
-regroup held bytes taken after more e = sym (append_assoc held bytes more) ∙ ap (λ x. x ++ more) e ∙ append_assoc taken after more
+regroup : (held bytes taken after more : List ℕ) → held ++ bytes ≡ taken ++ after
+    → held ++ (bytes ++ more) ≡ taken ++ (after ++ more)
+regroup held bytes taken after more e = sym (append_assoc held bytes more) ∙ ap (λ x. x ++ more) e
+    ∙ append_assoc taken after more
 
 -- what a source that tells gave in a call
 pub record Gave (rest : List ℕ) (bytes : List ℕ) (left : Option (List ℕ)) : Type 0 where
@@ -64,7 +74,8 @@ pub record Gave (rest : List ℕ) (bytes : List ℕ) (left : Option (List ℕ)) 
   pub told : left ≡ Some more
   pub splits : rest ≡ bytes ++ more
 
-pub gave : (rest bytes : List ℕ) (told left : Option (List ℕ)) → told ≡ Some rest → Gives told bytes left → Gave rest bytes left
+pub gave : (rest bytes : List ℕ) (told left : Option (List ℕ)) → told ≡ Some rest → Gives told bytes left
+    → Gave rest bytes left
 gave rest bytes told left is gives =
     let g = subst (λ o. Gives o bytes left) is gives in
     record { more = g.0; told = g.1; splits = g.2 }
@@ -75,15 +86,19 @@ record Advances (whole front taken after : List ℕ) : Type 0 where
   both : script_lines (front ++ taken) ≡ script_lines front ++ script_lines taken
   ended : EndsAll (front ++ taken) ⊎ (after ≡ [])
 
-advances : (whole front held rest bytes more taken after : List ℕ) (left : Option (List ℕ)) → whole ≡ front ++ (held ++ rest)
+advances : (whole front held rest bytes more taken after : List ℕ) (left : Option (List ℕ))
+    → whole ≡ front ++ (held ++ rest)
     → EndsAll front ⊎ (held ++ rest ≡ []) → rest ≡ bytes ++ more → held ++ bytes ≡ taken ++ after → left ≡ Some more
     → EndsAll taken ⊎ ((after ≡ []) × IsAtEnd left) → Advances whole front taken (after ++ more)
 advances whole front held rest bytes more taken after left all before came splits told ended =
-    let in_hand : held ++ rest ≡ taken ++ (after ++ more) = ap (λ x. held ++ x) came ∙ regroup held bytes taken after more splits in
-    let first : EndsAll front ⊎ (taken ++ (after ++ more) ≡ []) = subst (λ x. EndsAll front ⊎ (x ≡ [])) in_hand before in
+    let in_hand : held ++ rest ≡ taken ++ (after ++ more) = ap (λ x. held ++ x) came
+    ∙ regroup held bytes taken after more splits in
+    let first : EndsAll front ⊎ (taken ++ (after ++ more) ≡ []) =
+    subst (λ x. EndsAll front ⊎ (x ≡ [])) in_hand before in
     record {
       splits = all ∙ ap (λ x. front ++ x) in_hand ∙ sym (append_assoc front taken (after ++ more));
-      both = ap (filter is_nonempty) (ended_lines front taken (after ++ more) first) ∙ filter-append is_nonempty (lines front) (lines taken);
+      both = ap (filter is_nonempty) (ended_lines front taken (after ++ more) first)
+          ∙ filter-append is_nonempty (lines front) (lines taken);
       ended = ended_both front taken (after ++ more) first (ended_told taken after more left told ended);
     }
 
@@ -97,8 +112,10 @@ unless_empty-few line = by (is_nonempty line)
     by false = omega arith
 
 -- no line was begun
-pub stops_between : (most : ℕ) (state : State) (before reading : Reading) (old new : Devices) (bytes : List ℕ) → Gives old.to_come bytes new.to_come
-    → reading.given ≡ before.given + length bytes → BeginsLines state [] (outlet_of old) (outlet_of new) → StopsTurn most state before reading old new
+pub stops_between : (most : ℕ) (state : State) (before reading : Reading) (old new : Devices) (bytes : List ℕ)
+    → Gives old.to_come bytes new.to_come
+    → reading.given ≡ before.given + length bytes → BeginsLines state [] (outlet_of old) (outlet_of new)
+    → StopsTurn most state before reading old new
 stops_between most state before reading old new bytes gives counts begun = record {
   bytes = bytes;
   gives = gives;
@@ -112,9 +129,12 @@ stops_between most state before reading old new bytes gives counts begun = recor
 }
 
 -- work on a line stopped, and with it the turn
-pub stops_turn : (most : ℕ) (state : State) (before reading : Reading) (old new : Devices) (line : List ℕ) (t : TakesLine before old.to_come line reading new.to_come)
-    → 1 ≤ most → StopsLines state (unless_empty line) (outlet_of old) (outlet_of new) → StopsTurn most state before reading old new
-stops_turn most state before reading old new line t one (inl none) = stops_between most state before reading old new t.bytes t.gives t.counts none
+pub stops_turn : (most : ℕ) (state : State) (before reading : Reading) (old new : Devices) (line : List ℕ)
+    (t : TakesLine before old.to_come line reading new.to_come)
+    → 1 ≤ most → StopsLines state (unless_empty line) (outlet_of old) (outlet_of new)
+    → StopsTurn most state before reading old new
+stops_turn most state before reading old new line t one (inl none) =
+    stops_between most state before reading old new t.bytes t.gives t.counts none
 stops_turn most state before reading old new line t one (inr begun) =
     let is : script_lines t.front ≡ unless_empty line = ap (filter is_nonempty) t.only in
     record {
@@ -132,7 +152,8 @@ stops_turn most state before reading old new line t one (inr begun) =
 -- ---- the run so far
 
 -- before the first line
-pub running_start : (first : State) (whole : List ℕ) (old : Devices) (reading : Reading) → old.to_come ≡ Some whole → reading.held ≡ [] → reading.given ≡ 0
+pub running_start : (first : State) (whole : List ℕ) (old : Devices) (reading : Reading) → old.to_come ≡ Some whole
+    → reading.held ≡ [] → reading.given ≡ 0
     → Running first whole old old first reading
 running_start first whole old reading told held given = record {
   front = [];
@@ -151,16 +172,21 @@ running_start first whole old reading told held given = record {
 }
 
 -- one turn more
-pub running_turn : (first : State) (whole : List ℕ) (old mid new : Devices) (state after : State) (before reading : Reading)
-    → Running first whole old mid state before → TakesTurn state after before reading mid new → Running first whole old new after reading
+pub running_turn : (first : State) (whole : List ℕ) (old mid new : Devices) (state after : State)
+    (before reading : Reading)
+    → Running first whole old mid state before → TakesTurn state after before reading mid new
+    → Running first whole old new after reading
 running_turn first whole old mid new state after before reading r t =
-    let g : Gave r.rest t.takes.bytes new.to_come = gave r.rest t.takes.bytes mid.to_come new.to_come r.input t.takes.gives in
+    let g : Gave r.rest t.takes.bytes new.to_come =
+    gave r.rest t.takes.bytes mid.to_come new.to_come r.input t.takes.gives in
     let a : Advances whole r.front t.takes.front (reading.held ++ g.more) =
-    advances whole r.front before.held r.rest t.takes.bytes g.more t.takes.front reading.held new.to_come r.splits r.ended g.splits t.takes.splits g.told
+    advances whole r.front before.held r.rest t.takes.bytes g.more t.takes.front reading.held new.to_come r.splits
+    r.ended g.splits t.takes.splits g.told
     (line_ends t.takes.front t.line reading.held new.to_come t.takes.only t.takes.ended) in
     let script : script_lines (r.front ++ t.takes.front) ≡ script_lines r.front ++ unless_empty t.line =
     a.both ∙ ap (λ ls. script_lines r.front ++ filter is_nonempty ls) t.takes.only in
-    let total : length r.rest ≡ length t.takes.bytes + length g.more = ap length g.splits ∙ length-append t.takes.bytes g.more in
+    let total : length r.rest ≡ length t.takes.bytes + length g.more =
+    ap length g.splits ∙ length-append t.takes.bytes g.more in
     record {
       front = r.front ++ t.takes.front;
       rest = g.more;
@@ -171,8 +197,11 @@ running_turn first whole old mid new state after before reading r t =
       splits = a.splits;
       given = omega (arith, total, t.takes.counts, r.given);
       ended = a.ended;
-      works = subst (λ ls. Works first ls (r.moments ++ t.works.moments) (r.nonces ++ t.works.nonces) (r.written ++ t.works.written) after) (sym script)
-          (works_more first state after (script_lines r.front) (unless_empty t.line) r.moments t.works.moments r.nonces t.works.nonces r.written t.works.written r.works t.works.works);
+      works = subst
+          (λ ls. Works first ls (r.moments ++ t.works.moments) (r.nonces ++ t.works.nonces)
+          (r.written ++ t.works.written) after) (sym script)
+          (works_more first state after (script_lines r.front) (unless_empty t.line) r.moments t.works.moments
+          r.nonces t.works.nonces r.written t.works.written r.works t.works.works);
       output = Takes-append old.taken mid.taken new.taken r.written t.works.written r.output t.works.output;
       clock = DrawsAll-more old.moments mid.moments new.moments r.moments t.works.moments r.clock t.works.clock;
       numbers = DrawsAll-more old.nonces mid.nonces new.nonces r.nonces t.works.nonces r.numbers t.works.numbers;
@@ -184,9 +213,11 @@ Begins-after : (front part whole : List ℕ) → Begins part whole → Begins (f
 Begins-after front part whole b = (b.0, append_assoc front part b.0 ∙ ap (λ x. front ++ x) b.1)
 
 -- lines that were worked, and lines that were begun
-stops_after : (most : ℕ) (first state : State) (script begun : List (List ℕ)) (ms later : List ℤ) (ns others written part : List ℕ)
+stops_after : (most : ℕ) (first state : State) (script begun : List (List ℕ)) (ms later : List ℤ)
+    (ns others written part : List ℕ)
     → Works first script ms ns written state → length begun ≤ most → AreDrawn begun later → AreDrawn begun others
-    → Begins part (written_for (standing state later others) begun) → Stops most first (script ++ begun) (ms ++ later) (ns ++ others) (written ++ part)
+    → Begins part (written_for (standing state later others) begun)
+    → Stops most first (script ++ begun) (ms ++ later) (ns ++ others) (written ++ part)
 stops_after most first state script begun ms later ns others written part works few moments nonces begins = record {
   worked = script;
   begun = begun;
@@ -195,11 +226,13 @@ stops_after most first state script begun ms later ns others written part works 
   moments_drawn = AreDrawn-append script begun ms later works.moments_drawn moments;
   nonces_drawn = AreDrawn-append script begun ns others works.nonces_drawn nonces;
   holds = (part, ap (λ w. w ++ part) (works_wrote first state script ms later ns others written works));
-  begins = subst (λ w. Begins (written ++ part) w) (sym (works_then first state script begun ms later ns others written works)) (Begins-after written part _ begins);
+  begins = subst (λ w. Begins (written ++ part) w)
+      (sym (works_then first state script begun ms later ns others written works)) (Begins-after written part _ begins);
 }
 
 -- the lines of the whole, where a front ends so
-whole_lines : (whole front after : List ℕ) → whole ≡ front ++ after → EndsAll front ⊎ (after ≡ []) → script_lines whole ≡ script_lines front ++ script_lines after
+whole_lines : (whole front after : List ℕ) → whole ≡ front ++ after → EndsAll front ⊎ (after ≡ [])
+    → script_lines whole ≡ script_lines front ++ script_lines after
 whole_lines whole front after is ended =
     let alone : after ++ [] ≡ after = append-nil after in
     ap script_lines is
@@ -207,12 +240,15 @@ whole_lines whole front after is ended =
     ∙ filter-append is_nonempty (lines front) (lines after)
 
 -- A turn stopped, and with it the run.
-pub plays_part : (most : ℕ) (first : State) (whole : List ℕ) (old mid new : Devices) (state : State) (before reading : Reading)
-    → Running first whole old mid state before → StopsTurn most state before reading mid new → PlaysPart most first whole old new
+pub plays_part : (most : ℕ) (first : State) (whole : List ℕ) (old mid new : Devices) (state : State)
+    (before reading : Reading)
+    → Running first whole old mid state before → StopsTurn most state before reading mid new
+    → PlaysPart most first whole old new
 plays_part most first whole old mid new state before reading r t =
     let g : Gave r.rest t.bytes new.to_come = gave r.rest t.bytes mid.to_come new.to_come r.input t.gives in
     let a : Advances whole r.front t.front (t.ahead ++ g.more) =
-    advances whole r.front before.held r.rest t.bytes g.more t.front t.ahead new.to_come r.splits r.ended g.splits t.splits g.told t.ended in
+    advances whole r.front before.held r.rest t.bytes g.more t.front t.ahead new.to_come r.splits r.ended g.splits
+    t.splits g.told t.ended in
     record {
       passed = record {
         read = (r.front ++ t.front) ++ t.ahead;
@@ -231,14 +267,18 @@ plays_part most first whole old mid new state before reading r t =
       splits = refl;
       first_lines = whole_lines whole (r.front ++ t.front) (t.ahead ++ g.more) a.splits a.ended;
       stops =
-          subst (λ ls. Stops most first ls (r.moments ++ t.begun.moments) (r.nonces ++ t.begun.nonces) (r.written ++ t.begun.written)) (sym a.both)
-          (stops_after most first state (script_lines r.front) (script_lines t.front) r.moments t.begun.moments r.nonces t.begun.nonces r.written t.begun.written
+          subst (λ ls. Stops most first ls (r.moments ++ t.begun.moments) (r.nonces ++ t.begun.nonces)
+          (r.written ++ t.begun.written)) (sym a.both)
+          (stops_after most first state (script_lines r.front) (script_lines t.front) r.moments t.begun.moments
+          r.nonces t.begun.nonces r.written t.begun.written
           r.works t.few t.begun.moments_drawn t.begun.nonces_drawn t.begun.begins);
     }
 
 -- No line was left, and the run is at its end.
-pub plays_all : (first : State) (whole : List ℕ) (old mid new : Devices) (state after : State) (before reading : Reading)
-    → Running first whole old mid state before → EndsTurn state after before reading mid new → reading.given ≤ most_input → PlaysAll first whole old new
+pub plays_all : (first : State) (whole : List ℕ) (old mid new : Devices) (state after : State)
+    (before reading : Reading)
+    → Running first whole old mid state before → EndsTurn state after before reading mid new
+    → reading.given ≤ most_input → PlaysAll first whole old new
 plays_all first whole old mid new state after before reading r t few =
     let over : r.rest ≡ [] = subst IsAtEnd r.input t.finds.at_end in
     let none : before.held ++ r.rest ≡ [] = ap (λ h. h ++ r.rest) t.finds.held_before ∙ over in
@@ -254,14 +294,17 @@ plays_all first whole old mid new state after before reading r t few =
         input = t.finds.told_same ∙ r.input ∙ ap Some over;
         splits = sym (append-nil whole);
         output = ap (λ (o : Outlet). o.taken) t.same_outlet ∙ r.output;
-        clock = subst (λ o. DrawsAll old.moments r.moments o) (sym (ap (λ (o : Outlet). o.moments) t.same_outlet)) r.clock;
-        numbers = subst (λ o. DrawsAll old.nonces r.nonces o) (sym (ap (λ (o : Outlet). o.nonces) t.same_outlet)) r.numbers;
+        clock = subst (λ o. DrawsAll old.moments r.moments o) (sym (ap (λ (o : Outlet). o.moments) t.same_outlet))
+            r.clock;
+        numbers = subst (λ o. DrawsAll old.nonces r.nonces o) (sym (ap (λ (o : Outlet). o.nonces) t.same_outlet))
+            r.numbers;
       };
       at_end = refl;
       small = omega (arith, r.given, empty, t.finds.given, few);
       moments = subst (λ b. AreDrawn (script_lines b) r.moments) (sym all) r.works.moments_drawn;
       nonces = subst (λ b. AreDrawn (script_lines b) r.nonces) (sym all) r.works.nonces_drawn;
-      transcript = sym (ap (λ b. written_for (standing first r.moments r.nonces) (script_lines b)) all ∙ r.works.output);
+      transcript =
+          sym (ap (λ b. written_for (standing first r.moments r.nonces) (script_lines b)) all ∙ r.works.output);
     }
 
 -- ---- what the loop over the lines keeps
@@ -272,35 +315,45 @@ pub record Keeps (old new : Devices) (state : State) (reading : Reading) : Type 
   pub running : (whole : List ℕ) → old.to_come ≡ Some whole → Running stated_state whole old new state reading
 
 pub keeps_start : (old : Devices) (state : State) (reading : Reading) → state ≡ stated_state
-    → reading ≡ record { held = []; line = []; given = 0; longest = LONGEST_LINE; most = most_input } → Keeps old old state reading
+    → reading ≡ record { held = []; line = []; given = 0; longest = LONGEST_LINE; most = most_input }
+    → Keeps old old state reading
 keeps_start old state reading first new = record {
   longest = ap (λ (r : Reading). r.longest) new;
   most = ap (λ (r : Reading). r.most) new;
   running = λ whole told.
       subst (λ s. Running stated_state whole old old s reading) (sym first)
-      (running_start stated_state whole old reading told (ap (λ (r : Reading). r.held) new) (ap (λ (r : Reading). r.given) new));
+      (running_start stated_state whole old reading told (ap (λ (r : Reading). r.held) new)
+      (ap (λ (r : Reading). r.given) new));
 }
 
-pub keeps_turn : (old mid new : Devices) (state after : State) (before reading : Reading) → Keeps old mid state before → TakesTurn state after before reading mid new
+pub keeps_turn : (old mid new : Devices) (state after : State) (before reading : Reading) → Keeps old mid state before
+    → TakesTurn state after before reading mid new
     → reading.longest ≡ before.longest → reading.most ≡ before.most → Keeps old new after reading
 keeps_turn old mid new state after before reading k t longest most = record {
   longest = longest ∙ k.longest;
   most = most ∙ k.most;
-  running = λ whole told. running_turn stated_state whole old mid new state after before reading (k.running whole told) t;
+  running = λ whole told. running_turn stated_state whole old mid new state after before reading
+      (k.running whole told) t;
 }
 
-pub keeps_all : (old mid new : Devices) (state after : State) (before reading : Reading) → Keeps old mid state before → EndsTurn state after before reading mid new
-    → reading.most ≡ before.most → reading.given ≤ reading.most → (whole : List ℕ) → old.to_come ≡ Some whole → PlaysAll stated_state whole old new
+pub keeps_all : (old mid new : Devices) (state after : State) (before reading : Reading) → Keeps old mid state before
+    → EndsTurn state after before reading mid new
+    → reading.most ≡ before.most → reading.given ≤ reading.most → (whole : List ℕ) → old.to_come ≡ Some whole
+    → PlaysAll stated_state whole old new
 keeps_all old mid new state after before reading k t most within whole told =
-    plays_all stated_state whole old mid new state after before reading (k.running whole told) t (omega (arith, within, most, k.most))
+    plays_all stated_state whole old mid new state after before reading (k.running whole told) t
+    (omega (arith, within, most, k.most))
 
-pub keeps_part : (most : ℕ) (old mid new : Devices) (state : State) (before reading : Reading) → Keeps old mid state before
-    → StopsTurn most state before reading mid new → (whole : List ℕ) → old.to_come ≡ Some whole → PlaysPart most stated_state whole old new
+pub keeps_part : (most : ℕ) (old mid new : Devices) (state : State) (before reading : Reading)
+    → Keeps old mid state before
+    → StopsTurn most state before reading mid new → (whole : List ℕ) → old.to_come ≡ Some whole
+    → PlaysPart most stated_state whole old new
 keeps_part most old mid new state before reading k t whole told =
     plays_part most stated_state whole old mid new state before reading (k.running whole told) t
 
 -- how many bytes of the whole were read
-left_of_whole : (old mid new : Devices) (state : State) (before reading : Reading) (most : ℕ) → Keeps old mid state before
+left_of_whole : (old mid new : Devices) (state : State) (before reading : Reading) (most : ℕ)
+    → Keeps old mid state before
     → StopsTurn most state before reading mid new → (whole : List ℕ) → old.to_come ≡ Some whole
     → (rest : List ℕ) × (new.to_come ≡ Some rest) × (reading.given + length rest ≡ length whole)
 left_of_whole old mid new state before reading most k t whole told =
@@ -310,8 +363,10 @@ left_of_whole old mid new state before reading most k t whole told =
     (g.more, g.told, omega (arith, total, t.counts, r.given))
 
 -- Where the count of bytes given passed the most, the whole is that much longer, and where it didn't, it isn't.
-pub gave_too_much : (old mid new : Devices) (state : State) (before reading : Reading) (most : ℕ) → Keeps old mid state before
-    → StopsTurn most state before reading mid new → reading.most ≡ before.most → (whole : List ℕ) → old.to_come ≡ Some whole
+pub gave_too_much : (old mid new : Devices) (state : State) (before reading : Reading) (most : ℕ)
+    → Keeps old mid state before
+    → StopsTurn most state before reading mid new → reading.most ≡ before.most → (whole : List ℕ)
+    → old.to_come ≡ Some whole
     → (reading.most < reading.given) ↔ GaveTooMuch whole new.to_come
 gave_too_much old mid new state before reading most k t same whole told =
     let left = left_of_whole old mid new state before reading most k t whole told in (
@@ -325,18 +380,23 @@ gave_too_much old mid new state before reading most k t same whole told =
     some_is a b e = cc
 
 -- what was read to its end wasn't too much
-pub gave_within : (state : State) (whole : List ℕ) (old new : Devices) → PlaysAll state whole old new → GaveTooMuch whole new.to_come → ⊥
+pub gave_within : (state : State) (whole : List ℕ) (old new : Devices) → PlaysAll state whole old new
+    → GaveTooMuch whole new.to_come → ⊥
 gave_within state whole old new all gave = omega (arith, all.small, gave.2)
 
 -- the same fault of another result
-pub same_err : {A B E : Type 0} (x y : E) → (let r : Result A E = Err x in r) ≡ Err y → (let r : Result B E = Err x in r) ≡ Err y
+pub same_err : {A B E : Type 0} (x y : E) → (let r : Result A E = Err x in r) ≡ Err y
+    → (let r : Result B E = Err x in r) ≡ Err y
 same_err x y is = let same : x ≡ y = cc in ap (λ e. Err e) same
 
 -- nothing passed where nothing was tried
-pub plays_nothing : (most : ℕ) (old : Devices) (whole : List ℕ) → old.to_come ≡ Some whole → PlaysPart most stated_state whole old old
+pub plays_nothing : (most : ℕ) (old : Devices) (whole : List ℕ) → old.to_come ≡ Some whole
+    → PlaysPart most stated_state whole old old
 plays_nothing most old whole told =
-    plays_part most stated_state whole old old old stated_state unread unread (running_start stated_state whole old unread told refl refl)
-    (stops_between most stated_state unread unread old old [] gives refl (begins_no_line stated_state (outlet_of old) (outlet_of old) refl))
+    plays_part most stated_state whole old old old stated_state unread unread
+    (running_start stated_state whole old unread told refl refl)
+    (stops_between most stated_state unread unread old old [] gives refl
+    (begins_no_line stated_state (outlet_of old) (outlet_of old) refl))
   where
     unread : Reading
     unread = record { held = []; line = []; given = 0; longest = 0; most = 0 }

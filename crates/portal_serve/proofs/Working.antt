@@ -1,5 +1,7 @@
 -- Scripts worked line by line: what the lines so far wrote and left, and one line more.
-use Rattle.std.proofs.Common.{◌≡◌, ◌⊎◌, ℕ, ◌+◌, ◌<◌, ◌≤◌, ℤ, List, [], ◌∷◌, ◌++◌, length, ◌==◌, ltb, cond, true, false, Option, Some, None, Result, Ok, Err, OnErr, IfErr, refl, sym, ap, subst, ◌∙◌, append_assoc, append-nil, length-append, take, drop, take-append-drop, inl, inr, arith}
+use Rattle.std.proofs.Common.{◌≡◌, ℕ, ◌+◌, ◌<◌, ◌≤◌, ℤ, List, [], ◌∷◌, ◌++◌, length, ◌==◌, ltb, cond, true, false}
+use Rattle.std.proofs.Common.{Option, Some, None, Result, Ok, Err, OnErr, IfErr, refl, sym, ap, subst, ◌∙◌}
+use Rattle.std.proofs.Common.{append_assoc, append-nil, length-append, take, drop, take-append-drop, inl, inr, arith}
 use Rattle.std.specs.Prelude.{filter, is_some}
 use Rattle.std.proofs.lemmas.List.Elements.{filter-append}
 use Rattle.portal_base.specs.Outside.{Takes, TakesPrefix, Draws, Rose}
@@ -15,17 +17,21 @@ use Rattle.std.proofs.lemmas.Bool.Decides.{nat_tests}
 use Rattle.portal_serve.specs.declared.call.Reply.{Reply}
 use Rattle.portal_serve.specs.State.{State}
 use Rattle.portal_serve.specs.Step.{Outcome, call_step}
-use Rattle.portal_serve.specs.Transcript.{Standing, AreDrawn, draws, turn, turn_of, drawn_call, standing_after, written_for}
+use Rattle.portal_serve.specs.Transcript.{Standing, AreDrawn, draws, turn, turn_of, drawn_call, standing_after}
+use Rattle.portal_serve.specs.Transcript.{written_for}
 use Rattle.portal_serve.specs.Run.{Begins, DrawsAll, standing, Outlet}
 use Rattle.portal_serve.specs.Stopped.{IsOfLine, begun_at}
 use Rattle.portal_serve.specs.declared.play.Stop.{Stop}
 use Rattle.portal_serve.specs.declared.play.Stop.TheVariants.{ReadFault, WriteFault, TooMuch, OutOfMemory}
 
-pub written_for-append : (s : Standing) (ls more : List (List ℕ)) → written_for s (ls ++ more) ≡ written_for s ls ++ written_for (standing_after s ls) more
+pub written_for-append : (s : Standing) (ls more : List (List ℕ))
+    → written_for s (ls ++ more) ≡ written_for s ls ++ written_for (standing_after s ls) more
 written_for-append s [] more = refl
-written_for-append s (l ∷ ls) more = ap (λ w. (turn s l).written ++ w) (written_for-append (turn s l).after ls more) ∙ sym (append_assoc (turn s l).written _ _)
+written_for-append s (l ∷ ls) more = ap (λ w. (turn s l).written ++ w) (written_for-append (turn s l).after ls more)
+    ∙ sym (append_assoc (turn s l).written _ _)
 
-pub standing_after-append : (s : Standing) (ls more : List (List ℕ)) → standing_after s (ls ++ more) ≡ standing_after (standing_after s ls) more
+pub standing_after-append : (s : Standing) (ls more : List (List ℕ))
+    → standing_after s (ls ++ more) ≡ standing_after (standing_after s ls) more
 standing_after-append s [] more = refl
 standing_after-append s (l ∷ ls) more = standing_after-append (turn s l).after ls more
 
@@ -34,18 +40,24 @@ standing_after-append s (l ∷ ls) more = standing_after-append (turn s l).after
 -- What is drawn later changes nothing of what the lines write, and is left.
 pub record IsLeft (s : State) (ls : List (List ℕ)) (ms later : List ℤ) (ns others : List ℕ) : Type 0 where
   pub output : written_for (standing s (ms ++ later) (ns ++ others)) ls ≡ written_for (standing s ms ns) ls
-  pub leaves : standing_after (standing s (ms ++ later) (ns ++ others)) ls ≡ standing (standing_after (standing s ms ns) ls).state later others
+  pub leaves : standing_after (standing s (ms ++ later) (ns ++ others)) ls
+      ≡ standing (standing_after (standing s ms ns) ls).state later others
 
 -- the same of a line and more lines, by the call that the line asks for
-record IsLeftBy (said : Option ScriptCall) (size : ℕ) (s : State) (ls : List (List ℕ)) (ms later : List ℤ) (ns others : List ℕ) : Type 0 where
-  output : (turn_of (standing s (ms ++ later) (ns ++ others)) said size).written ++ written_for (turn_of (standing s (ms ++ later) (ns ++ others)) said size).after ls
+record IsLeftBy (said : Option ScriptCall) (size : ℕ) (s : State) (ls : List (List ℕ)) (ms later : List ℤ)
+    (ns others : List ℕ) : Type 0 where
+  output : (turn_of (standing s (ms ++ later) (ns ++ others)) said size).written
+      ++ written_for (turn_of (standing s (ms ++ later) (ns ++ others)) said size).after ls
       ≡ (turn_of (standing s ms ns) said size).written ++ written_for (turn_of (standing s ms ns) said size).after ls
   leaves : standing_after (turn_of (standing s (ms ++ later) (ns ++ others)) said size).after ls
       ≡ standing (standing_after (turn_of (standing s ms ns) said size).after ls).state later others
 
-left_by : (line : List ℕ) (ls : List (List ℕ)) → ((s : State) (ms later : List ℤ) (ns others : List ℕ) → AreDrawn ls ms → AreDrawn ls ns → IsLeft s ls ms later ns others)
+left_by : (line : List ℕ) (ls : List (List ℕ))
+    → ((s : State) (ms later : List ℤ) (ns others : List ℕ) → AreDrawn ls ms → AreDrawn ls ns
+    → IsLeft s ls ms later ns others)
     → (said : Option ScriptCall) (size : ℕ) (s : State) (ms later : List ℤ) (ns others : List ℕ)
-    → length ms ≡ length (cond (is_some said) (line ∷ filter draws ls) (filter draws ls)) → length ns ≡ length (cond (is_some said) (line ∷ filter draws ls) (filter draws ls))
+    → length ms ≡ length (cond (is_some said) (line ∷ filter draws ls) (filter draws ls))
+    → length ns ≡ length (cond (is_some said) (line ∷ filter draws ls) (filter draws ls))
     → IsLeftBy said size s ls ms later ns others
 left_by line ls rest None size s ms later ns others m n =
     let r = rest s ms later ns others m n in
@@ -57,7 +69,8 @@ left_by line ls rest (Some asked) size s (a ∷ ms) later (b ∷ ns) others m n 
     let r = rest o.state ms later ns others (omega (arith, m)) (omega (arith, n)) in
     record { output = ap (λ w. reply_line asked.request.action o.reply ++ w) r.output; leaves = r.leaves }
 
-pub is_left : (ls : List (List ℕ)) (s : State) (ms later : List ℤ) (ns others : List ℕ) → AreDrawn ls ms → AreDrawn ls ns → IsLeft s ls ms later ns others
+pub is_left : (ls : List (List ℕ)) (s : State) (ms later : List ℤ) (ns others : List ℕ) → AreDrawn ls ms
+    → AreDrawn ls ns → IsLeft s ls ms later ns others
 is_left [] s [] later [] others m n = record { output = refl; leaves = refl }
 is_left [] s [] later (b ∷ ns) others m n = absurd (omega (arith, n))
 is_left [] s (a ∷ ms) later ns others m n = absurd (omega (arith, m))
@@ -67,7 +80,8 @@ is_left (l ∷ ls) s ms later ns others m n =
 
 -- ---- lines that were worked, and more lines
 
-pub AreDrawn-append : {X : Type 0} (ls more : List (List ℕ)) (xs ys : List X) → AreDrawn ls xs → AreDrawn more ys → AreDrawn (ls ++ more) (xs ++ ys)
+pub AreDrawn-append : {X : Type 0} (ls more : List (List ℕ)) (xs ys : List X) → AreDrawn ls xs → AreDrawn more ys
+    → AreDrawn (ls ++ more) (xs ++ ys)
 AreDrawn-append ls more xs ys first second =
     let front : length (xs ++ ys) ≡ length xs + length ys = length-append xs ys in
     let lines : length (filter draws (ls ++ more)) ≡ length (filter draws ls) + length (filter draws more) =
@@ -79,34 +93,42 @@ pub works_none : (s : State) → Works s [] [] [] [] s
 works_none s = record { moments_drawn = refl; nonces_drawn = refl; output = refl; leaves = refl }
 
 -- what lines wrote, where more was drawn for more lines
-pub works_wrote : (s t : State) (ls : List (List ℕ)) (ms later : List ℤ) (ns others written : List ℕ) → Works s ls ms ns written t
+pub works_wrote : (s t : State) (ls : List (List ℕ)) (ms later : List ℤ) (ns others written : List ℕ)
+    → Works s ls ms ns written t
     → written_for (standing s (ms ++ later) (ns ++ others)) ls ≡ written
-works_wrote s t ls ms later ns others written w = (is_left ls s ms later ns others w.moments_drawn w.nonces_drawn).output ∙ w.output
+works_wrote s t ls ms later ns others written w =
+    (is_left ls s ms later ns others w.moments_drawn w.nonces_drawn).output ∙ w.output
 
 -- where they left the script
-pub works_left : (s t : State) (ls : List (List ℕ)) (ms later : List ℤ) (ns others written : List ℕ) → Works s ls ms ns written t
+pub works_left : (s t : State) (ls : List (List ℕ)) (ms later : List ℤ) (ns others written : List ℕ)
+    → Works s ls ms ns written t
     → standing_after (standing s (ms ++ later) (ns ++ others)) ls ≡ standing t later others
 works_left s t ls ms later ns others written w =
     (is_left ls s ms later ns others w.moments_drawn w.nonces_drawn).leaves ∙ ap (λ u. standing u later others) w.leaves
 
 -- what they and more lines write
-pub works_then : (s t : State) (ls more : List (List ℕ)) (ms later : List ℤ) (ns others written : List ℕ) → Works s ls ms ns written t
-    → written_for (standing s (ms ++ later) (ns ++ others)) (ls ++ more) ≡ written ++ written_for (standing t later others) more
+pub works_then : (s t : State) (ls more : List (List ℕ)) (ms later : List ℤ) (ns others written : List ℕ)
+    → Works s ls ms ns written t
+    → written_for (standing s (ms ++ later) (ns ++ others)) (ls ++ more) ≡ written
+    ++ written_for (standing t later others) more
 works_then s t ls more ms later ns others written w =
     written_for-append (standing s (ms ++ later) (ns ++ others)) ls more
-    ∙ ap (λ x. x ++ written_for (standing_after (standing s (ms ++ later) (ns ++ others)) ls) more) (works_wrote s t ls ms later ns others written w)
+    ∙ ap (λ x. x ++ written_for (standing_after (standing s (ms ++ later) (ns ++ others)) ls) more)
+    (works_wrote s t ls ms later ns others written w)
     ∙ ap (λ (z : Standing). written ++ written_for z more) (works_left s t ls ms later ns others written w)
 
 -- one script after another
 pub works_more : (s t u : State) (ls more : List (List ℕ)) (ms more_ms : List ℤ) (ns more_ns out more_out : List ℕ)
-    → Works s ls ms ns out t → Works t more more_ms more_ns more_out u → Works s (ls ++ more) (ms ++ more_ms) (ns ++ more_ns) (out ++ more_out) u
+    → Works s ls ms ns out t → Works t more more_ms more_ns more_out u
+    → Works s (ls ++ more) (ms ++ more_ms) (ns ++ more_ns) (out ++ more_out) u
 works_more s t u ls more ms more_ms ns more_ns out more_out first second = record {
   moments_drawn = AreDrawn-append ls more ms more_ms first.moments_drawn second.moments_drawn;
   nonces_drawn = AreDrawn-append ls more ns more_ns first.nonces_drawn second.nonces_drawn;
   output = works_then s t ls more ms more_ms ns more_ns out first ∙ ap (λ w. out ++ w) second.output;
   leaves =
       ap (λ (z : Standing). z.state) (standing_after-append (standing s (ms ++ more_ms) (ns ++ more_ns)) ls more)
-      ∙ ap (λ (z : Standing). (standing_after z more).state) (works_left s t ls ms more_ms ns more_ns out first) ∙ second.leaves;
+      ∙ ap (λ (z : Standing). (standing_after z more).state) (works_left s t ls ms more_ms ns more_ns out first)
+      ∙ second.leaves;
 }
 
 -- ---- the devices
@@ -115,11 +137,13 @@ pub DrawsAll-none : {X : Type 0} (o : Option (List X)) → DrawsAll o [] o
 DrawsAll-none None = tt
 DrawsAll-none (Some xs) = sym (append-nil xs)
 
-pub DrawsAll-more : {X : Type 0} (a b c : Option (List X)) (xs ys : List X) → DrawsAll a xs b → DrawsAll b ys c → DrawsAll a (xs ++ ys) c
+pub DrawsAll-more : {X : Type 0} (a b c : Option (List X)) (xs ys : List X) → DrawsAll a xs b → DrawsAll b ys c
+    → DrawsAll a (xs ++ ys) c
 DrawsAll-more a b None xs ys first second = tt
 DrawsAll-more a None (Some zs) xs ys first second = absurd second
 DrawsAll-more None (Some bs) (Some zs) xs ys first second = absurd first
-DrawsAll-more (Some fs) (Some bs) (Some zs) xs ys first second = second ∙ ap (λ l. l ++ ys) first ∙ append_assoc fs xs ys
+DrawsAll-more (Some fs) (Some bs) (Some zs) xs ys first second = second ∙ ap (λ l. l ++ ys) first
+    ∙ append_assoc fs xs ys
 
 pub DrawsAll-one : {X : Type 0} (a b : Option (List X)) (x : X) → Draws a x b → DrawsAll a (x ∷ []) b
 DrawsAll-one a b x h = h
@@ -127,7 +151,8 @@ DrawsAll-one a b x h = h
 -- ---- one line
 
 -- a line that asks for no call
-pub works_not_built : (state : State) (line : List ℕ) → call_of_line line ≡ None → Works state (line ∷ []) [] [] not_built_line state
+pub works_not_built : (state : State) (line : List ℕ) → call_of_line line ≡ None
+    → Works state (line ∷ []) [] [] not_built_line state
 works_not_built state line none = record {
   moments_drawn = draws_none;
   nonces_drawn = draws_none;
@@ -161,10 +186,15 @@ pub begins_take : (count : ℕ) (piece : List ℕ) → Begins (take count piece)
 begins_take count piece = (drop count piece, take-append-drop count piece)
 
 -- what the call of a line writes and leaves
-pub call_written : (state after : State) (line : List ℕ) (said : ScriptCall) (m : ℤ) (n : ℕ) (who : Caller) (reply : Reply) (text : List ℕ)
+pub call_written : (state after : State) (line : List ℕ) (said : ScriptCall) (m : ℤ) (n : ℕ) (who : Caller)
+    (reply : Reply) (text : List ℕ)
     → call_of_line line ≡ Some said → who ≡ known_caller state.people said.caller
-    → reply ≡ (call_step state (record { caller = who; request = said.request; size = length line; moment = m; nonce = record { 0 = n } })).reply
-    → after ≡ (call_step state (record { caller = who; request = said.request; size = length line; moment = m; nonce = record { 0 = n } })).state
+    → reply ≡
+    (call_step state
+    (record { caller = who; request = said.request; size = length line; moment = m; nonce = record { 0 = n } })).reply
+    → after ≡
+    (call_step state
+    (record { caller = who; request = said.request; size = length line; moment = m; nonce = record { 0 = n } })).state
     → text ≡ reply_line said.request.action reply
     → Works state (line ∷ []) (m ∷ []) (n ∷ []) text after
 call_written state after line said m n who reply text is known replied left wrote =
@@ -180,7 +210,8 @@ works_lines state after script ms ns text old new w clock numbers takes =
     record { written = text; moments = ms; nonces = ns; works = w; output = takes; clock = clock; numbers = numbers }
 
 -- work stopped while it wrote
-pub stops_in_writing : (state after : State) (script : List (List ℕ)) (ms : List ℤ) (ns text : List ℕ) (old new : Outlet)
+pub stops_in_writing : (state after : State) (script : List (List ℕ)) (ms : List ℤ) (ns text : List ℕ)
+    (old new : Outlet)
     → Works state script ms ns text after → DrawsAll old.moments ms new.moments → DrawsAll old.nonces ns new.nonces
     → TakesPrefix old.taken text new.taken → StopsLines state script old new
 stops_in_writing state after script ms ns text old new w clock numbers part = inr (record {
@@ -214,8 +245,10 @@ pub stops_before : (state : State) (script : List (List ℕ)) (old : Outlet) →
 stops_before state script old = inl (begins_no_line state old old refl)
 
 -- A call's line was begun, and work stopped before it wrote.
-pub stops_before_writing : (state : State) (line : List ℕ) (asked : ScriptCall) (m : ℤ) (n : ℕ) (old new : Outlet) → call_of_line line ≡ Some asked
-    → new.taken ≡ old.taken → DrawsAll old.moments (m ∷ []) new.moments → DrawsAll old.nonces (n ∷ []) new.nonces → StopsLines state (line ∷ []) old new
+pub stops_before_writing : (state : State) (line : List ℕ) (asked : ScriptCall) (m : ℤ) (n : ℕ) (old new : Outlet)
+    → call_of_line line ≡ Some asked
+    → new.taken ≡ old.taken → DrawsAll old.moments (m ∷ []) new.moments → DrawsAll old.nonces (n ∷ []) new.nonces
+    → StopsLines state (line ∷ []) old new
 stops_before_writing state line asked m n old new is same clock numbers =
     let w = works_call state line asked m n is in
     inr (record {
@@ -237,7 +270,8 @@ begun_in_line WriteFault of_line = omega arith
 begun_in_line TooMuch of_line = absurd of_line
 begun_in_line OutOfMemory of_line = omega arith
 
-pub begun_in_writing : {T : Type 0} (stop : Stop) → (let r : Result T Stop = Err stop in r) ≡ Err WriteFault → 1 ≤ begun_at stop
+pub begun_in_writing : {T : Type 0} (stop : Stop) → (let r : Result T Stop = Err stop in r) ≡ Err WriteFault
+    → 1 ≤ begun_at stop
 begun_in_writing ReadFault is = absurd (cc)
 begun_in_writing WriteFault is = omega arith
 begun_in_writing TooMuch is = absurd (cc)
@@ -264,19 +298,25 @@ unless_empty-more : (line : List ℕ) → 0 < length line → unless_empty line 
 unless_empty-more line some = ap (λ b. cond b (line ∷ []) []) (lt-ltb 0 (length line) some)
 
 -- Nothing is worked where no line is.
-pub works_no_line : (state : State) (script : List (List ℕ)) (old : Outlet) → script ≡ [] → WorksLines state script state old old
+pub works_no_line : (state : State) (script : List (List ℕ)) (old : Outlet) → script ≡ []
+    → WorksLines state script state old old
 works_no_line state script old none =
     subst (λ ls. WorksLines state ls state old old) (sym none)
-    (works_lines state state [] [] [] [] old old (works_none state) (DrawsAll-none old.moments) (DrawsAll-none old.nonces) (Takes-none old.taken))
+    (works_lines state state [] [] [] [] old old (works_none state) (DrawsAll-none old.moments)
+    (DrawsAll-none old.nonces) (Takes-none old.taken))
 
 -- a line that is too long asks for no call
-pub works_too_long : (state : State) (line : List ℕ) → LONGEST_LINE < length line → Works state (unless_empty line) [] [] not_built_line state
+pub works_too_long : (state : State) (line : List ℕ) → LONGEST_LINE < length line
+    → Works state (unless_empty line) [] [] not_built_line state
 works_too_long state line long =
-    let none : call_of_line line ≡ None = ap (λ b. cond b None (call_of_reading (json_reading line))) (lt-ltb LONGEST_LINE (length line) long) in
-    subst (λ ls. Works state ls [] [] not_built_line state) (sym (unless_empty-more line (omega arith))) (works_not_built state line none)
+    let none : call_of_line line ≡ None =
+    ap (λ b. cond b None (call_of_reading (json_reading line))) (lt-ltb LONGEST_LINE (length line) long) in
+    subst (λ ls. Works state ls [] [] not_built_line state) (sym (unless_empty-more line (omega arith)))
+    (works_not_built state line none)
 
 -- the same line under another name
-pub stops_same_line : (state : State) (l m : List ℕ) (old new : Outlet) → l ≡ m → StopsLines state (unless_empty l) old new → StopsLines state (unless_empty m) old new
+pub stops_same_line : (state : State) (l m : List ℕ) (old new : Outlet) → l ≡ m
+    → StopsLines state (unless_empty l) old new → StopsLines state (unless_empty m) old new
 stops_same_line state l m old new e s = subst (λ x. StopsLines state (unless_empty x) old new) e s
 
 -- ---- counts of faults

@@ -1,5 +1,6 @@
 -- The answer to a call: a function of the call and of what its caller sees.
-use Rattle.std.specs.Prelude.{ℕ, List, [], ◌∷◌, Bool, true, false, ◌||◌, Option, Some, None, is_some, find, if◌then◌else◌}
+use Rattle.std.specs.Prelude.{ℕ, List, [], ◌∷◌, Bool, true, false, ◌||◌, Option, Some, None, is_some, find}
+use Rattle.std.specs.Prelude.{if◌then◌else◌}
 use Rattle.portal_base.specs.Id.{id_text}
 use Rattle.portal_base.specs.declared.caller.Caller.{Caller}
 use Rattle.portal_base.specs.declared.caller.Caller.TheVariants.{Anonymous, Named}
@@ -48,7 +49,8 @@ title_or_name (Some (b ∷ bs)) name = b ∷ bs
 -- the dataset that the call makes
 abbrev pub created_package : Call → Creation → Package
 created_package call creation =
-    let fresh = fresh_package (id_text call.nonce.0) creation.name (title_or_name creation.title creation.name) creation.org (caller_name call.caller) call.moment in
+    let fresh = fresh_package (id_text call.nonce.0) creation.name (title_or_name creation.title creation.name)
+    creation.org (caller_name call.caller) call.moment in
     record fresh { private = creation.private }
 
 -- the dataset is made where its organization stands

@@ -1,5 +1,6 @@
 -- The dictionaries in which replies show things, with keys that ascend by bytes. Keys are those of CKAN 2.10.
-use Rattle.std.specs.Prelude.{ℕ, ◌+◌, pos, List, [], ◌∷◌, ◌++◌, false, map, length, codes, decimal, option_map, unwrap_or}
+use Rattle.std.specs.Prelude.{ℕ, ◌+◌, pos, List, [], ◌∷◌, ◌++◌, false, map, length, codes, decimal, option_map}
+use Rattle.std.specs.Prelude.{unwrap_or}
 use Rattle.portal_base.specs.MomentText.{moment_text}
 use Rattle.portal_base.specs.declared.json_value.Json.{Json}
 use Rattle.portal_base.specs.declared.json_value.Json as json
@@ -50,7 +51,8 @@ resource_dictionary dataset position resource = json.Map (
 -- the resources from that position on
 abbrev pub resource_dictionaries : List ℕ → ℕ → List Resource → List Json
 resource_dictionaries dataset position [] = []
-resource_dictionaries dataset position (r ∷ rs) = resource_dictionary dataset position r ∷ resource_dictionaries dataset (position + 1) rs
+resource_dictionaries dataset position (r ∷ rs) = resource_dictionary dataset position r
+    ∷ resource_dictionaries dataset (position + 1) rs
 
 -- the members of a dataset's dictionary from `author` to `notes`
 abbrev pub described : Package → List (List ℕ × Json)

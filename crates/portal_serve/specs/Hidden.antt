@@ -7,7 +7,7 @@ use Rattle.portal_base.specs.declared.caller.Caller.TheVariants.{Anonymous, Name
 use Rattle.visibility.specs.Visibility.{sees_in}
 use Rattle.portal_serve.specs.State.{State}
 use Rattle.portal_serve.specs.Step.{step_of}
-use Rattle.portal_serve.specs.View.{is_role_seen}
+use Rattle.visibility.specs.View.{is_role_seen}
 use Rattle.portal_serve.specs.declared.call.Event.{Event}
 use Rattle.portal_serve.specs.declared.call.Event.TheVariants.{Call as a_call}
 
@@ -37,10 +37,13 @@ is_kept x = true
 pub record IsHiddenBetween (caller : Caller) (before after : State) : Type 0 where
   pub users : IsHiddenChange is_kept is_kept before.people.users after.people.users
   pub orgs : IsHiddenChange is_kept is_kept before.people.orgs after.people.orgs
-  pub roles : IsHiddenChange (is_role_seen before.people caller) (is_role_seen after.people caller) before.people.roles after.people.roles
-  pub datasets : IsHiddenChange (sees_in before.people caller) (sees_in after.people caller) before.datasets after.datasets
+  pub roles : IsHiddenChange (is_role_seen before.people caller) (is_role_seen after.people caller)
+      before.people.roles after.people.roles
+  pub datasets : IsHiddenChange (sees_in before.people caller) (sees_in after.people caller) before.datasets
+      after.datasets
 
--- The event is hidden from the caller: it is no call of the caller's, and changes only what the caller's view doesn't keep.
+-- The event is hidden from the caller: it is no call of the caller's, and changes only what the caller's view doesn't
+-- keep.
 pub record IsHidden (caller : Caller) (state : State) (event : Event) : Type 0 where
   pub others : is_call_of caller event ≡ false
   pub between : IsHiddenBetween caller state (step_of state event).state

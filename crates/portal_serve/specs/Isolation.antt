@@ -1,7 +1,8 @@
 -- What replies may tell of what a caller doesn't see.
 use Rattle.std.specs.Prelude.{Bool, true, false}
 use Rattle.portal_serve.specs.declared.call.Refusal.{Refusal}
-use Rattle.portal_serve.specs.declared.call.Refusal.TheVariants.{NotBuilt, NotFound, NotAuthorized, NameInUse, OutOfMemory}
+use Rattle.portal_serve.specs.declared.call.Refusal.TheVariants.{NotBuilt, NotFound, NotAuthorized, NameInUse}
+use Rattle.portal_serve.specs.declared.call.Refusal.TheVariants.{OutOfMemory}
 use Rattle.portal_serve.specs.declared.call.Reply.{Reply}
 use Rattle.portal_serve.specs.declared.call.Reply.TheVariants.{Accepted, Shown, Refused}
 

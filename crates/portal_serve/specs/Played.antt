@@ -9,7 +9,8 @@ use Rattle.portal_serve.specs.State.{State}
 use Rattle.portal_serve.specs.Transcript.{AreDrawn, standing_after, written_for}
 
 -- Lines, worked from a state, drew these moments and numbers, wrote this and left that state.
-pub record Works (state : State) (script : List (List ℕ)) (moments : List ℤ) (nonces written : List ℕ) (after : State) : Type 0 where
+pub record Works (state : State) (script : List (List ℕ)) (moments : List ℤ) (nonces written : List ℕ)
+    (after : State) : Type 0 where
   pub moments_drawn : AreDrawn script moments
   pub nonces_drawn : AreDrawn script nonces
   pub output : written_for (standing state moments nonces) script ≡ written
@@ -63,29 +64,32 @@ EndsAll front = (more : List ℕ) → lines (front ++ more) ≡ lines front ++ l
 
 -- The turn stopped. Input gave some bytes. Of all that was in hand some bytes in front are those of the lines that were
 -- begun, at most `most`, with their ends.
-pub record StopsTurn (most : ℕ) (state : State) (before : Reading) (reading : Reading) (old new : Devices) : Type 0 where
-  pub bytes : List ℕ
-  pub gives : Gives old.to_come bytes new.to_come
-  pub counts : reading.given ≡ before.given + length bytes
-  pub front : List ℕ
-  pub ahead : List ℕ
-  pub splits : before.held ++ bytes ≡ front ++ ahead
-  pub ended : EndsAll front ⊎ ((ahead ≡ []) × IsAtEnd new.to_come)
-  pub few : length (script_lines front) ≤ most
-  pub begun : BeginsLines state (script_lines front) (outlet_of old) (outlet_of new)
+pub record StopsTurn (most : ℕ) (state : State) (before : Reading) (reading : Reading) (old new : Devices) : Type 0
+  where
+    pub bytes : List ℕ
+    pub gives : Gives old.to_come bytes new.to_come
+    pub counts : reading.given ≡ before.given + length bytes
+    pub front : List ℕ
+    pub ahead : List ℕ
+    pub splits : before.held ++ bytes ≡ front ++ ahead
+    pub ended : EndsAll front ⊎ ((ahead ≡ []) × IsAtEnd new.to_come)
+    pub few : length (script_lines front) ≤ most
+    pub begun : BeginsLines state (script_lines front) (outlet_of old) (outlet_of new)
 
--- The run so far on an input that tells: what was worked at the front of the whole, what is in hand and what is to come.
-pub record Running (first : State) (whole : List ℕ) (old new : Devices) (state : State) (reading : Reading) : Type 0 where
-  pub front : List ℕ
-  pub rest : List ℕ
-  pub written : List ℕ
-  pub moments : List ℤ
-  pub nonces : List ℕ
-  pub input : new.to_come ≡ Some rest
-  pub splits : whole ≡ front ++ (reading.held ++ rest)
-  pub given : reading.given + length rest ≡ length whole
-  pub ended : EndsAll front ⊎ (reading.held ++ rest ≡ [])
-  pub works : Works first (script_lines front) moments nonces written state
-  pub output : Takes old.taken written new.taken
-  pub clock : DrawsAll old.moments moments new.moments
-  pub numbers : DrawsAll old.nonces nonces new.nonces
+-- The run so far on an input that tells: what was worked at the front of the whole, what is in hand and what is to
+-- come.
+pub record Running (first : State) (whole : List ℕ) (old new : Devices) (state : State) (reading : Reading) : Type 0
+  where
+    pub front : List ℕ
+    pub rest : List ℕ
+    pub written : List ℕ
+    pub moments : List ℤ
+    pub nonces : List ℕ
+    pub input : new.to_come ≡ Some rest
+    pub splits : whole ≡ front ++ (reading.held ++ rest)
+    pub given : reading.given + length rest ≡ length whole
+    pub ended : EndsAll front ⊎ (reading.held ++ rest ≡ [])
+    pub works : Works first (script_lines front) moments nonces written state
+    pub output : Takes old.taken written new.taken
+    pub clock : DrawsAll old.moments moments new.moments
+    pub numbers : DrawsAll old.nonces nonces new.nonces

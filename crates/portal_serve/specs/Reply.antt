@@ -10,7 +10,8 @@ use Rattle.portal_serve.specs.declared.call.Kind.TheVariants.{Dataset}
 use Rattle.portal_serve.specs.declared.call.Right.{Right}
 use Rattle.portal_serve.specs.declared.call.Right.TheVariants.{CreateDataset}
 use Rattle.portal_serve.specs.declared.call.Refusal.{Refusal}
-use Rattle.portal_serve.specs.declared.call.Refusal.TheVariants.{NotBuilt, NotFound, NotAuthorized, NameInUse, OutOfMemory}
+use Rattle.portal_serve.specs.declared.call.Refusal.TheVariants.{NotBuilt, NotFound, NotAuthorized, NameInUse}
+use Rattle.portal_serve.specs.declared.call.Refusal.TheVariants.{OutOfMemory}
 use Rattle.portal_serve.specs.declared.call.Reply.{Reply}
 use Rattle.portal_serve.specs.declared.call.Reply.TheVariants.{Accepted, Shown, Refused}
 
@@ -38,12 +39,14 @@ error_dictionary kind message = Map ((codes "__type", Text kind) ∷ (codes "mes
 
 -- a validation error of one key with one message; `__type` comes before every key of a body
 abbrev pub validation_dictionary : List ℕ → List ℕ → Json
-validation_dictionary key message = Map ((codes "__type", Text (codes "Validation Error")) ∷ (key, json.List (Text message ∷ [])) ∷ [])
+validation_dictionary key message =
+    Map ((codes "__type", Text (codes "Validation Error")) ∷ (key, json.List (Text message ∷ [])) ∷ [])
 
 abbrev pub refusal_dictionary : Refusal → Json
 refusal_dictionary NotBuilt = error_dictionary (codes "Bad Request") (codes "Not built yet")
 refusal_dictionary (NotFound kind) = error_dictionary (codes "Not Found Error") (codes "Not found: " ++ kind_name kind)
-refusal_dictionary (NotAuthorized right) = error_dictionary (codes "Authorization Error") (codes "Access denied: " ++ right_name right)
+refusal_dictionary (NotAuthorized right) =
+    error_dictionary (codes "Authorization Error") (codes "Access denied: " ++ right_name right)
 refusal_dictionary (NameInUse key) = validation_dictionary key (codes "That name is already in use")
 refusal_dictionary OutOfMemory = error_dictionary (codes "Memory Error") (codes "Want of memory")
 
@@ -56,11 +59,13 @@ refusal_help action (NameInUse key) = help_of action
 refusal_help action OutOfMemory = []
 
 abbrev pub success_dictionary : Action → Json → Json
-success_dictionary action result = Map ((codes "help", Text (help_of action)) ∷ (codes "result", result) ∷ (codes "success", Truth true) ∷ [])
+success_dictionary action result =
+    Map ((codes "help", Text (help_of action)) ∷ (codes "result", result) ∷ (codes "success", Truth true) ∷ [])
 
 abbrev pub failure_dictionary : Action → Refusal → Json
 failure_dictionary action refusal =
-    Map ((codes "error", refusal_dictionary refusal) ∷ (codes "help", Text (refusal_help action refusal)) ∷ (codes "success", Truth false) ∷ [])
+    Map ((codes "error", refusal_dictionary refusal) ∷ (codes "help", Text (refusal_help action refusal))
+    ∷ (codes "success", Truth false) ∷ [])
 
 abbrev pub reply_json : Action → Reply → Json
 reply_json action (Accepted result) = success_dictionary action result
@@ -82,4 +87,5 @@ reply_line action reply = decimal (reply_status reply) ++ 32 ∷ (reply_text act
 
 -- the line for every line of a script that isn't built so far
 abbrev pub not_built_line : List ℕ
-not_built_line = codes "501 {\"error\":{\"__type\":\"Bad Request\",\"message\":\"Not built yet\"},\"help\":\"\",\"success\":false}\n"
+not_built_line =
+    codes "501 {\"error\":{\"__type\":\"Bad Request\",\"message\":\"Not built yet\"},\"help\":\"\",\"success\":false}\n"

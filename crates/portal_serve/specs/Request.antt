@@ -1,5 +1,6 @@
 -- What the bodies of the calls say, and which bodies are built so far.
-use Rattle.std.specs.Prelude.{ℕ, List, [], ◌∷◌, Bool, false, nat_le, length, codes, Option, Some, None, option_map, option_and_then, is_some, if◌then◌else◌}
+use Rattle.std.specs.Prelude.{ℕ, List, [], ◌∷◌, Bool, false, nat_le, length, codes, Option, Some, None, option_map}
+use Rattle.std.specs.Prelude.{option_and_then, is_some, if◌then◌else◌}
 use Rattle.std.specs.List.{list_all, list_any}
 use Rattle.std.specs.Str.{bytes_eq}
 use Rattle.portal_base.specs.Json.{member_of}
@@ -74,7 +75,8 @@ creation_org body = option_and_then (λ org. only_if (bytes_eq org home_org) org
 abbrev pub title_of : Json → Option (List ℕ)
 title_of json = option_and_then (λ title. only_if (nat_le (length title) LONGEST_TITLE) title) (text_of json)
 
--- the title where the key is there and its value is one, `None` inside where the key is absent, and none where the value is no title
+-- the title where the key is there and its value is one, `None` inside where the key is absent, and none where the
+-- value is no title
 abbrev pub creation_title_of : Option Json → Option (Option (List ℕ))
 creation_title_of None = Some None
 creation_title_of (Some json) = option_map Some (title_of json)
@@ -102,7 +104,10 @@ creation_private body = creation_private_of (member_of (codes "private") body)
 -- the parts of a creation, where each is there
 abbrev pub creation_with : Option (List ℕ) → Option (List ℕ) → Option Bool → Option (Option (List ℕ)) → Option Creation
 creation_with name org private title =
-    option_and_then (λ n. option_and_then (λ o. option_and_then (λ p. option_map (λ t. record { name = n; org = o; private = p; title = t }) title) private) org) name
+    option_and_then
+    (λ n. option_and_then
+    (λ o. option_and_then (λ p. option_map (λ t. record { name = n; org = o; private = p; title = t }) title)
+    private) org) name
 
 -- the body of a `package_create`, where it has the built form
 abbrev pub creation_of : Json → Option Creation

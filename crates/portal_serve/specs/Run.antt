@@ -1,5 +1,5 @@
 -- What passes the devices where a script is played.
-use Rattle.std.specs.Prelude.{◌≡◌, ℕ, ℤ, ◌+◌, ◌^◌, ◌<◌, ◌≤◌, List, [], ◌∷◌, ◌++◌, length, Option, Some, IfSome}
+use Rattle.std.specs.Prelude.{◌≡◌, ℕ, ℤ, ◌+◌, ◌^◌, ◌<◌, ◌≤◌, List, [], ◌++◌, length, Option, Some, IfSome}
 use Rattle.std.specs.Option.{IsSomeAnd}
 use Rattle.portal_base.specs.Outside.{Takes}
 use Rattle.portal_serve.specs.Script.{script_lines}
@@ -75,7 +75,8 @@ pub record PlaysAll (state : State) (whole : List ℕ) (old new : Devices) : Typ
 -- Work on the lines stopped. They were worked but for the last ones, at most `most`, which were begun: as many moments
 -- and numbers were drawn as all of them draw, and what was written is what the worked ones write, and a beginning of
 -- what the begun ones write.
-pub record Stops (most : ℕ) (state : State) (script : List (List ℕ)) (moments : List ℤ) (nonces written : List ℕ) : Type 0 where
+pub record Stops (most : ℕ) (state : State) (script : List (List ℕ)) (moments : List ℤ) (nonces written : List ℕ) :
+    Type 0 where
   pub worked : List (List ℕ)
   pub begun : List (List ℕ)
   pub splits : script ≡ worked ++ begun

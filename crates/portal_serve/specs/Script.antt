@@ -1,5 +1,6 @@
 -- A script: its lines, and the call that a line asks for.
-use Rattle.std.specs.Prelude.{ℕ, List, [], ◌∷◌, Bool, nat_lt, length, filter, codes, Option, Some, None, Result, Ok, Err, option_map, option_and_then, if◌then◌else◌}
+use Rattle.std.specs.Prelude.{ℕ, List, [], ◌∷◌, Bool, nat_lt, length, filter, codes, Option, Some, None, Result, Ok}
+use Rattle.std.specs.Prelude.{Err, option_map, option_and_then, if◌then◌else◌}
 use Rattle.std.specs.Str.Lines.{lines}
 use Rattle.portal_base.specs.Json.{json_reading, member_of}
 use Rattle.portal_base.specs.declared.caller.Caller.{Caller}
@@ -59,7 +60,8 @@ asked_to (Some action) caller body = asked_by action caller body
 abbrev pub call_of_json : Json → Option ScriptCall
 call_of_json json =
     if has_only (is_among line_keys) json
-    then asked_to (option_and_then action_named (text_at (codes "action") json)) (caller_of (member_of (codes "as") json)) (member_of (codes "body") json)
+    then asked_to (option_and_then action_named (text_at (codes "action") json))
+    (caller_of (member_of (codes "as") json)) (member_of (codes "body") json)
     else None
 
 abbrev pub call_of_reading : Result Json JsonFault → Option ScriptCall

@@ -1,6 +1,7 @@
 -- Why work on a line, and on a script, may stop.
 use Rattle.portal_lines.specs.declared.lines.LineFault.{LineFault}
-use Rattle.portal_lines.specs.declared.lines.LineFault.TheVariants.{Failed as source_failed, TooMuch as too_much, OutOfMemory as no_memory}
+use Rattle.portal_lines.specs.declared.lines.LineFault.TheVariants.{Failed as source_failed, TooMuch as too_much}
+use Rattle.portal_lines.specs.declared.lines.LineFault.TheVariants.{OutOfMemory as no_memory}
 use Rattle.std.specs.Prelude.{ℕ}
 use Rattle.portal_serve.specs.declared.play.Stop.{Stop}
 use Rattle.portal_serve.specs.declared.play.Stop.TheVariants.{ReadFault, WriteFault, TooMuch, OutOfMemory}
@@ -18,7 +19,8 @@ stop_for source_failed = ReadFault
 stop_for too_much = TooMuch
 stop_for no_memory = OutOfMemory
 
--- How many lines may be begun and not worked where playing stops so. Input fails, or passes its most, between two lines.
+-- How many lines may be begun and not worked where playing stops so. Input fails, or passes its most, between two
+-- lines.
 abbrev pub begun_at : Stop → ℕ
 begun_at ReadFault = 0
 begun_at WriteFault = 1

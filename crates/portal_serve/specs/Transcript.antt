@@ -28,18 +28,30 @@ pub record Turn : Type 0 where
 -- the call of a line, made with what was drawn for it; its size is the line's length
 abbrev pub drawn_call : State → ScriptCall → ℕ → ℤ → ℕ → Call
 drawn_call state asked size moment nonce =
-    record { caller = known_caller state.people asked.caller; request = asked.request; size = size; moment = moment; nonce = record { 0 = nonce } }
+    record {
+      caller = known_caller state.people asked.caller;
+      request = asked.request;
+      size = size;
+      moment = moment;
+      nonce = record { 0 = nonce };
+    }
 
 abbrev pub turn_of_outcome : ScriptCall → Outcome → List ℤ → List ℕ → Turn
 turn_of_outcome asked outcome moments nonces =
-    record { after = record { state = outcome.state; moments = moments; nonces = nonces }; written = reply_line asked.request.action outcome.reply }
+    record {
+      after = record { state = outcome.state; moments = moments; nonces = nonces };
+      written = reply_line asked.request.action outcome.reply;
+    }
 
 -- A call takes the next moment and the next number. Without any left nothing is written, which doesn't come where as
 -- many were drawn as the script has lines that draw.
 abbrev pub turn_of_call : State → ScriptCall → ℕ → List ℤ → List ℕ → Turn
-turn_of_call state asked size [] nonces = record { after = record { state = state; moments = []; nonces = nonces }; written = [] }
-turn_of_call state asked size (m ∷ moments) [] = record { after = record { state = state; moments = m ∷ moments; nonces = [] }; written = [] }
-turn_of_call state asked size (m ∷ moments) (n ∷ nonces) = turn_of_outcome asked (call_step state (drawn_call state asked size m n)) moments nonces
+turn_of_call state asked size [] nonces =
+    record { after = record { state = state; moments = []; nonces = nonces }; written = [] }
+turn_of_call state asked size (m ∷ moments) [] =
+    record { after = record { state = state; moments = m ∷ moments; nonces = [] }; written = [] }
+turn_of_call state asked size (m ∷ moments) (n ∷ nonces) =
+    turn_of_outcome asked (call_step state (drawn_call state asked size m n)) moments nonces
 
 -- a line that asks for no call draws nothing and changes nothing
 abbrev pub turn_of : Standing → Option ScriptCall → ℕ → Turn

@@ -38,8 +38,8 @@ pub record IsSound (people : Peopled) (dataset : Package) : Type 0 where
   pub resources : AreNumbered dataset
   pub tags : IsAscending (slice_cmp nat_cmp) dataset.tags
 
--- Each list strictly ascends by its key, so that no two entries have one. No organization's name is empty, and each role
--- is one in an organization that stands. No two datasets have one name, and each is sound.
+-- Each list strictly ascends by its key, so that no two entries have one. No organization's name is empty, and each
+-- role is one in an organization that stands. No two datasets have one name, and each is sound.
 pub record IsValid (state : State) : Type 0 where
   pub people : IsPeopled state.people
   pub orgs : All (λ o. o.name ≢ []) state.people.orgs

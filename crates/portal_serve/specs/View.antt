@@ -1,43 +1,11 @@
 -- What a caller may see of the state.
-use Rattle.std.specs.Prelude.{ℕ, List, map, filter, Bool, false, ◌&&◌, ◌||◌}
-use Rattle.std.specs.Str.{bytes_eq}
 use Rattle.portal_base.specs.declared.caller.Caller.{Caller}
-use Rattle.portal_base.specs.declared.caller.Caller.TheVariants.{Anonymous, Named}
-use Rattle.org_roles.specs.Peopled.{Peopled, is_sysadmin_in}
-use Rattle.org_roles.specs.Rights.{rights_for}
-use Rattle.org_roles.specs.declared.entry.Membership.{Membership}
-use Rattle.org_roles.specs.declared.entry.User.{User}
-use Rattle.visibility.specs.Visibility.{caller_role, sees_in}
+use Rattle.visibility.specs.View.{people_seen, datasets_seen}
 use Rattle.portal_serve.specs.State.{State}
-
--- the caller is the user of that name
-abbrev pub is_called : Caller → List ℕ → Bool
-is_called Anonymous name = false
-is_called (Named user) name = bytes_eq user name
-
--- every user's name, and the flag of a sysadmin for the caller alone
-abbrev pub user_seen : Caller → User → User
-user_seen caller user = record { name = user.name; sysadmin = user.sysadmin && is_called caller user.name }
-
--- a sysadmin administers every organization, and so does an admin of it
-abbrev pub administers : Peopled → Caller → List ℕ → Bool
-administers people caller org = is_sysadmin_in people caller || (rights_for (caller_role people caller org)).administer
-
--- roles of organizations that the caller administers, and elsewhere the caller's own
-abbrev pub is_role_seen : Peopled → Caller → Membership → Bool
-is_role_seen people caller role = administers people caller role.org || is_called caller role.user
-
--- the people as the caller sees them: every organization is public
-abbrev pub people_seen : Caller → Peopled → Peopled
-people_seen caller people = record {
-  users = map (user_seen caller) people.users;
-  orgs = people.orgs;
-  roles = filter (is_role_seen people caller) people.roles;
-}
 
 -- The state as the caller sees it. The datasets that are seen are seen whole.
 abbrev pub view_of : Caller → State → State
 view_of caller state = record {
   people = people_seen caller state.people;
-  datasets = filter (sees_in state.people caller) state.datasets;
+  datasets = datasets_seen caller state.people state.datasets;
 }

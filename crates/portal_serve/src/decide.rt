@@ -67,7 +67,9 @@ fn decide_show(
     call: &Call,
 ) -> Result<Decision, AllocError>
     ensures { IfOk result (λ decision. outcome_of decision (state_of people.now datasets.now)
-        ≡ settled (answer_to_show_in (shown_of call.now.request.body) call.now.caller (state_of people.now datasets.now)) (state_of people.now datasets.now)) }
+        ≡ settled
+        (answer_to_show_in (shown_of call.now.request.body) call.now.caller (state_of people.now datasets.now))
+        (state_of people.now datasets.now)) }
 {
     let Some(key) = shown_in(&call.request.body) else {
         return Ok(refused(Refusal::NotBuilt));
@@ -86,7 +88,8 @@ fn decide_create(
     call: &Call,
 ) -> Result<Decision, AllocError>
     ensures { IfOk result (λ decision. outcome_of decision (state_of people.now datasets.now)
-        ≡ settled (answer_to_create call.now (creation_of call.now.request.body) (state_of people.now datasets.now)) (state_of people.now datasets.now)) }
+        ≡ settled (answer_to_create call.now (creation_of call.now.request.body) (state_of people.now datasets.now))
+        (state_of people.now datasets.now)) }
 {
     let Some(creation) = creation_in(&call.request.body) else {
         return Ok(refused(Refusal::NotBuilt));

@@ -1,6 +1,8 @@
 //! The dictionaries in which replies show things.
 ghost use Rattle.std.specs.Prelude.{◌≡◌, ◌∷◌, ◌++◌, map, decimal, IfOk};
-ghost use Rattle.portal_serve.specs.Dictionary.{state_name, organization_title, organization_dictionary, tag_dictionary, resource_id, resource_dictionary, resource_dictionaries, package_dictionary};
+ghost use Rattle.portal_serve.specs.Dictionary.{state_name, organization_title, organization_dictionary};
+ghost use Rattle.portal_serve.specs.Dictionary.{tag_dictionary, resource_id, resource_dictionary};
+ghost use Rattle.portal_serve.specs.Dictionary.{resource_dictionaries, package_dictionary};
 
 use org_roles::people::People;
 use packages::package::{Package, Resource, State};

@@ -32,8 +32,8 @@ pub fn a_view_of_a_view_is_the_view()
         view_of caller (view_of caller state) ≡ view_of caller state }
 {}
 
-/// In two states of which its caller sees the same, a call gets the same reply, but where it is told that a name or an id
-/// is in use.
+/// In two states of which its caller sees the same, a call gets the same reply, but where it is told that a name or
+/// an id is in use.
 pub fn equal_views_get_equal_replies()
     ensures { (s t : State) (call : Call) →
         view_of call.caller s ≡ view_of call.caller t →

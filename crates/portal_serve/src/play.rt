@@ -1,5 +1,6 @@
 //! Playing a script: the loop over its lines, which holds one line and the portal.
-ghost use Rattle.std.specs.Prelude.{◌≡◌, ◌↔◌, ◌<◌, ◌≤◌, ℕ, List, [], ◌∷◌, true, false, Some, Ok, Err, length, IfOk, IfErr, OnOk, OnErr};
+ghost use Rattle.std.specs.Prelude.{◌≡◌, ◌↔◌, ◌<◌, ◌≤◌, ℕ, List, [], ◌∷◌, true, false, Some, Ok, Err, length, IfOk};
+ghost use Rattle.std.specs.Prelude.{IfErr, OnOk, OnErr};
 ghost use Rattle.portal_base.specs.Outside.{Rose, Takes, TakesPrefix};
 ghost use Rattle.portal_serve.specs.Played.{WorksLines, StopsLines, TakesTurn, EndsTurn, StopsTurn, unless_empty};
 ghost use Rattle.portal_serve.specs.Stopped.{IsOfLine, stop_for, begun_at};
@@ -237,7 +238,8 @@ pub fn play<S: Source, O: Sink, C: Clock, N: Nonces>(
     ensures done { OnOk result ((whole : List ℕ) → S.to_come input.old ≡ Some whole → PlaysAll stated_state whole
         (devices (S.to_come input.old) (O.taken output.old) (C.given clock.old) (N.given nonces.old))
         (devices (S.to_come input.new) (O.taken output.new) (C.given clock.new) (N.given nonces.new))) }
-    ensures cut { IfErr result (λ stop. (whole : List ℕ) → S.to_come input.old ≡ Some whole → PlaysPart (begun_at stop) stated_state whole
+    ensures cut { IfErr result (λ stop. (whole : List ℕ) → S.to_come input.old ≡ Some whole
+        → PlaysPart (begun_at stop) stated_state whole
         (devices (S.to_come input.old) (O.taken output.old) (C.given clock.old) (N.given nonces.old))
         (devices (S.to_come input.new) (O.taken output.new) (C.given clock.new) (N.given nonces.new))) }
 

@@ -1,6 +1,9 @@
 //! The texts of replies: a status and one JSON dictionary, as CKAN's Action API has them.
 ghost use Rattle.std.specs.Prelude.{◌≡◌, ◌++◌, IfOk};
-ghost use Rattle.portal_serve.specs.Reply.{help_of, kind_name, right_name, refusal_status, refusal_help, error_dictionary, validation_dictionary, refusal_dictionary, success_dictionary, failure_dictionary, reply_json, reply_status, reply_text, reply_line};
+ghost use Rattle.portal_serve.specs.Reply.{help_of, kind_name, right_name, refusal_status, refusal_help};
+ghost use Rattle.portal_serve.specs.Reply.{error_dictionary, validation_dictionary, refusal_dictionary};
+ghost use Rattle.portal_serve.specs.Reply.{success_dictionary, failure_dictionary, reply_json, reply_status};
+ghost use Rattle.portal_serve.specs.Reply.{reply_text, reply_line};
 
 use crate::call::{Kind, Refusal, Reply, Right};
 use crate::request::Action;

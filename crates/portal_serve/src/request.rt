@@ -4,7 +4,8 @@ ghost use Rattle.std.specs.List.{list_all, list_any};
 ghost use Rattle.std.specs.Option.{option_copied};
 ghost use Rattle.std.specs.Str.{bytes_eq};
 ghost use Rattle.portal_base.specs.Json.{member_of};
-ghost use Rattle.portal_serve.specs.Request.{has_only, text_of, text_at, shown_of, creation_of, creation_name, creation_org, title_of, creation_title, creation_private, is_built};
+ghost use Rattle.portal_serve.specs.Request.{has_only, text_of, text_at, shown_of, creation_of, creation_name};
+ghost use Rattle.portal_serve.specs.Request.{creation_org, title_of, creation_title, creation_private, is_built};
 ghost use Rattle.portal_serve.specs.Action.{action_name, action_named};
 ghost use Rattle.portal_serve.specs.Seen.{creation_seen};
 
@@ -170,8 +171,8 @@ fn given_title(body: &Json) -> Option<Option<&Text>>
     }
 }
 
-/// Whether a body says that the dataset is private: it doesn't where the key is absent, and `None` where the value is no
-/// truth value.
+/// Whether a body says that the dataset is private: it doesn't where the key is absent, and `None` where the value is
+/// no truth value.
 fn private_in(body: &Json) -> Option<bool>
     ensures { result ≡ creation_private body.now }
 {

@@ -69,7 +69,8 @@ fn roles(alloc: Global) -> Result<Seq<Membership>, AllocError>
 /// The opening: users `root` (a sysadmin), `ann`, `bob`, `cyn` and `dan`, the organization `city`, and in it ann as
 /// editor, bob as member and cyn as admin.
 pub fn stated_opening(alloc: Global) -> Result<Opening, AllocError>
-    ensures { IfOk result (λ opening. opening ≡ record { users = stated_users; orgs = stated_org ∷ []; roles = stated_roles }) }
+    ensures { IfOk result
+        (λ opening. opening ≡ record { users = stated_users; orgs = stated_org ∷ []; roles = stated_roles }) }
 {
     Ok(Opening {
         users: users(alloc)?,

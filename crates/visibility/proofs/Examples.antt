@@ -1,5 +1,5 @@
--- Who sees and edits datasets of `city`, and the classes of these: ann edits there, bob is a member, cyn administers, dan
--- has no role, eve edits at `lake`, and root is a sysadmin.
+-- Who sees and edits datasets of `city`, and the classes of these: ann edits there, bob is a member, cyn administers,
+-- dan has no role, eve edits at `lake`, and root is a sysadmin.
 use Rattle.std.proofs.Common.{◌≡◌, ℕ, Bool, true, false, List, [], ◌∷◌, refl}
 use Rattle.std.specs.Prelude.{codes, map, pos}
 use Rattle.portal_base.specs.declared.caller.Caller.{Caller}
@@ -34,7 +34,8 @@ people = record {
 -- ann, bob, cyn, dan, eve, root and nobody
 abbrev callers : List Caller
 callers =
-    Named (codes "ann") ∷ Named (codes "bob") ∷ Named (codes "cyn") ∷ Named (codes "dan") ∷ Named (codes "eve") ∷ Named (codes "root")
+    Named (codes "ann") ∷ Named (codes "bob") ∷ Named (codes "cyn") ∷ Named (codes "dan") ∷ Named (codes "eve")
+    ∷ Named (codes "root")
     ∷ Anonymous ∷ []
 
 -- who of them sees it

@@ -1,2 +1,4 @@
+pub mod Opening
+pub mod Viewing
 mod Examples
 pub mod VisibilityLemmas

@@ -1,1 +1,3 @@
+pub mod Seen
+pub mod View
 pub mod Visibility

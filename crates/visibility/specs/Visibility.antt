@@ -41,8 +41,8 @@ may_edit_in people caller dataset =
 abbrev pub sees_private_in : Peopled → Caller → Package → Bool
 sees_private_in people caller dataset = (rights_for (caller_role people caller dataset.owner_org)).see_private
 
--- who sees a dataset in a state, sysadmins aside: a draft its maker and who may edit it, an active one everybody if it is
--- public and else who has a role in its organization, a deleted one who may edit it
+-- who sees a dataset in a state, sysadmins aside: a draft its maker and who may edit it, an active one everybody if
+-- it is public and else who has a role in its organization, a deleted one who may edit it
 abbrev pub sees_state_in : State → Peopled → Caller → Package → Bool
 sees_state_in Draft people caller dataset = is_maker caller dataset || may_edit_in people caller dataset
 sees_state_in Active people caller dataset = not dataset.private || sees_private_in people caller dataset
@@ -66,3 +66,16 @@ class_of_state Deleted dataset = Editing dataset.owner_org
 -- Active datasets are for all or for those inside their organization, and all others for those who edit there.
 abbrev pub class_for : Package → Class
 class_for dataset = class_of_state dataset.state dataset
+
+abbrev pub is_active : State → Bool
+is_active Draft = false
+is_active Active = true
+is_active Deleted = false
+
+-- active and public, so that everybody sees it
+abbrev pub is_open : Package → Bool
+is_open dataset = is_active dataset.state && not dataset.private
+
+-- what is harvested is active and public
+abbrev pub is_open_if_harvested : Package → Bool
+is_open_if_harvested dataset = not (is_harvested dataset) || is_open dataset

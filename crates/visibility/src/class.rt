@@ -14,7 +14,8 @@ pub enum Class {
     Public,
     /// Those who have a role in the organization of that name: the dataset is active and private.
     Inside(Text),
-    /// Those who edit in the organization of that name, and its maker, as `sees` has it: the dataset is a draft or deleted.
+    /// Those who edit in the organization of that name, and its maker, as `sees` has it: the dataset is a draft or
+    /// deleted.
     Editing(Text),
 }
 

@@ -5,8 +5,8 @@ ghost use Rattle.org_roles.specs.Peopled.{Peopled, is_sysadmin_in};
 ghost use Rattle.packages.specs.declared.package.Package.{Package};
 ghost use Rattle.visibility.specs.Visibility.{caller_role, may_edit_in, sees_in};
 
-/// Of the people, the right to edit a dataset hangs on no more than whether the caller is a sysadmin and on the caller's
-/// role in the dataset's organization.
+/// Of the people, the right to edit a dataset hangs on no more than whether the caller is a sysadmin and on the
+/// caller's role in the dataset's organization.
 pub fn the_right_to_edit_is_the_callers_own()
     ensures { (p q : Peopled) (caller : Caller) (dataset : Package) →
         is_sysadmin_in p caller ≡ is_sysadmin_in q caller →
@@ -14,8 +14,8 @@ pub fn the_right_to_edit_is_the_callers_own()
         may_edit_in p caller dataset ≡ may_edit_in q caller dataset }
 {}
 
-/// Of the people, the sight of a dataset hangs on no more than whether the caller is a sysadmin and on the caller's role
-/// in the dataset's organization.
+/// Of the people, the sight of a dataset hangs on no more than whether the caller is a sysadmin and on the caller's
+/// role in the dataset's organization.
 pub fn sight_is_the_callers_own()
     ensures { (p q : Peopled) (caller : Caller) (dataset : Package) →
         is_sysadmin_in p caller ≡ is_sysadmin_in q caller →

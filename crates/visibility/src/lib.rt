@@ -1,6 +1,7 @@
 //! Who sees a dataset, who may edit it, and the class of a dataset.
 #![tactic(auto)]
 
+pub mod asked;
 pub mod class;
 pub mod laws;
 pub mod sight;

@@ -1,6 +1,8 @@
 //! Who sees a dataset and who may edit it. Nothing here takes memory.
 ghost use Rattle.std.specs.Prelude.{◌≡◌};
-ghost use Rattle.visibility.specs.Visibility.{caller_role, is_harvested, is_maker, may_edit_in, sees_in, sees_private_in};
+ghost use Rattle.visibility.specs.Visibility.{caller_role, is_harvested, is_maker, is_open, may_edit_in, sees_in};
+ghost use Rattle.visibility.specs.Visibility.{sees_private_in};
+ghost use Rattle.visibility.specs.View.{administers};
 
 use org_roles::people::People;
 use org_roles::role::{Role, rights_of};
@@ -18,6 +20,13 @@ pub fn role_of_caller(people: &People, caller: &Caller, org: &Text) -> Option<Ro
     }
 }
 
+/// Whether the caller administers the organization: a sysadmin administers each, an admin its own.
+pub fn administers(people: &People, caller: &Caller, org: &Text) -> bool
+    ensures { result ≡ administers people.now caller.now org.now }
+{
+    people.is_sysadmin(caller) || rights_of(role_of_caller(people, caller, org)).administer
+}
+
 /// Whether the caller may edit the dataset: it isn't harvested, and the caller is a sysadmin, or an editor or admin of
 /// its organization.
 pub fn may_edit(people: &People, caller: &Caller, package: &Package) -> bool
@@ -28,9 +37,9 @@ pub fn may_edit(people: &People, caller: &Caller, package: &Package) -> bool
             || rights_of(role_of_caller(people, caller, &package.owner_org)).edit)
 }
 
-/// Whether the caller sees the dataset. A sysadmin sees all of them. Everybody sees an active dataset that is public, and
-/// who has a role in its organization one that is private. A draft is seen by who made it and by who may edit it, and a
-/// deleted dataset by who may edit it.
+/// Whether the caller sees the dataset. A sysadmin sees all of them. Everybody sees an active dataset that is public,
+/// and who has a role in its organization one that is private. A draft is seen by who made it and by who may edit it,
+/// and a deleted dataset by who may edit it.
 pub fn sees(people: &People, caller: &Caller, package: &Package) -> bool
     ensures { result ≡ sees_in people.now caller.now «package».now }
 {
@@ -42,8 +51,15 @@ pub fn sees(people: &People, caller: &Caller, package: &Package) -> bool
         }
 }
 
+/// Whether the dataset is active and public, so that everybody sees it.
+pub fn is_open(package: &Package) -> bool
+    ensures { result ≡ is_open «package».now }
+{
+    package.state == State::Active && !package.private
+}
+
 /// Whether the dataset came from a source.
-fn is_harvested(package: &Package) -> bool
+pub fn is_harvested(package: &Package) -> bool
     ensures { result ≡ is_harvested «package».now }
 {
     !package.source.is_empty()

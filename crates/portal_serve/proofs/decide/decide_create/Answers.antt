@@ -6,7 +6,8 @@ use Rattle.portal_serve.proofs.decide.decide_create.Goals as goal
 
 pub returns : goal.returns
 returns c =
-    planned-outcome c.args.call.now _ (creation_seen c.in-Some.creation) c.args.people.now c.args.datasets.now c.in_ok-dataset.dataset c.in_ok-shown.shown
+    planned-outcome c.args.call.now _ (creation_seen c.in-Some.creation) c.args.people.now c.args.datasets.now
+    c.in_ok-dataset.dataset c.in_ok-shown.shown
     (sym (ap (option_map creation_seen) c.in-Some.is) ∙ c.creation_in.ensures)
     (sym c.may_create.ensures ∙ c.if-not-may_create.false)
     (sym c.stands.ensures ∙ c.if-not-stands.false)

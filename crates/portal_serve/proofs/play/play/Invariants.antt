@@ -7,8 +7,11 @@ use Rattle.portal_serve.proofs.play.play.Given as goal
 -- what the lines so far did, and that no count of faults fell
 abbrev pub invariant-lines : goal.invariant-lines
 invariant-lines g l = record {
-  kept : Keeps (devices (g.S.Source.to_come l.fn.input) (g.O.Sink.taken l.fn.output) (g.C.Clock.given l.fn.clock) (g.N.Nonces.given l.fn.nonces))
-      (devices (g.S.Source.to_come l.input) (g.O.Sink.taken l.output) (g.C.Clock.given l.clock) (g.N.Nonces.given l.nonces)) l.portal l.reader;
+  kept : Keeps
+      (devices (g.S.Source.to_come l.fn.input) (g.O.Sink.taken l.fn.output) (g.C.Clock.given l.fn.clock)
+      (g.N.Nonces.given l.fn.nonces))
+      (devices (g.S.Source.to_come l.input) (g.O.Sink.taken l.output) (g.C.Clock.given l.clock)
+      (g.N.Nonces.given l.nonces)) l.portal l.reader;
   reads : g.S.Source.faults l.fn.input ≤ g.S.Source.faults l.input;
   writes : g.O.Sink.faults l.fn.output ≤ g.O.Sink.faults l.output;
 }
