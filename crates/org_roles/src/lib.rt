@@ -1,6 +1,7 @@
 //! Users, organizations and the roles that users have in organizations, and what each role may do.
 #![tactic(auto)]
 
+pub mod change;
 pub mod entry;
 mod order;
 pub mod people;

@@ -1,0 +1,90 @@
+//! The dictionaries in which organizations, roles and users are shown.
+ghost use Rattle.std.specs.Prelude.{◌≡◌, IfOk};
+ghost use Rattle.organization_answers.specs.Dictionary.{role_name, organization_dictionary, capacity_dictionary};
+ghost use Rattle.organization_answers.specs.Dictionary.{member_dictionary, member_entry};
+ghost use Rattle.visibility.specs.Seen.{seen_by};
+
+use org_roles::entry::{Membership, Org};
+use org_roles::role::Role;
+use portal_base::copy::TryClone;
+use portal_base::dictionary::Value;
+use portal_base::json_value::Json;
+use portal_base::seq::Seq;
+use portal_base::text::Text;
+use std::alloc::{AllocError, Global};
+use visibility::asked::Asked;
+
+/// How a role is written.
+pub fn name_of_role(role: Role) -> &'static str
+    ensures { result.now ≡ role_name role }
+{
+    match role {
+        Role::Member => "member",
+        Role::Editor => "editor",
+        Role::Admin => "admin",
+    }
+}
+
+/// An organization.
+pub fn organization_json(alloc: Global, asked: &Asked<'_>, org: &Org) -> Result<Json, AllocError>
+    ensures { IfOk result (λ json. json ≡ organization_dictionary (seen_by asked.now).datasets org.now) }
+{
+    let count = asked.count_of_open(&org.name);
+    Json::dictionary(
+        alloc,
+        [
+            ("created", Value::Moment(org.created)),
+            ("description", Value::Text(&org.description)),
+            ("id", Value::Text(&org.name)),
+            ("name", Value::Text(&org.name)),
+            ("package_count", Value::Whole(count)),
+            ("title", Value::Text(&org.title)),
+            ("type", Value::Static("organization")),
+        ],
+    )
+}
+
+/// An organization with the caller's capacity in it.
+pub fn capacity_json(alloc: Global, org: &Org, role: Role) -> Result<Json, AllocError>
+    ensures { IfOk result (λ json. json ≡ capacity_dictionary org.now role) }
+{
+    Json::dictionary(
+        alloc,
+        [
+            ("capacity", Value::Static(name_of_role(role))),
+            ("id", Value::Text(&org.name)),
+            ("name", Value::Text(&org.name)),
+            ("title", Value::Text(&org.title)),
+        ],
+    )
+}
+
+/// A user's capacity in an organization.
+pub fn member_json<'a>(
+    alloc: Global,
+    org: &'a Text,
+    user: &'a Text,
+    role: Role,
+) -> Result<Json, AllocError>
+    ensures { IfOk result (λ json. json ≡ member_dictionary org.now user.now role) }
+{
+    Json::dictionary(
+        alloc,
+        [
+            ("capacity", Value::Static(name_of_role(role))),
+            ("id", Value::Text(org)),
+            ("username", Value::Text(user)),
+        ],
+    )
+}
+
+/// A member in the list of an organization's members.
+pub fn entry_of_member(alloc: Global, membership: &Membership) -> Result<Json, AllocError>
+    ensures { IfOk result (λ json. json ≡ member_entry membership.now) }
+{
+    let mut entry = Vec::with_capacity(alloc, 3)?;
+    entry.push(Json::Text(membership.user.try_clone(alloc)?))?;
+    entry.push(Json::Text(Text::from_static("user")))?;
+    entry.push(Json::Text(Text::from_static(name_of_role(membership.role))))?;
+    Ok(Json::List(Seq::from(entry)))
+}
