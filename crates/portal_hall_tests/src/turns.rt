@@ -1,0 +1,99 @@
+//! Passes that act in turn on a shelf.
+use crate::crowd::{Made, create, create_by_two, spread};
+use crate::shelf::{Event, Reply, Shelf};
+use portal_hall::acted::Acted;
+use portal_hall::hall::Hall;
+use std::test::Fail;
+use std::thread::join;
+
+/// The reply, the front and the place, where the machine replied.
+fn told(acted: Acted<Shelf>) -> Option<(Reply, u64, Option<u64>)> {
+    match acted {
+        Acted::Done {
+            reply,
+            front,
+            entry,
+        } => Some((reply, front, entry)),
+        Acted::OutOfMemory(_) => None,
+    }
+}
+
+#[test]
+fn two_passes_and_one_history(rt: HostRuntime) -> Result<(), Fail> {
+    let opened = Hall::open(rt.alloc(), Shelf::new(rt.alloc()), 2);
+    let (hall, mut one) = opened.ok().ok_or("no hall")?;
+    let mut two = hall.split(&mut one, 1);
+    assert!(rt; one.room() == 1 && two.room() == 1);
+    let created = told(hall.act(&rt, &mut one, Event::Create(7)));
+    assert!(rt; created == Some((Reply::Created, 1, Some(0))));
+    let shown = told(hall.act(&rt, &mut two, Event::Show(7)));
+    assert!(rt; shown == Some((Reply::Shown, 1, None)));
+    let again = told(hall.act(&rt, &mut two, Event::Create(7)));
+    assert!(rt; again == Some((Reply::InUse, 1, None)));
+    hall.join(&mut one, two);
+    assert!(rt; one.room() == 2);
+    let (shelf, history) = hall.close(one);
+    assert!(rt; shelf.names.as_slice() == [7].as_slice() && history.len() == 1);
+    Ok(())
+}
+
+#[test]
+fn a_machine_that_fails_goes_on(rt: HostRuntime) -> Result<(), Fail> {
+    let opened = Hall::open(rt.alloc(), Shelf::new(rt.alloc()), 1);
+    let (hall, mut pass) = opened.ok().ok_or("no hall")?;
+    let broken = told(hall.act(&rt, &mut pass, Event::Break));
+    assert!(rt; broken == Some((Reply::Faulted, 0, None)));
+    let starved = told(hall.act(&rt, &mut pass, Event::Starve));
+    assert!(rt; starved == Some((Reply::OutOfMemory, 0, None)));
+    assert!(rt; create(&rt, &hall, &mut pass, 3) == Some(0));
+    let (shelf, history) = hall.close(pass);
+    assert!(rt; shelf.names.len() == 1 && history.len() == 1);
+    Ok(())
+}
+
+#[test]
+fn sixty_four_seats_act_once_each(rt: HostRuntime) -> Result<(), Fail> {
+    let opened = Hall::open(rt.alloc(), Shelf::new(rt.alloc()), 64);
+    let (hall, pass) = opened.ok().ok_or("no hall")?;
+    let pass = spread(&rt, &hall, pass, 0);
+    let (shelf, history) = hall.close(pass);
+    assert!(rt; shelf.names.len() == 64 && history.len() == 64);
+    Ok(())
+}
+
+/// Counts, for each of the first hundred places, how often it was told.
+fn note(counts: &mut [u8; 100], made: &Made) {
+    for place in made.places.as_slice() {
+        if let Some(count) = counts.get_mut(*place as usize) {
+            *count = count.saturating_add(1);
+        }
+    }
+}
+
+#[test]
+fn each_place_is_that_of_one_pass(rt: HostRuntime) -> Result<(), Fail> {
+    let opened = Hall::open(rt.alloc(), Shelf::new(rt.alloc()), 4);
+    let (hall, mut one) = opened.ok().ok_or("no hall")?;
+    let two = hall.split(&mut one, 1);
+    let three = hall.split(&mut one, 1);
+    let four = hall.split(&mut one, 1);
+    let alloc = rt.alloc();
+    let ((a, b), (c, d)) = join(
+        &rt,
+        || create_by_two(&rt, alloc, &hall, one, two, 0),
+        || create_by_two(&rt, alloc, &hall, three, four, 50),
+    );
+    let mut counts = [0u8; 100];
+    for made in [&a, &b, &c, &d] {
+        assert!(rt; made.places.len() == 25);
+        note(&mut counts, made);
+    }
+    assert!(rt; counts.iter().all(|count| *count == 1));
+    let mut pass = a.pass;
+    hall.join(&mut pass, b.pass);
+    hall.join(&mut pass, c.pass);
+    hall.join(&mut pass, d.pass);
+    let (shelf, history) = hall.close(pass);
+    assert!(rt; shelf.names.len() == 100 && history.len() == 100);
+    Ok(())
+}
