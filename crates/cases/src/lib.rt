@@ -14,7 +14,8 @@
 //! - Each line is a case. Its columns are divided by `|`; blanks (spaces) at both ends of a column don't count.
 //! - A line without any but blanks, and one that begins with `#`, is no case.
 //! - `@ TEXT` makes TEXT the first column of each case below it, up to the next such line; a lone `@` ends it.
-//! - In a column `\n`, `\r`, `\t`, `\s` (a space), `\\` and `\xHH` (the byte HH, two hexadecimal digits) stand for what doesn't
+//! - In a column `\n`, `\r`, `\t`, `\s` (a space), `\\` and `\xHH` (the byte HH, two hexadecimal digits) stand for
+//! what doesn't
 //!   show, for a bar (`\x7C`), and for a first `#` or `@` (`\x23`, `\x40`). So columns are bytes, of any kind.
 //!
 //! ```text
@@ -29,13 +30,14 @@
 //! }
 //! ```
 //!
-//! `check` asks for the answer to each case of the file, which has that many columns (a shared one counted), and compares it
-//! with the last. `check_files` does so where each column is the name of a file, as where a document and its answer take
-//! many lines: the answer is asked and wanted of what these files hold. Both print what doesn't hold, with both answers, and
-//! the lines that are no cases. An answer that is an `Err` doesn't hold. `end` prints how many hold.
+//! `check` asks for the answer to each case of the file, which has that many columns (a shared one counted), and
+//! compares it with the last. `check_files` does so where each column is the name of a file, as where a document and
+//! its answer take many lines: the answer is asked and wanted of what these files hold. Both print what doesn't hold,
+//! with both answers, and the lines that are no cases. An answer that is an `Err` doesn't hold. `end` prints how many
+//! hold.
 //!
-//! `rt ci` copies `data/` and compares what is printed with the crate's `stdout`. While writing, run the built program in
-//! `data/`: `rt run; cd data; ../out/NAME`.
+//! `rt ci` copies `data/` and compares what is printed with the crate's `stdout`. While writing, run the built
+//! program in `data/`: `rt run; cd data; ../out/NAME`.
 #![tactic(auto)]
 
 pub mod case;

@@ -1,6 +1,6 @@
-//! Reads each line of standard input but the first as a cell of the first field that the first line describes, and counts
-//! cells and faults. The first line is a descriptor of Table Schema v1. Where it is none, or the input is no text, the fault
-//! stands on standard error, and the status is not 0.
+//! Reads each line of standard input but the first as a cell of the first field that the first line describes, and
+//! counts cells and faults. The first line is a descriptor of Table Schema v1. Where it is none, or the input is no
+//! text, the fault stands on standard error, and the status is not 0.
 #![tactic(auto)]
 
 use std::alloc::{AllocError, Global};

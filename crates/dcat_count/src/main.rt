@@ -1,5 +1,5 @@
-//! Tells of the N-Triples document on standard input how many datasets its catalogues list, and of how many of them there
-//! is a record.
+//! Tells of the N-Triples document on standard input how many datasets its catalogues list, and of how many of them
+//! there is a record.
 #![tactic(auto)]
 
 use dcat_map::{Graph, ListFault, RecordFault, describe_in, listed_in};

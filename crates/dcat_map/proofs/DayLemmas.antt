@@ -14,9 +14,11 @@ is_date-in y m d month day =
     rw (a, b, e, f) refl
 
 -- The number of such a day is what its text gives.
-pub day_of-date : (y m d : ℕ) (z : ℤ) (m' d' : ℕ) (n : ℤ) → z ≡ pos y → m' ≡ m → d' ≡ d → IsInRange 1 12 m' → IsInRange 1 (days_in_month z m') d' → n ≡ days_from_civil z m' d' → Some n ≡ day_of y m d
+pub day_of-date : (y m d : ℕ) (z : ℤ) (m' d' : ℕ) (n : ℤ) → z ≡ pos y → m' ≡ m → d' ≡ d → IsInRange 1 12 m'
+    → IsInRange 1 (days_in_month z m') d' → n ≡ days_from_civil z m' d' → Some n ≡ day_of y m d
 day_of-date y m d z m' d' n year month day in_year in_month number =
-    let same : n ≡ days_from_civil (pos y) m d = number ∙ ap (λ a. days_from_civil a m' d') year ∙ ap (λ a. days_from_civil (pos y) a d') month ∙ ap (days_from_civil (pos y) m) day in
+    let same : n ≡ days_from_civil (pos y) m d = number ∙ ap (λ a. days_from_civil a m' d') year
+    ∙ ap (λ a. days_from_civil (pos y) a d') month ∙ ap (days_from_civil (pos y) m) day in
     let passes : is_date y m d ≡ true =
     is_date-in y m d (subst_month month in_year) (subst_day year month day in_month) in
     rw passes (ap Some same)
@@ -24,7 +26,8 @@ day_of-date y m d z m' d' n year month day in_year in_month number =
     subst_month : m' ≡ m → IsInRange 1 12 m' → IsInRange 1 12 m
     subst_month e h = subst (λ a. IsInRange 1 12 a) e h
 
-    subst_day : z ≡ pos y → m' ≡ m → d' ≡ d → IsInRange 1 (days_in_month z m') d' → IsInRange 1 (days_in_month (pos y) m) d
+    subst_day : z ≡ pos y → m' ≡ m → d' ≡ d → IsInRange 1 (days_in_month z m') d'
+        → IsInRange 1 (days_in_month (pos y) m) d
     subst_day e f g h =
         subst (λ a. IsInRange 1 (days_in_month (pos y) m) a) g
         (subst (λ a. IsInRange 1 (days_in_month (pos y) a) d') f (subst (λ a. IsInRange 1 (days_in_month a m') d') e h))

@@ -12,7 +12,8 @@ use Rattle.dcat_map.specs.Distributions.{distribution_in, distribution_cmp, dist
 use Rattle.dcat_map.proofs.Orders.{then_equal, same_text}
 use Rattle.dcat_map.proofs.SetLemmas.{TellsApart}
 
-pub distributions_in-append : (g xs ys : List Triple) → distributions_in g (xs ++ ys) ≡ distributions_in g xs ++ distributions_in g ys
+pub distributions_in-append : (g xs ys : List Triple)
+    → distributions_in g (xs ++ ys) ≡ distributions_in g xs ++ distributions_in g ys
 unfolding distributions_in
 distributions_in-append g xs ys =
     let objects : List Triple → List Term = map (λ (t : Triple). t.object) in
@@ -39,7 +40,8 @@ same_distribution d e h =
     let second = then_equal (text_cmp d.name e.name) _ first.1 in
     let third = then_equal (text_cmp d.format e.format) _ second.1 in
     let fourth = then_equal (text_cmp d.mimetype e.mimetype) _ third.1 in
-    let make : List ℕ → List ℕ → List ℕ → List ℕ → List ℕ → Distribution = λ u n f m t. record { url = u; name = n; format = f; mimetype = m; description = t } in
+    let make : List ℕ → List ℕ → List ℕ → List ℕ → List ℕ
+    → Distribution = λ u n f m t. record { url = u; name = n; format = f; mimetype = m; description = t } in
     ap (λ u. make u d.name d.format d.mimetype d.description) (same_text d.url e.url first.0)
     ∙ ap (λ n. make e.url n d.format d.mimetype d.description) (same_text d.name e.name second.0)
     ∙ ap (λ f. make e.url e.name f d.mimetype d.description) (same_text d.format e.format third.0)

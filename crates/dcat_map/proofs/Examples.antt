@@ -22,7 +22,8 @@ small =
     ∷ []
 
 lists_one_and_counts_one : listing_of small ≡ Some (record { iris = codes "abc" ∷ []; unnamed = 1 })
-unfolding small listing_of catalogued catalogues_in listing_in entries_in links_in graph_of ascending_set is_about term_cmp triple_cmp
+unfolding small listing_of catalogued catalogues_in listing_in entries_in links_in graph_of ascending_set is_about
+    term_cmp triple_cmp
 lists_one_and_counts_one = refl
 
 lists_nothing : listing_of [] ≡ None
@@ -32,8 +33,16 @@ lists_nothing = refl
 -- titles in German, in English and without a language
 titles : List Triple
 titles =
-    record { subject = Iri (codes "x"); predicate = dct_title; object = Literal (codes "Luft") rdf_lang_string (Some (codes "de")) }
-    ∷ record { subject = Iri (codes "x"); predicate = dct_title; object = Literal (codes "Air") rdf_lang_string (Some (codes "en")) }
+    record {
+      subject = Iri (codes "x");
+      predicate = dct_title;
+      object = Literal (codes "Luft") rdf_lang_string (Some (codes "de"));
+    }
+    ∷ record {
+      subject = Iri (codes "x");
+      predicate = dct_title;
+      object = Literal (codes "Air") rdf_lang_string (Some (codes "en"));
+    }
     ∷ record { subject = Iri (codes "x"); predicate = dct_title; object = Literal (codes "Zz") xsd_string None }
     ∷ []
 

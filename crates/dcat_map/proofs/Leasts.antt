@@ -1,5 +1,6 @@
 -- The least of a list, when an item comes to its end.
-use Rattle.std.proofs.Common.{◌≡◌, ℕ, ◌+◌, ◌<◌, length, get_or, take, List, [], ◌∷◌, ◌++◌, Option, Some, None, refl, sym, ap, ◌∙◌, inl, inr}
+use Rattle.std.proofs.Common.{◌≡◌, ℕ, ◌+◌, ◌<◌, length, get_or, take, List, [], ◌∷◌, ◌++◌, Option, Some, None, refl}
+use Rattle.std.proofs.Common.{sym, ap, ◌∙◌, inl, inr}
 use Rattle.std.specs.declared.cmp.Ordering.{Ordering}
 use Rattle.std.specs.declared.cmp.Ordering.TheVariants.{Less, Equal, Greater}
 use Rattle.std.specs.Ordering.{match_ordering}
@@ -9,7 +10,9 @@ use Rattle.std.proofs.lemmas.List.{append-nil}
 use Rattle.std.proofs.lemmas.List.Elements.{filter_map-append}
 use Rattle.dcat_map.proofs.Steps.{joined_more}
 use Rattle.dcat_map.specs.Sets.{placed, ascending_set, first, least, lesser_of}
-use Rattle.dcat_map.proofs.SetLemmas.{TellsApart, IsIn, IsIn-placed, placed-IsIn, IsStrictlySortedBy-placed, IsStrictlySortedBy-ascending_set, IsIn-ascending_set, ascending_set-IsIn, ascending_set-from_sorted}
+use Rattle.dcat_map.proofs.SetLemmas.{TellsApart, IsIn, IsIn-placed, placed-IsIn, IsStrictlySortedBy-placed}
+use Rattle.dcat_map.proofs.SetLemmas.{IsStrictlySortedBy-ascending_set, IsIn-ascending_set, ascending_set-IsIn}
+use Rattle.dcat_map.proofs.SetLemmas.{ascending_set-from_sorted}
 
 IsIn-push : {X : Type 0} (z x : X) (xs : List X) → IsIn z (xs ++ x ∷ []) → IsIn z (x ∷ xs)
 IsIn-push z x [] m = m
@@ -33,9 +36,11 @@ push-IsIn {X} z x (y ∷ ys) m = by_case (push-IsIn z x ys) m
     by_case go (inr (inr n)) = inr (go (inr n))
 
 -- The set with an item at the end of the list.
-ascending_set-push : {X : Type 0} (cmp : X → X → Ordering) (o : IsTotalOrder cmp) → TellsApart cmp → (xs : List X) (x : X) → ascending_set cmp (xs ++ x ∷ []) ≡ placed cmp x (ascending_set cmp xs)
+ascending_set-push : {X : Type 0} (cmp : X → X → Ordering) (o : IsTotalOrder cmp) → TellsApart cmp
+    → (xs : List X) (x : X) → ascending_set cmp (xs ++ x ∷ []) ≡ placed cmp x (ascending_set cmp xs)
 ascending_set-push {X} cmp o apart xs x =
-    sym (ascending_set-from_sorted cmp o apart (xs ++ x ∷ []) (placed cmp x (ascending_set cmp xs)) (IsStrictlySortedBy-placed cmp o x (ascending_set cmp xs) (IsStrictlySortedBy-ascending_set cmp o xs))
+    sym (ascending_set-from_sorted cmp o apart (xs ++ x ∷ []) (placed cmp x (ascending_set cmp xs))
+    (IsStrictlySortedBy-placed cmp o x (ascending_set cmp xs) (IsStrictlySortedBy-ascending_set cmp o xs))
     (λ z m. IsIn-placed cmp apart z x (ascending_set cmp xs) (into z (IsIn-push z x xs m)))
     (λ z m. push-IsIn z x xs (out z (placed-IsIn cmp z x (ascending_set cmp xs) m))))
   where
@@ -47,34 +52,49 @@ ascending_set-push {X} cmp o apart xs x =
     out z (inl e) = inl e
     out z (inr m) = inr (ascending_set-IsIn cmp z xs m)
 
-first-placed : {X : Type 0} (cmp : X → X → Ordering) → TellsApart cmp → (x : X) (xs : List X) → first (placed cmp x xs) ≡ lesser_of cmp (first xs) (Some x)
+first-placed : {X : Type 0} (cmp : X → X → Ordering) → TellsApart cmp → (x : X) (xs : List X)
+    → first (placed cmp x xs) ≡ lesser_of cmp (first xs) (Some x)
 first-placed cmp apart x [] = refl
 first-placed {X} cmp apart x (y ∷ ys) =
-    let P : Ordering → Type 0 = λ r. first (match_ordering r (x ∷ y ∷ ys) (y ∷ ys) (y ∷ placed cmp x ys)) ≡ Some (match_ordering r x y y) in
+    let P : Ordering
+    → Type 0 = λ r. first (match_ordering r (x ∷ y ∷ ys) (y ∷ ys) (y ∷ placed cmp x ys))
+    ≡ Some (match_ordering r x y y) in
     elim (cmp x y) as P [ Less ↦ refl | Equal ↦ refl | Greater ↦ refl ]
 
 -- One item more.
-pub least-push : {X : Type 0} (cmp : X → X → Ordering) (o : IsTotalOrder cmp) → TellsApart cmp → (xs : List X) (x : X) → least cmp (xs ++ x ∷ []) ≡ lesser_of cmp (least cmp xs) (Some x)
+pub least-push : {X : Type 0} (cmp : X → X → Ordering) (o : IsTotalOrder cmp) → TellsApart cmp → (xs : List X) (x : X)
+    → least cmp (xs ++ x ∷ []) ≡ lesser_of cmp (least cmp xs) (Some x)
 unfolding least
-least-push cmp o apart xs x = ap first (ascending_set-push cmp o apart xs x) ∙ first-placed cmp apart x (ascending_set cmp xs)
+least-push cmp o apart xs x = ap first (ascending_set-push cmp o apart xs x)
+    ∙ first-placed cmp apart x (ascending_set cmp xs)
 
 lesser_of-None : {X : Type 0} (cmp : X → X → Ordering) (best : Option X) → lesser_of cmp best None ≡ best
 lesser_of-None cmp None = refl
 lesser_of-None cmp (Some x) = refl
 
 -- A loop's step: the least of what the items give.
-pub least_more : {X Y : Type 0} (cmp : Y → Y → Ordering) (o : IsTotalOrder cmp) → TellsApart cmp → (h : X → Option Y) (xs : List X) (i : ℕ) (x y : X) → i < length xs → y ≡ get_or xs i y → x ≡ y → least cmp (filter_map h (take (i + 1) xs)) ≡ lesser_of cmp (least cmp (filter_map h (take i xs))) (h x)
+pub least_more : {X Y : Type 0} (cmp : Y → Y → Ordering) (o : IsTotalOrder cmp) → TellsApart cmp
+    → (h : X → Option Y) (xs : List X) (i : ℕ) (x y : X) → i < length xs → y ≡ get_or xs i y → x ≡ y
+    → least cmp (filter_map h (take (i + 1) xs)) ≡ lesser_of cmp (least cmp (filter_map h (take i xs))) (h x)
 least_more {X} {Y} cmp o apart h xs i x y lt e same =
-    ap (least cmp) (joined_more (filter_map h) (filter_map-append h) xs i y lt e) ∙ ends (h y) ∙ ap (λ (z : X). lesser_of cmp (least cmp (filter_map h (take i xs))) (h z)) (sym same)
+    ap (least cmp) (joined_more (filter_map h) (filter_map-append h) xs i y lt e) ∙ ends (h y)
+    ∙ ap (λ (z : X). lesser_of cmp (least cmp (filter_map h (take i xs))) (h z)) (sym same)
   where
-    ends : (r : Option Y) → least cmp (filter_map h (take i xs) ++ cons_option r []) ≡ lesser_of cmp (least cmp (filter_map h (take i xs))) r
-    ends None = ap (least cmp) (append-nil (filter_map h (take i xs))) ∙ sym (lesser_of-None cmp (least cmp (filter_map h (take i xs))))
+    ends : (r : Option Y)
+        → least cmp (filter_map h (take i xs) ++ cons_option r [])
+        ≡ lesser_of cmp (least cmp (filter_map h (take i xs))) r
+    ends None = ap (least cmp) (append-nil (filter_map h (take i xs)))
+        ∙ sym (lesser_of-None cmp (least cmp (filter_map h (take i xs))))
     ends (Some z) = least-push cmp o apart (filter_map h (take i xs)) z
 
 -- The same, of a variable that keeps the least so far.
-pub kept_more : {X Y : Type 0} (cmp : Y → Y → Ordering) (o : IsTotalOrder cmp) → TellsApart cmp → (h : X → Option Y) (xs : List X) (i : ℕ) (x y : X) (old new other : Option Y) → i < length xs → y ≡ get_or xs i y → x ≡ y → other ≡ h x → old ≡ least cmp (filter_map h (take i xs)) → new ≡ lesser_of cmp old other → new ≡ least cmp (filter_map h (take (i + 1) xs))
+pub kept_more : {X Y : Type 0} (cmp : Y → Y → Ordering) (o : IsTotalOrder cmp) → TellsApart cmp
+    → (h : X → Option Y) (xs : List X) (i : ℕ) (x y : X) (old new other : Option Y) → i < length xs
+    → y ≡ get_or xs i y → x ≡ y → other ≡ h x → old ≡ least cmp (filter_map h (take i xs))
+    → new ≡ lesser_of cmp old other → new ≡ least cmp (filter_map h (take (i + 1) xs))
 kept_more cmp o apart h xs i x y old new other lt e same given was now =
-    now ∙ ap (λ b. lesser_of cmp b other) was ∙ ap (lesser_of cmp (least cmp (filter_map h (take i xs)))) given ∙ sym (least_more cmp o apart h xs i x y lt e same)
+    now ∙ ap (λ b. lesser_of cmp b other) was ∙ ap (lesser_of cmp (least cmp (filter_map h (take i xs)))) given
+    ∙ sym (least_more cmp o apart h xs i x y lt e same)
 
 pub least-nil : {Y : Type 0} (cmp : Y → Y → Ordering) → least cmp [] ≡ None
 unfolding least ascending_set

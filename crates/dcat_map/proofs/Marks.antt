@@ -1,5 +1,6 @@
 -- What follows the last mark of a text, and what follows a front.
-use Rattle.std.proofs.Common.{◌≡◌, ◌≢◌, ℕ, suc, ◌<◌, length, get_or, take, drop, Bool, true, false, ◌||◌, eqb, List, [], ◌∷◌, ◌++◌, Option, Some, None, Bor, refl, sym, ap, ◌∙◌, subst, arith}
+use Rattle.std.proofs.Common.{◌≡◌, ◌≢◌, ℕ, suc, ◌<◌, length, get_or, take, drop, Bool, true, false, ◌||◌, eqb, List}
+use Rattle.std.proofs.Common.{[], ◌∷◌, ◌++◌, Option, Some, None, Bor, refl, sym, ap, ◌∙◌, subst, arith}
 use Rattle.std.specs.List.{list_any, starts_with}
 use Rattle.std.specs.Option.{MatchOption, option_copied}
 use Rattle.std.specs.Str.{NoCharPasses, IsCharBoundary}
@@ -37,17 +38,21 @@ any_later c (f ∷ fs) rest =
     elim (eqb f c) as P [ true ↦ refl | false ↦ any_later c fs rest ]
 
 -- Behind the last mark stands the rest.
-pub after_mark-last : (c : ℕ) (front rest : List ℕ) → list_any (λ d. eqb d c) rest ≡ false → after_mark c (front ++ c ∷ rest) ≡ rest
+pub after_mark-last : (c : ℕ) (front rest : List ℕ) → list_any (λ d. eqb d c) rest ≡ false
+    → after_mark c (front ++ c ∷ rest) ≡ rest
 unfolding after_mark
 after_mark-last c [] rest h = rw (h, eq-eqb c c refl) refl
 after_mark-last c (f ∷ fs) rest h = rw (any_later c fs rest) (after_mark-last c fs rest h)
 
 -- What `rsplit_once` gives.
-pub after_mark-split : (c : ℕ) (s front back : List ℕ) → SplitsAroundMatch (RFindsChar c) s front back → c < 128 → back ≡ after_mark c s
+pub after_mark-split : (c : ℕ) (s front back : List ℕ) → SplitsAroundMatch (RFindsChar c) s front back → c < 128
+    → back ≡ after_mark c s
 after_mark-split c s front back h small =
     let rest = drop h.1 s in
-    let free : list_any (λ d. eqb d c) rest ≡ false = none_of c rest (λ i lt. NoCharPasses-char c rest i h.2.0 small lt) in
-    let whole : take h.0 s ++ c ∷ rest ≡ s = ap (λ l. take h.0 s ++ l) (sym (drop_at_char c s h.0 h.1 h.2.1 small)) ∙ take-append-drop h.0 s in
+    let free : list_any (λ d. eqb d c) rest ≡ false =
+    none_of c rest (λ i lt. NoCharPasses-char c rest i h.2.0 small lt) in
+    let whole : take h.0 s ++ c ∷ rest ≡ s = ap (λ l. take h.0 s ++ l) (sym (drop_at_char c s h.0 h.1 h.2.1 small))
+    ∙ take-append-drop h.0 s in
     h.4 ∙ sym (after_mark-last c (take h.0 s) rest free) ∙ ap (after_mark c) whole
 
 pub after_mark-unsplit : (c : ℕ) (s : List ℕ) → NoCharPasses (λ d. eqb d c) s → c < 128 → s ≡ after_mark c s
@@ -57,7 +62,8 @@ after_mark-unsplit c s h small = sym (after_mark-none c s (none_of c s (λ i lt.
 pub stripped-some : (front s x : List ℕ) → StripsPrefix (FindsTextPrefix front) s x → Some x ≡ stripped front s
 unfolding stripped
 stripped-some front s x h =
-    let begins : true ≡ starts_with eqb s front = starts_text true front s (h.0, h.1, subst (λ n. IsCharBoundary s n) (sym h.1.0) h.1.2) in
+    let begins : true ≡ starts_with eqb s front =
+    starts_text true front s (h.0, h.1, subst (λ n. IsCharBoundary s n) (sym h.1.0) h.1.2) in
     let long : h.0 ≡ length front = h.1.0 in
     rw (sym begins) (ap Some (h.2 ∙ ap (λ n. drop n s) long))
 
@@ -67,6 +73,8 @@ stripped-none front s h =
     let begins : false ≡ starts_with eqb s front = starts_text false front s h in
     rw (sym begins) refl
 
-pub stripped-cases : (front s : List ℕ) (r : Option (Bor (List ℕ))) → MatchOption r (FindsTextPrefix front s None) (λ x. StripsPrefix (FindsTextPrefix front) s x.now) → option_copied r ≡ stripped front s
+pub stripped-cases : (front s : List ℕ) (r : Option (Bor (List ℕ)))
+    → MatchOption r (FindsTextPrefix front s None) (λ x. StripsPrefix (FindsTextPrefix front) s x.now)
+    → option_copied r ≡ stripped front s
 stripped-cases front s None h = stripped-none front s h
 stripped-cases front s (Some x) h = stripped-some front s x.now h

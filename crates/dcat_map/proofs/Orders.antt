@@ -1,5 +1,6 @@
 -- The orders of terms and of triples tell them apart.
-use Rattle.std.proofs.Common.{◌≡◌, ℕ, ◌<◌, Bool, true, false, cond, List, [], ◌∷◌, Some, None, refl, sym, ap, ◌∙◌, arith}
+use Rattle.std.proofs.Common.{◌≡◌, ℕ, ◌<◌, Bool, true, false, cond, List, [], ◌∷◌, Some, None, refl, sym, ap, ◌∙◌}
+use Rattle.std.proofs.Common.{arith}
 use Rattle.std.specs.declared.cmp.Ordering.{Ordering}
 use Rattle.std.specs.declared.cmp.Ordering.TheVariants.{Less, Equal, Greater}
 use Rattle.std.specs.Ordering.{nat_cmp, int_cmp, flip_args, ordering_then}
@@ -34,7 +35,8 @@ tagged tag =
     let P : Bool → Type 0 = λ b. (0 < cond b 1 2) × (cond b 1 2 < 3) in
     elim (is_english tag) as P [ true ↦ (omega arith, omega arith) | false ↦ (omega arith, omega arith) ]
 
-from_parts : (a b : Term) → rank_of a ≡ rank_of b → language_of a ≡ language_of b → text_of a ≡ text_of b → datatype_of a ≡ datatype_of b → a ≡ b
+from_parts : (a b : Term) → rank_of a ≡ rank_of b → language_of a ≡ language_of b → text_of a ≡ text_of b
+    → datatype_of a ≡ datatype_of b → a ≡ b
 from_parts (Iri i) (Iri j) r l t d = ap Iri t
 from_parts (Iri i) (Blank j) r l t d = absurd (omega arith)
 from_parts (Iri i) (Literal u e None) r l t d = absurd (omega arith)
@@ -69,7 +71,8 @@ same_triple t u h =
     let predicate : t.predicate ≡ u.predicate = same_text _ _ second.0 in
     let object : t.object ≡ u.object = same_term _ _ second.1 in
     let make : Term → List ℕ → Term → Triple = λ s p o. record { subject = s; predicate = p; object = o } in
-    ap (λ s. make s t.predicate t.object) subject ∙ ap (λ p. make u.subject p t.object) predicate ∙ ap (λ o. make u.subject u.predicate o) object
+    ap (λ s. make s t.predicate t.object) subject ∙ ap (λ p. make u.subject p t.object) predicate
+    ∙ ap (λ o. make u.subject u.predicate o) object
 
 -- Moments in descending order.
 pub same_moment : TellsApart (flip_args int_cmp)

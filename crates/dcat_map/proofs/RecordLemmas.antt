@@ -1,5 +1,6 @@
 -- Whether a graph describes an IRI, by what is about it.
-use Rattle.std.proofs.Common.{◌≡◌, ℕ, Bool, true, false, cond, ◌&&◌, ◌||◌, List, [], ◌∷◌, Some, None, Ok, Err, refl, sym, ap, ◌∙◌}
+use Rattle.std.proofs.Common.{◌≡◌, ℕ, Bool, true, false, cond, ◌&&◌, ◌||◌, List, [], ◌∷◌, Some, None, Ok, Err, refl}
+use Rattle.std.proofs.Common.{sym, ap, ◌∙◌}
 use Rattle.std.specs.declared.cmp.Ordering.{Ordering}
 use Rattle.std.specs.declared.cmp.Ordering.TheVariants.{Less, Equal, Greater}
 use Rattle.std.specs.Ordering.{is_eq, nat_cmp, ordering_then, match_ordering}
@@ -30,10 +31,15 @@ is_eq-term_cmp-Iri iri (Iri name) = then_end (text_cmp name iri) ∙ is_eq-slice
 is_eq-term_cmp-Iri iri (Blank label) = refl
 is_eq-term_cmp-Iri iri (Literal text datatype None) = refl
 is_eq-term_cmp-Iri iri (Literal text datatype (Some tag)) =
-    let P : Bool → Type 0 = λ b. is_eq (ordering_then (nat_cmp (cond b 1 2) 3) (ordering_then (text_cmp tag []) (ordering_then (text_cmp text iri) (text_cmp datatype [])))) ≡ false in
+    let P : Bool
+    → Type 0 =
+    λ b. is_eq
+    (ordering_then (nat_cmp (cond b 1 2) 3)
+    (ordering_then (text_cmp tag []) (ordering_then (text_cmp text iri) (text_cmp datatype [])))) ≡ false in
     elim (is_english tag) as P [ true ↦ refl | false ↦ refl ]
 
-list_any-filter : {X : Type 0} (p q r : X → Bool) → ((x : X) → (q x && p x) ≡ r x) → (xs : List X) → list_any p (filter q xs) ≡ list_any r xs
+list_any-filter : {X : Type 0} (p q r : X → Bool) → ((x : X) → (q x && p x) ≡ r x) → (xs : List X)
+    → list_any p (filter q xs) ≡ list_any r xs
 list_any-filter p q r e [] = refl
 list_any-filter {X} p q r e (x ∷ xs) =
     let P : Bool → Type 0 = λ b. list_any p (cond b (x ∷ filter q xs) (filter q xs)) ≡ ((b && p x) || list_any r xs) in
@@ -47,11 +53,14 @@ and_assoc true b c = refl
 and_assoc false b c = refl
 
 -- The graph describes an IRI where what is about it and its type says so.
-pub list_any-about : (g : List Triple) (iri : List ℕ) → list_any (λ t. is_iri dcat_dataset_class t.object) (about g (Iri iri) rdf_type) ≡ is_described g iri
+pub list_any-about : (g : List Triple) (iri : List ℕ)
+    → list_any (λ t. is_iri dcat_dataset_class t.object) (about g (Iri iri) rdf_type) ≡ is_described g iri
 unfolding is_described is_about
 list_any-about g iri =
-    list_any-filter (λ t. is_iri dcat_dataset_class t.object) (is_about (Iri iri) rdf_type) (λ t. is_iri iri t.subject && is_typed dcat_dataset_class t)
-    (λ t. and_assoc (is_eq (term_cmp t.subject (Iri iri))) (bytes_eq t.predicate rdf_type) (is_iri dcat_dataset_class t.object)
+    list_any-filter (λ t. is_iri dcat_dataset_class t.object) (is_about (Iri iri) rdf_type)
+    (λ t. is_iri iri t.subject && is_typed dcat_dataset_class t)
+    (λ t. and_assoc (is_eq (term_cmp t.subject (Iri iri))) (bytes_eq t.predicate rdf_type)
+    (is_iri dcat_dataset_class t.object)
     ∙ ap (λ b. b && is_typed dcat_dataset_class t) (is_eq-term_cmp-Iri iri t.subject)) g
 
 twice : (a b : Bool) → (a || b) ≡ (a || (a || b))
@@ -64,41 +73,59 @@ exchange true false c = refl
 exchange false true c = refl
 exchange false false c = refl
 
-list_any-placed : {X : Type 0} (cmp : X → X → Ordering) → TellsApart cmp → (test : X → Bool) (x : X) (xs : List X) → list_any test (placed cmp x xs) ≡ (test x || list_any test xs)
+list_any-placed : {X : Type 0} (cmp : X → X → Ordering) → TellsApart cmp → (test : X → Bool) (x : X) (xs : List X)
+    → list_any test (placed cmp x xs) ≡ (test x || list_any test xs)
 list_any-placed cmp apart test x [] = refl
 list_any-placed {X} cmp apart test x (y ∷ ys) =
-    let P : Ordering → Type 0 = λ r. cmp x y ≡ r → list_any test (match_ordering r (x ∷ y ∷ ys) (y ∷ ys) (y ∷ placed cmp x ys)) ≡ (test x || (test y || list_any test ys)) in
+    let P : Ordering → Type 0 = λ r. cmp x y ≡ r
+    → list_any test (match_ordering r (x ∷ y ∷ ys) (y ∷ ys) (y ∷ placed cmp x ys))
+    ≡ (test x || (test y || list_any test ys)) in
     (elim (cmp x y) as P [
       | Less ↦ λ e. refl
-      | Equal ↦ λ e. twice (test y) (list_any test ys) ∙ ap (λ (z : X). test z || (test y || list_any test ys)) (sym (apart x y e))
-      | Greater ↦ λ e. ap (λ b. test y || b) (list_any-placed cmp apart test x ys) ∙ exchange (test y) (test x) (list_any test ys)
+      | Equal ↦ λ e. twice (test y) (list_any test ys) ∙ ap (λ (z : X). test z || (test y || list_any test ys))
+          (sym (apart x y e))
+      | Greater ↦ λ e. ap (λ b. test y || b) (list_any-placed cmp apart test x ys)
+          ∙ exchange (test y) (test x) (list_any test ys)
     ]) refl
 
 -- A test finds an item in the set just where it finds one in the list.
-pub list_any-ascending_set : {X : Type 0} (cmp : X → X → Ordering) → TellsApart cmp → (test : X → Bool) (xs : List X) → list_any test (ascending_set cmp xs) ≡ list_any test xs
+pub list_any-ascending_set : {X : Type 0} (cmp : X → X → Ordering) → TellsApart cmp → (test : X → Bool) (xs : List X)
+    → list_any test (ascending_set cmp xs) ≡ list_any test xs
 unfolding ascending_set
 list_any-ascending_set cmp apart test [] = refl
-list_any-ascending_set cmp apart test (x ∷ xs) = list_any-placed cmp apart test x (ascending_set cmp xs) ∙ ap (λ b. test x || b) (list_any-ascending_set cmp apart test xs)
+list_any-ascending_set cmp apart test (x ∷ xs) = list_any-placed cmp apart test x (ascending_set cmp xs)
+    ∙ ap (λ b. test x || b) (list_any-ascending_set cmp apart test xs)
 
 -- The test of what is about a copy of the IRI, and the record of it, give the description.
-described_by : (g : List Triple) (iri copy : List ℕ) (b : Bool) → copy ≡ iri → b ≡ list_any (λ t. is_iri dcat_dataset_class t.object) (about g (Iri copy) rdf_type) → b ≡ is_described g iri
+described_by : (g : List Triple) (iri copy : List ℕ) (b : Bool) → copy ≡ iri
+    → b ≡ list_any (λ t. is_iri dcat_dataset_class t.object) (about g (Iri copy) rdf_type) → b ≡ is_described g iri
 described_by g iri copy b e h = h ∙ list_any-about g copy ∙ ap (is_described g) e
 
-pub not_described : (g : List Triple) (iri copy : List ℕ) (b : Bool) → copy ≡ iri → b ≡ list_any (λ t. is_iri dcat_dataset_class t.object) (about g (Iri copy) rdf_type) → b ≡ false → description_in g iri ≡ Err NotDescribed
+pub not_described : (g : List Triple) (iri copy : List ℕ) (b : Bool) → copy ≡ iri
+    → b ≡ list_any (λ t. is_iri dcat_dataset_class t.object) (about g (Iri copy) rdf_type) → b ≡ false
+    → description_in g iri ≡ Err NotDescribed
 unfolding description_in
 not_described g iri copy b e h holds =
-    ap (λ v. cond v (titled (record_in g (Iri iri)).title (record_in g (Iri iri))) (Err NotDescribed)) (sym (described_by g iri copy b e h) ∙ holds)
+    ap (λ v. cond v (titled (record_in g (Iri iri)).title (record_in g (Iri iri))) (Err NotDescribed))
+    (sym (described_by g iri copy b e h) ∙ holds)
 
-by_title : (g : List Triple) (iri copy : List ℕ) (b : Bool) (r : HarvestRecord) → copy ≡ iri → b ≡ list_any (λ t. is_iri dcat_dataset_class t.object) (about g (Iri copy) rdf_type) → b ≡ true → r ≡ record_in g (Iri copy) → description_in g iri ≡ titled r.title r
+by_title : (g : List Triple) (iri copy : List ℕ) (b : Bool) (r : HarvestRecord) → copy ≡ iri
+    → b ≡ list_any (λ t. is_iri dcat_dataset_class t.object) (about g (Iri copy) rdf_type) → b ≡ true
+    → r ≡ record_in g (Iri copy) → description_in g iri ≡ titled r.title r
 unfolding description_in
 by_title g iri copy b r e h holds is =
-    ap (λ v. cond v (titled (record_in g (Iri iri)).title (record_in g (Iri iri))) (Err NotDescribed)) (sym (described_by g iri copy b e h) ∙ holds)
+    ap (λ v. cond v (titled (record_in g (Iri iri)).title (record_in g (Iri iri))) (Err NotDescribed))
+    (sym (described_by g iri copy b e h) ∙ holds)
     ∙ ap (λ (s : HarvestRecord). titled s.title s) (sym (is ∙ ap (λ i. record_in g (Iri i)) e))
 
-pub untitled : (g : List Triple) (iri copy : List ℕ) (b : Bool) (r : HarvestRecord) → copy ≡ iri → b ≡ list_any (λ t. is_iri dcat_dataset_class t.object) (about g (Iri copy) rdf_type) → b ≡ true → r ≡ record_in g (Iri copy) → r.title ≡ [] → description_in g iri ≡ Err NoTitle
+pub untitled : (g : List Triple) (iri copy : List ℕ) (b : Bool) (r : HarvestRecord) → copy ≡ iri
+    → b ≡ list_any (λ t. is_iri dcat_dataset_class t.object) (about g (Iri copy) rdf_type) → b ≡ true
+    → r ≡ record_in g (Iri copy) → r.title ≡ [] → description_in g iri ≡ Err NoTitle
 untitled g iri copy b r e h holds is none = by_title g iri copy b r e h holds is ∙ ap (λ title. titled title r) none
 
-pub with_title : (g : List Triple) (iri copy : List ℕ) (b : Bool) (r : HarvestRecord) → copy ≡ iri → b ≡ list_any (λ t. is_iri dcat_dataset_class t.object) (about g (Iri copy) rdf_type) → b ≡ true → r ≡ record_in g (Iri copy) → (r.title ≡ [] → ⊥) → description_in g iri ≡ Ok r
+pub with_title : (g : List Triple) (iri copy : List ℕ) (b : Bool) (r : HarvestRecord) → copy ≡ iri
+    → b ≡ list_any (λ t. is_iri dcat_dataset_class t.object) (about g (Iri copy) rdf_type) → b ≡ true
+    → r ≡ record_in g (Iri copy) → (r.title ≡ [] → ⊥) → description_in g iri ≡ Ok r
 with_title g iri copy b r e h holds is some = by_title g iri copy b r e h holds is ∙ filled r.title some
   where
     filled : (title : List ℕ) → (title ≡ [] → ⊥) → titled title r ≡ Ok r

@@ -1,5 +1,6 @@
 -- The distributions of a dataset (DCAT 3, section 6.8).
-use Rattle.std.specs.Prelude.{ℕ, ◌==◌, nat_eq, if◌then◌else◌, Bool, true, false, List, [], ◌∷◌, length, map, filter, take, drop, Option, Some, None}
+use Rattle.std.specs.Prelude.{ℕ, ◌==◌, nat_eq, if◌then◌else◌, Bool, true, false, List, [], ◌∷◌, length, map, filter}
+use Rattle.std.specs.Prelude.{take, drop, Option, Some, None}
 use Rattle.std.specs.List.{list_any, starts_with}
 use Rattle.std.specs.declared.cmp.Ordering.{Ordering}
 use Rattle.std.specs.Ordering.{on, then_cmp}
@@ -11,7 +12,8 @@ use Rattle.dcat_map.specs.Sets.{in_order}
 use Rattle.dcat_map.specs.Terms.{text_cmp}
 use Rattle.dcat_map.specs.Graphs.{about}
 use Rattle.dcat_map.specs.Picks.{picked, least_named, least_iri, or_empty}
-use Rattle.dcat_map.specs.Vocabulary.{dcat_distribution, dcat_download_url, dcat_access_url, dcat_media_type, dct_title, dct_description, dct_format, media_types, old_media_types}
+use Rattle.dcat_map.specs.Vocabulary.{dcat_distribution, dcat_download_url, dcat_access_url, dcat_media_type}
+use Rattle.dcat_map.specs.Vocabulary.{dct_title, dct_description, dct_format, media_types, old_media_types}
 
 -- what follows the last byte of this value, or all where there is none
 unfoldable pub after_mark : ℕ → List ℕ → List ℕ

@@ -35,4 +35,5 @@ is_described g iri = list_any (λ t. is_iri iri t.subject && is_typed dcat_datas
 
 -- the triples have this object of this subject and this predicate
 abbrev pub IsObject : List Triple → Term → List ℕ → Term → Type 0
-IsObject triples subject predicate object = Contains triples (record { subject = subject; predicate = predicate; object = object })
+IsObject triples subject predicate object =
+    Contains triples (record { subject = subject; predicate = predicate; object = object })

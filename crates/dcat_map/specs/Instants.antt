@@ -1,6 +1,7 @@
--- Dates and times as literals: `YYYY-MM-DD`, or `YYYY-MM-DDThh:mm:ss` with a fraction of a second, which is dropped, and
--- with `Z` or an offset from UTC (XML Schema part 2, sections 3.3.7 and 3.3.9, with years of four digits).
-use Rattle.std.specs.Prelude.{ℕ, ◌+◌, ◌*◌, ◌-◌, ◌==◌, nat_lt, nat_le, if◌then◌else◌, Bool, ◌&&◌, List, [], ◌∷◌, drop, Option, Some, None, ℤ, pos, ◌+ℤ◌, ◌-ℤ◌, ◌*ℤ◌, neg_ℤ, int_le}
+-- Dates and times as literals: `YYYY-MM-DD`, or `YYYY-MM-DDThh:mm:ss` with a fraction of a second, which is dropped,
+-- and with `Z` or an offset from UTC (XML Schema part 2, sections 3.3.7 and 3.3.9, with years of four digits).
+use Rattle.std.specs.Prelude.{ℕ, ◌+◌, ◌*◌, ◌-◌, ◌==◌, nat_lt, nat_le, if◌then◌else◌, Bool, ◌&&◌, List, [], ◌∷◌, drop}
+use Rattle.std.specs.Prelude.{Option, Some, None, ℤ, pos, ◌+ℤ◌, ◌-ℤ◌, ◌*ℤ◌, neg_ℤ, int_le}
 use Rattle.std.specs.List.{filter_map, prefix_len}
 use Rattle.std.specs.Char.{is_ascii_digit}
 use Rattle.std.specs.Ordering.{flip_args, int_cmp}
@@ -34,7 +35,8 @@ year bs = do
 
 -- the calendar has this day of a year from 0000 to 9999
 abbrev pub is_date : ℕ → ℕ → ℕ → Bool
-is_date year month day = nat_le 1 month && nat_le month 12 && nat_le 1 day && nat_le day (days_in_month (pos year) month)
+is_date year month day = nat_le 1 month && nat_le month 12 && nat_le 1 day
+    && nat_le day (days_in_month (pos year) month)
 
 -- the day as days since 1970-01-01, if the calendar has it
 abbrev pub day_of : ℕ → ℕ → ℕ → Option ℤ

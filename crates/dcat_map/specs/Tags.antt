@@ -1,6 +1,7 @@
--- The tags of a dataset: 2 to 100 characters, each a letter, a mark or a number by its general category (Unicode, section
--- 4.5), or a space, `-`, `_` or `.`.
-use Rattle.std.specs.Prelude.{ℕ, ◌==◌, nat_le, if◌then◌else◌, Bool, true, false, ◌&&◌, ◌||◌, List, length, take, Option, Some, None}
+-- The tags of a dataset: 2 to 100 characters, each a letter, a mark or a number by its general category (Unicode,
+-- section 4.5), or a space, `-`, `_` or `.`.
+use Rattle.std.specs.Prelude.{ℕ, ◌==◌, nat_le, if◌then◌else◌, Bool, true, false, ◌&&◌, ◌||◌, List, length, take}
+use Rattle.std.specs.Prelude.{Option, Some, None}
 use Rattle.std.specs.List.{filter_map, list_all}
 use Rattle.std.specs.Str.{chars}
 use Rattle.ucd_category.specs.GeneralCategory.{general_category}

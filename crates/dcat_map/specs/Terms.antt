@@ -51,11 +51,14 @@ abbrev pub text_cmp : List ℕ → List ℕ → Ordering
 text_cmp = slice_cmp nat_cmp
 
 unfoldable pub term_cmp : Term → Term → Ordering
-term_cmp = then_cmp (on rank_of nat_cmp) (then_cmp (on language_of text_cmp) (then_cmp (on text_of text_cmp) (on datatype_of text_cmp)))
+term_cmp =
+    then_cmp (on rank_of nat_cmp)
+    (then_cmp (on language_of text_cmp) (then_cmp (on text_of text_cmp) (on datatype_of text_cmp)))
 
 -- triples by subject, then predicate, then object
 unfoldable pub triple_cmp : Triple → Triple → Ordering
-triple_cmp = then_cmp (on (λ t. t.subject) term_cmp) (then_cmp (on (λ t. t.predicate) text_cmp) (on (λ t. t.object) term_cmp))
+triple_cmp =
+    then_cmp (on (λ t. t.subject) term_cmp) (then_cmp (on (λ t. t.predicate) text_cmp) (on (λ t. t.object) term_cmp))
 
 -- how a triple stands to those with this subject and this predicate
 unfoldable pub key_cmp : Term → List ℕ → Triple → Ordering
@@ -65,7 +68,8 @@ pub term_cmp_total : IsTotalOrder term_cmp
 unfolding term_cmp
 term_cmp_total =
     then_total (on_total rank_of nat_cmp_total)
-    (then_total (on_total language_of nat_list_cmp_total) (then_total (on_total text_of nat_list_cmp_total) (on_total datatype_of nat_list_cmp_total)))
+    (then_total (on_total language_of nat_list_cmp_total)
+    (then_total (on_total text_of nat_list_cmp_total) (on_total datatype_of nat_list_cmp_total)))
 
 pub triple_cmp_total : IsTotalOrder triple_cmp
 unfolding triple_cmp

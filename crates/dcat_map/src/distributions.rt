@@ -1,7 +1,9 @@
 //! The distributions of a dataset.
 ghost use Rattle.std.specs.Prelude.{◌≡◌, ◌∷◌, [], ◌++◌, ◌<◌, map, IfOk, OnOk};
 ghost use Rattle.std.specs.Option.{option_copied};
-ghost use Rattle.dcat_map.specs.Distributions.{after_mark, last_part, stripped, media_type, or_other, or_last_part, distribution_in, distribution_cmp, is_node, distributions_in, resources_in};
+ghost use Rattle.dcat_map.specs.Distributions.{after_mark, last_part, stripped, media_type, or_other, or_last_part};
+ghost use Rattle.dcat_map.specs.Distributions.{distribution_in, distribution_cmp, is_node, distributions_in};
+ghost use Rattle.dcat_map.specs.Distributions.{resources_in};
 ghost use Rattle.dcat_map.specs.Graphs.{about};
 ghost use Rattle.dcat_map.specs.Picks.{picked, least_named, least_iri, or_empty};
 ghost use Rattle.dcat_map.specs.Vocabulary.{dcat_download_url, dcat_access_url, dcat_media_type, dct_format};

@@ -5,7 +5,8 @@ ghost use Rattle.std.specs.List.{prefix_len};
 ghost use Rattle.std.specs.Option.{option_map};
 ghost use Rattle.std.specs.Ordering.{flip_args, int_cmp};
 ghost use Rattle.ntriples.specs.Reading.{behind};
-ghost use Rattle.dcat_map.specs.Instants.{digit, pair, year, day_of, date, hours, clock, skip_digits, skip_fraction, at_end, offset, time, if_moment, instant, moment_of, latest};
+ghost use Rattle.dcat_map.specs.Instants.{digit, pair, year, day_of, date, hours, clock, skip_digits, skip_fraction};
+ghost use Rattle.dcat_map.specs.Instants.{at_end, offset, time, if_moment, instant, moment_of, latest};
 ghost use Rattle.dcat_map.specs.Sets.{lesser_of};
 
 use crate::statement::Statement;

@@ -36,8 +36,8 @@ pub fn a_record_is_of_the_set()
     ensures { (g h : List Triple) (iri : List ℕ) → HaveSameItems g h → description_of g iri ≡ description_of h iri }
 {}
 
-/// The IRIs of a listing strictly ascend by bytes, and an IRI is among them exactly where some catalogue of the triples has
-/// it as an object of dcat:dataset.
+/// The IRIs of a listing strictly ascend by bytes, and an IRI is among them exactly where some catalogue of the
+/// triples has it as an object of dcat:dataset.
 pub fn a_listing_has_what_catalogues_list()
     ensures ascending { (triples : List Triple) (listing : Listing) → listing_of triples ≡ Some listing →
         IsStrictlySortedBy text_cmp listing.iris }

@@ -83,8 +83,8 @@ pub fn describe(
     describe_in(alloc, &graph, iri)
 }
 
-/// What the graph says of the dataset of that IRI. For many datasets of one graph this is quicker than `describe`, which
-/// makes the graph each time.
+/// What the graph says of the dataset of that IRI. For many datasets of one graph this is quicker than `describe`,
+/// which makes the graph each time.
 #[tactic(auto, unfolding(crate::specs::Records::description_in))]
 pub fn describe_in(
     alloc: Global,

@@ -1,6 +1,7 @@
 //! The order of terms, and tests of them.
 ghost use Rattle.std.specs.Prelude.{◌≡◌};
-ghost use Rattle.dcat_map.specs.Terms.{ends_subtag, is_english, rank_of, language_of, text_of, datatype_of, term_cmp, triple_cmp, is_iri};
+ghost use Rattle.dcat_map.specs.Terms.{ends_subtag, is_english, rank_of, language_of, text_of, datatype_of, term_cmp};
+ghost use Rattle.dcat_map.specs.Terms.{triple_cmp, is_iri};
 
 use ntriples::{Term, Triple};
 use std::cmp::Ordering;

@@ -1,5 +1,5 @@
-//! Graphs in short: triples with ` . ` between them, and terms with a space between them. `a` stands for `rdf:type`, and the
-//! prefixes `dcat:` and `dct:` for those of DCAT and of the DCMI Metadata Terms, as in Turtle.
+//! Graphs in short: triples with ` . ` between them, and terms with a space between them. `a` stands for `rdf:type`,
+//! and the prefixes `dcat:` and `dct:` for those of DCAT and of the DCMI Metadata Terms, as in Turtle.
 use ntriples::{NtFault, Triple, read};
 use portal_base::seq::Seq;
 use std::alloc::{AllocError, Global};

@@ -14,9 +14,12 @@ pub IfNone-from : {X : Type 0} {P : Type 0} (o : Option X) → P → IfNone o P
 IfNone-from None p = p
 IfNone-from (Some x) p = tt
 
-pub chars-last : (bs front : List ℕ) (c : ℕ) → IsUtf8 bs → IsUtf8 front → bs ≡ front ++ encode_utf8 c → chars bs ≡ chars front ++ c ∷ []
+pub chars-last : (bs front : List ℕ) (c : ℕ) → IsUtf8 bs → IsUtf8 front → bs ≡ front ++ encode_utf8 c
+    → chars bs ≡ chars front ++ c ∷ []
 chars-last bs front c whole utf8 e =
     let last : encode_utf8_all (c ∷ []) ≡ encode_utf8 c = append-nil (encode_utf8 c) in
     let joined : encode_utf8_all (utf8.0 ++ c ∷ []) ≡ bs =
-    encodes-append utf8.0 (c ∷ []) ∙ ap (λ xs. encode_utf8_all utf8.0 ++ xs) last ∙ ap (λ xs. xs ++ encode_utf8 c) utf8.1.1 ∙ sym e in
-    sym (chars_from_encodes (utf8.0 ++ c ∷ []) bs whole joined) ∙ ap (λ cs. cs ++ c ∷ []) (chars_from_encodes utf8.0 front utf8 utf8.1.1)
+    encodes-append utf8.0 (c ∷ []) ∙ ap (λ xs. encode_utf8_all utf8.0 ++ xs) last
+    ∙ ap (λ xs. xs ++ encode_utf8 c) utf8.1.1 ∙ sym e in
+    sym (chars_from_encodes (utf8.0 ++ c ∷ []) bs whole joined)
+    ∙ ap (λ cs. cs ++ c ∷ []) (chars_from_encodes utf8.0 front utf8 utf8.1.1)

@@ -1,5 +1,7 @@
 -- Digits and the numbers that they spell, and numbers that are printed and read.
-use Rattle.std.proofs.Common.{◌≡◌, ℕ, zero, suc, ◌+◌, ◌-◌, ◌*◌, ◌/◌, ◌%◌, ◌^◌, ◌<◌, ◌≤◌, true, false, ◌&&◌, not, cond, eqb, refl, sym, ap, ◌∙◌, arith, ltb, Bool, List, [], ◌∷◌, ◌++◌, length, pos, ◌+ℤ◌, ◌-ℤ◌, length-append}
+use Rattle.std.proofs.Common.{◌≡◌, ℕ, zero, suc, ◌+◌, ◌-◌, ◌*◌, ◌/◌, ◌%◌, ◌^◌, ◌<◌, ◌≤◌, true, false, ◌&&◌, not, cond}
+use Rattle.std.proofs.Common.{eqb, refl, sym, ap, ◌∙◌, arith, ltb, Bool, List, [], ◌∷◌, ◌++◌, length, pos, ◌+ℤ◌, ◌-ℤ◌}
+use Rattle.std.proofs.Common.{length-append}
 use Rattle.std.specs.Prelude.{Option, Some, None, decimal, filter}
 use Rattle.std.specs.List.{list_all}
 use Rattle.std.proofs.Math.Nat.{pow-suc, one-le-pow}
@@ -30,8 +32,10 @@ pub spelled-append : (xs ys : List ℕ) → spelled (xs ++ ys) ≡ spelled xs * 
 spelled-append [] ys = omega arith
 spelled-append (x ∷ xs) ys =
     let ih = spelled-append xs ys in
-    let power : 10 ^ length (xs ++ ys) ≡ 10 ^ length xs * 10 ^ length ys = ap (λ n. 10 ^ n) (length-append xs ys) ∙ pow-add 10 (length xs) (length ys) in
-    step (x - 48) (10 ^ length (xs ++ ys)) (10 ^ length xs) (10 ^ length ys) (spelled (xs ++ ys)) (spelled xs) (spelled ys) power ih
+    let power : 10 ^ length (xs ++ ys) ≡ 10 ^ length xs * 10 ^ length ys = ap (λ n. 10 ^ n) (length-append xs ys)
+    ∙ pow-add 10 (length xs) (length ys) in
+    step (x - 48) (10 ^ length (xs ++ ys)) (10 ^ length xs) (10 ^ length ys) (spelled (xs ++ ys)) (spelled xs)
+    (spelled ys) power ih
   where
     step : (d p q r s t u : ℕ) → p ≡ q * r → s ≡ t * r + u → d * p + s ≡ (d * q + t) * r + u
     step d p q r s t u e f = grind arith
@@ -43,7 +47,8 @@ pub spelled-lt : (cs : List ℕ) → list_all is_digit cs ≡ true → spelled c
 spelled-lt [] h = omega arith
 spelled-lt (c ∷ cs) h =
     let parts = and_parts (is_digit c) (list_all is_digit cs) h in
-    step (c - 48) (10 ^ length cs) (spelled cs) (omega (arith, is_digit-bounds c parts.0)) (spelled-lt cs parts.1) (10 ^ suc (length cs)) (pow-suc 10 (length cs))
+    step (c - 48) (10 ^ length cs) (spelled cs) (omega (arith, is_digit-bounds c parts.0)) (spelled-lt cs parts.1)
+    (10 ^ suc (length cs)) (pow-suc 10 (length cs))
   where
     step : (d p s : ℕ) → d ≤ 9 → s < p → (q : ℕ) → q ≡ p * 10 → d * p + s < q
     step d p s h lt q e = omega (arith, small d p h)
@@ -58,7 +63,8 @@ pub record Numeral (n : ℕ) (ds : List ℕ) : Type 0 where
   pub digits : list_all is_digit ds ≡ true
   pub some : is_empty ds ≡ false
 
-list_all-push : (ds : List ℕ) (c : ℕ) → list_all is_digit ds ≡ true → is_digit c ≡ true → list_all is_digit (ds ++ c ∷ []) ≡ true
+list_all-push : (ds : List ℕ) (c : ℕ) → list_all is_digit ds ≡ true → is_digit c ≡ true
+    → list_all is_digit (ds ++ c ∷ []) ≡ true
 list_all-push [] c h d = and_from (is_digit c) true d refl
 list_all-push (x ∷ ds) c h d =
     let parts = and_parts (is_digit x) (list_all is_digit ds) h in
@@ -70,7 +76,11 @@ is_empty-push (x ∷ ds) c = refl
 
 pub decimal-Numeral : (n : ℕ) → n < 10 ^ 64 → Numeral n (decimal n)
 decimal-Numeral = decimal_by_steps_wide Numeral
-    (λ n lt. record { spells = omega arith; digits = and_from (is_digit (48 + n)) true (is_digit-of n lt) refl; some = refl })
+    (λ n lt. record {
+      spells = omega arith;
+      digits = and_from (is_digit (48 + n)) true (is_digit-of n lt) refl;
+      some = refl;
+    })
     (λ n ds low front. record {
       spells = omega (arith, spelled-push ds (48 + n % 10), front.spells, mod_below n 10 (omega arith));
       digits = list_all-push ds (48 + n % 10) front.digits (is_digit-of (n % 10) (mod_below n 10 (omega arith)));
@@ -88,7 +98,8 @@ pub record Places (places rest : ℕ) (cs : List ℕ) : Type 0 where
 pub places_text-Places : (places rest : ℕ) → rest < 10 ^ places → Places places rest (places_text places rest)
 places_text-Places zero rest h = record { pad = 0; count = refl; spells = omega arith; digits = refl }
 places_text-Places (suc more) rest h =
-    by_rest (places_text-Places more (rest % 10 ^ more) (mod_below rest (10 ^ more) (one-le-pow more 10 (omega arith)))) (eqb rest 0) refl
+    by_rest (places_text-Places more (rest % 10 ^ more)
+    (mod_below rest (10 ^ more) (one-le-pow more 10 (omega arith)))) (eqb rest 0) refl
   where
     unit : 0 < 10 ^ more
     unit = one-le-pow more 10 (omega arith)
@@ -99,14 +110,17 @@ places_text-Places (suc more) rest h =
     step : (q p l s r w : ℕ) → p ≡ l * w → s * w + q * p ≡ r → (q * l + s) * w ≡ r
     step q p l s r w e f = grind arith
 
-    by_rest : Places more (rest % 10 ^ more) (places_text more (rest % 10 ^ more)) → (b : Bool) → eqb rest 0 ≡ b → Places (suc more) rest (cond b [] ((48 + rest / 10 ^ more) ∷ places_text more (rest % 10 ^ more)))
+    by_rest : Places more (rest % 10 ^ more) (places_text more (rest % 10 ^ more)) → (b : Bool) → eqb rest 0 ≡ b
+        → Places (suc more) rest (cond b [] ((48 + rest / 10 ^ more) ∷ places_text more (rest % 10 ^ more)))
     by_rest ih true e = record { pad = suc more; count = omega arith; spells = grind (arith, nat_tests); digits = refl }
     by_rest ih false e = record {
       pad = ih.pad;
       count = omega (arith, ih.count);
-      spells = step (48 + rest / 10 ^ more - 48) (10 ^ more) (10 ^ length (places_text more (rest % 10 ^ more))) (spelled (places_text more (rest % 10 ^ more))) rest (10 ^ ih.pad)
+      spells = step (48 + rest / 10 ^ more - 48) (10 ^ more) (10 ^ length (places_text more (rest % 10 ^ more)))
+          (spelled (places_text more (rest % 10 ^ more))) rest (10 ^ ih.pad)
           (ap (λ n. 10 ^ n) (sym ih.count) ∙ pow-add 10 _ ih.pad)
-          (let same : 48 + rest / 10 ^ more - 48 ≡ rest / 10 ^ more = omega arith in rw same (omega (arith, ih.spells, div-add-mod' rest (10 ^ more))));
+          (let same : 48 + rest / 10 ^ more - 48 ≡ rest / 10 ^ more = omega arith in rw same
+          (omega (arith, ih.spells, div-add-mod' rest (10 ^ more))));
       digits = and_from (is_digit (48 + rest / 10 ^ more)) _ (is_digit-of _ first) ih.digits;
     }
 
@@ -119,28 +133,36 @@ pub split_mark-none : (p : ℕ → Bool) (cs : List ℕ) → list_all (λ c. not
 split_mark-none p [] h = refl
 split_mark-none p (c ∷ cs) h = by_test (split_mark-none p cs) (p c) h
   where
-    by_test : (list_all (λ c. not (p c)) cs ≡ true → split_mark p cs ≡ cut cs None) → (b : Bool) → (not b && list_all (λ c. not (p c)) cs) ≡ true → cond b (cut [] (Some cs)) (cut (c ∷ (split_mark p cs).0) (split_mark p cs).1) ≡ cut (c ∷ cs) None
+    by_test : (list_all (λ c. not (p c)) cs ≡ true → split_mark p cs ≡ cut cs None) → (b : Bool)
+        → (not b && list_all (λ c. not (p c)) cs) ≡ true
+        → cond b (cut [] (Some cs)) (cut (c ∷ (split_mark p cs).0) (split_mark p cs).1) ≡ cut (c ∷ cs) None
     by_test ih true h = cc
     by_test ih false h = rw (ih h) refl
 
 -- one that doesn't pass, and one that does
-pub split_mark-past : (p : ℕ → Bool) (c : ℕ) (cs : List ℕ) → p c ≡ false → split_mark p (c ∷ cs) ≡ cut (c ∷ (split_mark p cs).0) (split_mark p cs).1
+pub split_mark-past : (p : ℕ → Bool) (c : ℕ) (cs : List ℕ) → p c ≡ false
+    → split_mark p (c ∷ cs) ≡ cut (c ∷ (split_mark p cs).0) (split_mark p cs).1
 split_mark-past p c cs e = rw e refl
 
 pub split_mark-here : (p : ℕ → Bool) (c : ℕ) (cs : List ℕ) → p c ≡ true → split_mark p (c ∷ cs) ≡ cut [] (Some cs)
 split_mark-here p c cs e = rw e refl
 
 -- the first that passes is this one
-pub split_mark-at : (p : ℕ → Bool) (xs : List ℕ) (c : ℕ) (cs : List ℕ) → list_all (λ c. not (p c)) xs ≡ true → p c ≡ true → split_mark p (xs ++ c ∷ cs) ≡ cut xs (Some cs)
+pub split_mark-at : (p : ℕ → Bool) (xs : List ℕ) (c : ℕ) (cs : List ℕ) → list_all (λ c. not (p c)) xs ≡ true
+    → p c ≡ true → split_mark p (xs ++ c ∷ cs) ≡ cut xs (Some cs)
 split_mark-at p [] c cs h e = rw e refl
 split_mark-at p (x ∷ xs) c cs h e = by_test (λ i. split_mark-at p xs c cs i e) (p x) h
   where
-    by_test : (list_all (λ c. not (p c)) xs ≡ true → split_mark p (xs ++ c ∷ cs) ≡ cut xs (Some cs)) → (b : Bool) → (not b && list_all (λ c. not (p c)) xs) ≡ true → cond b (cut [] (Some (xs ++ c ∷ cs))) (cut (x ∷ (split_mark p (xs ++ c ∷ cs)).0) (split_mark p (xs ++ c ∷ cs)).1) ≡ cut (x ∷ xs) (Some cs)
+    by_test : (list_all (λ c. not (p c)) xs ≡ true → split_mark p (xs ++ c ∷ cs) ≡ cut xs (Some cs)) → (b : Bool)
+        → (not b && list_all (λ c. not (p c)) xs) ≡ true
+        → cond b (cut [] (Some (xs ++ c ∷ cs)))
+        (cut (x ∷ (split_mark p (xs ++ c ∷ cs)).0) (split_mark p (xs ++ c ∷ cs)).1) ≡ cut (x ∷ xs) (Some cs)
     by_test ih true h = cc
     by_test ih false h = rw (ih h) refl
 
 -- a test that no digit passes
-pub list_all-without : (p : ℕ → Bool) → ((c : ℕ) → is_digit c ≡ true → p c ≡ false) → (cs : List ℕ) → list_all is_digit cs ≡ true → list_all (λ c. not (p c)) cs ≡ true
+pub list_all-without : (p : ℕ → Bool) → ((c : ℕ) → is_digit c ≡ true → p c ≡ false) → (cs : List ℕ)
+    → list_all is_digit cs ≡ true → list_all (λ c. not (p c)) cs ≡ true
 list_all-without p fails [] h = refl
 list_all-without p fails (c ∷ cs) h =
     let parts = and_parts (is_digit c) (list_all is_digit cs) h in
@@ -153,7 +175,8 @@ is_digit-no_point form c h = rw h (no_third (eqb c form.decimal) (not (is_expone
     no_third true b = refl
     no_third false b = refl
 
-pub is_grouped-digits : (group : Option ℕ) (behind : Bool) (cs : List ℕ) → list_all is_digit cs ≡ true → is_grouped group behind cs ≡ true
+pub is_grouped-digits : (group : Option ℕ) (behind : Bool) (cs : List ℕ) → list_all is_digit cs ≡ true
+    → is_grouped group behind cs ≡ true
 is_grouped-digits group behind [] h = refl
 is_grouped-digits group behind (c ∷ cs) h =
     let parts = and_parts (is_digit c) (list_all is_digit cs) h in
@@ -168,31 +191,45 @@ filter-digits (c ∷ cs) h =
 -- ---- a printed number
 
 -- the parts of a number without its fraction, and with one
-pub parts_of-whole : (cs : List ℕ) → list_all is_digit cs ≡ true → parts_of default_spelling cs ≡ record { whole = cs; fraction = []; exponent = None }
+pub parts_of-whole : (cs : List ℕ) → list_all is_digit cs ≡ true
+    → parts_of default_spelling cs ≡ record { whole = cs; fraction = []; exponent = None }
 parts_of-whole cs h =
     let exponent = split_mark-none is_exponent_mark cs (list_all-without is_exponent_mark is_digit-no_mark cs h) in
-    let point = split_mark-none (is_point default_spelling) cs (list_all-without (is_point default_spelling) (is_digit-no_point default_spelling) cs h) in
+    let point =
+    split_mark-none (is_point default_spelling) cs
+    (list_all-without (is_point default_spelling) (is_digit-no_point default_spelling) cs h) in
     rw (exponent, point) refl
 
-pub parts_of-fraction : (cs ds : List ℕ) → list_all is_digit cs ≡ true → list_all is_digit ds ≡ true → parts_of default_spelling (cs ++ 46 ∷ ds) ≡ record { whole = cs; fraction = ds; exponent = None }
+pub parts_of-fraction : (cs ds : List ℕ) → list_all is_digit cs ≡ true → list_all is_digit ds ≡ true
+    → parts_of default_spelling (cs ++ 46 ∷ ds) ≡ record { whole = cs; fraction = ds; exponent = None }
 parts_of-fraction cs ds h k =
     let exponent : split_mark is_exponent_mark (cs ++ 46 ∷ ds) ≡ cut (cs ++ 46 ∷ ds) None =
-    split_mark-none is_exponent_mark (cs ++ 46 ∷ ds) (without (list_all-without is_exponent_mark is_digit-no_mark cs h) (list_all-without is_exponent_mark is_digit-no_mark ds k)) in
-    let point = split_mark-at (is_point default_spelling) cs 46 ds (list_all-without (is_point default_spelling) (is_digit-no_point default_spelling) cs h) refl in
+    split_mark-none is_exponent_mark (cs ++ 46 ∷ ds)
+    (without (list_all-without is_exponent_mark is_digit-no_mark cs h)
+    (list_all-without is_exponent_mark is_digit-no_mark ds k)) in
+    let point =
+    split_mark-at (is_point default_spelling) cs 46 ds
+    (list_all-without (is_point default_spelling) (is_digit-no_point default_spelling) cs h) refl in
     rw (exponent, point) refl
   where
-    without : list_all (λ c. not (is_exponent_mark c)) cs ≡ true → list_all (λ c. not (is_exponent_mark c)) ds ≡ true → list_all (λ c. not (is_exponent_mark c)) (cs ++ 46 ∷ ds) ≡ true
+    without : list_all (λ c. not (is_exponent_mark c)) cs ≡ true → list_all (λ c. not (is_exponent_mark c)) ds ≡ true
+        → list_all (λ c. not (is_exponent_mark c)) (cs ++ 46 ∷ ds) ≡ true
     without a b = rw list_all-append (rw a b)
 
 -- the digits of a printed number spell it, once the places that aren't written are put back
-pub printed : (size pad : ℕ) (ws fs : List ℕ) → list_all is_digit ws ≡ true → list_all is_digit fs ≡ true → is_empty ws ≡ false → length fs + pad ≡ 9 → spelled ws ≡ size / 10 ^ 9 → spelled fs * 10 ^ pad ≡ size % 10 ^ 9 → size < 10 ^ 27 → unsigned_reading default_spelling (record { whole = ws; fraction = fs; exponent = None }) ≡ Some size
+pub printed : (size pad : ℕ) (ws fs : List ℕ) → list_all is_digit ws ≡ true → list_all is_digit fs ≡ true
+    → is_empty ws ≡ false → length fs + pad ≡ 9 → spelled ws ≡ size / 10 ^ 9 → spelled fs * 10 ^ pad ≡ size % 10 ^ 9
+    → size < 10 ^ 27
+    → unsigned_reading default_spelling (record { whole = ws; fraction = fs; exponent = None }) ≡ Some size
 printed size pad ws fs w f some count whole places h =
     let grouped = is_grouped-digits None false ws w in
     let kept = filter-digits ws w in
     let filled = not_empty ws fs some in
     let up : pos 9 +ℤ pos 0 -ℤ pos (length fs) ≡ pos pad = omega (arith, ints) in
     let total : spelled (ws ++ fs) * 10 ^ pad ≡ size =
-    ap (λ n. n * 10 ^ pad) (spelled-append ws fs) ∙ step (spelled ws) (10 ^ length fs) (10 ^ pad) (spelled fs) (10 ^ 9) (size / 10 ^ 9) (size % 10 ^ 9) size (ap (λ n. 10 ^ n) (sym count) ∙ pow-add 10 (length fs) pad) whole places (div-add-mod' size (10 ^ 9)) in
+    ap (λ n. n * 10 ^ pad) (spelled-append ws fs) ∙ step (spelled ws) (10 ^ length fs) (10 ^ pad) (spelled fs)
+    (10 ^ 9) (size / 10 ^ 9) (size % 10 ^ 9) size (ap (λ n. 10 ^ n) (sym count) ∙ pow-add 10 (length fs) pad)
+    whole places (div-add-mod' size (10 ^ 9)) in
     let below : ltb size (10 ^ 27) ≡ true = lt-ltb size (10 ^ 27) h in
     rw (grouped, f, kept, filled, up, total, below) refl
   where

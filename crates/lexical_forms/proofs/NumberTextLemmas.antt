@@ -1,5 +1,6 @@
 -- Printed numbers are read back.
-use Rattle.std.proofs.Common.{◌≡◌, ◌≢◌, ℕ, zero, suc, ◌+◌, ◌/◌, ◌%◌, ◌^◌, ◌<◌, ◌≤◌, true, false, eqb, refl, sym, ap, ◌∙◌, arith, Bool, List, [], ◌∷◌, ◌++◌, ℤ, pos, negsuc, append-nil, append_assoc}
+use Rattle.std.proofs.Common.{◌≡◌, ◌≢◌, ℕ, zero, suc, ◌+◌, ◌/◌, ◌%◌, ◌^◌, ◌<◌, ◌≤◌, true, false, eqb, refl, sym, ap}
+use Rattle.std.proofs.Common.{◌∙◌, arith, Bool, List, [], ◌∷◌, ◌++◌, ℤ, pos, negsuc, append-nil, append_assoc}
 use Rattle.std.specs.Prelude.{Some, decimal, unsigned_abs}
 use Rattle.std.specs.List.{list_all}
 use Rattle.std.specs.Str.{IsAscii, chars}
@@ -11,7 +12,8 @@ use Rattle.std.proofs.lemmas.Str.{IsAscii-append, chars-IsAscii}
 use Rattle.lexical_forms.specs.Digits.{is_digit, is_sign, is_empty, is_negative, unsigned}
 use Rattle.lexical_forms.specs.Number.{parts_of, unsigned_reading, bare_reading, number_reading, default_spelling}
 use Rattle.lexical_forms.specs.NumberText.{places_text, fraction_text, size_text, number_text}
-use Rattle.lexical_forms.proofs.NumberLemmas.{is_digit-bounds, decimal-Numeral, Numeral, places_text-Places, Places, parts_of-whole, parts_of-fraction, printed}
+use Rattle.lexical_forms.proofs.NumberLemmas.{is_digit-bounds, decimal-Numeral, Numeral, places_text-Places, Places}
+use Rattle.lexical_forms.proofs.NumberLemmas.{parts_of-whole, parts_of-fraction, printed}
 
 -- ---- characters of ASCII
 
@@ -31,7 +33,8 @@ IsAscii-digits (c ∷ cs) h =
 -- ---- numbers
 
 -- A text that begins with digits has no sign.
-unsigned-digits : (ws cs : List ℕ) → list_all is_digit ws ≡ true → is_empty ws ≡ false → (unsigned (ws ++ cs) ≡ ws ++ cs) × (is_negative (ws ++ cs) ≡ false)
+unsigned-digits : (ws cs : List ℕ) → list_all is_digit ws ≡ true → is_empty ws ≡ false
+    → (unsigned (ws ++ cs) ≡ ws ++ cs) × (is_negative (ws ++ cs) ≡ false)
 unsigned-digits [] cs h e = cc
 unsigned-digits (w ∷ ws) cs h e =
     let bounds = is_digit-bounds w (and_parts (is_digit w) (list_all is_digit ws) h).0 in
@@ -67,7 +70,9 @@ size_text-Sized n h = by_fraction (eqb (n % 10 ^ 9) 0) refl
         let first = unsigned-digits (decimal (n / 10 ^ 9)) (fraction_text (n % 10 ^ 9)) ws.digits ws.some in
         let zero_rest : n % 10 ^ 9 ≡ 0 = grind (arith, nat_tests) in
         record {
-          reading = ap (λ t. unsigned_reading default_spelling (parts_of default_spelling t)) text ∙ (ap (unsigned_reading default_spelling) (parts_of-whole (decimal (n / 10 ^ 9)) ws.digits) ∙ (printed n 9 (decimal (n / 10 ^ 9)) [] ws.digits refl ws.some refl ws.spells (sym zero_rest) h));
+          reading = ap (λ t. unsigned_reading default_spelling (parts_of default_spelling t)) text
+              ∙ (ap (unsigned_reading default_spelling) (parts_of-whole (decimal (n / 10 ^ 9)) ws.digits)
+              ∙ (printed n 9 (decimal (n / 10 ^ 9)) [] ws.digits refl ws.some refl ws.spells (sym zero_rest) h));
           bare = first.0;
           positive = first.1;
           ascii = rw text (IsAscii-digits (decimal (n / 10 ^ 9)) ws.digits);
@@ -77,10 +82,18 @@ size_text-Sized n h = by_fraction (eqb (n % 10 ^ 9) 0) refl
         let text : size_text n ≡ decimal (n / 10 ^ 9) ++ 46 ∷ places_text 9 (n % 10 ^ 9) = rw some refl in
         let first = unsigned-digits (decimal (n / 10 ^ 9)) (fraction_text (n % 10 ^ 9)) ws.digits ws.some in
         record {
-          reading = ap (λ t. unsigned_reading default_spelling (parts_of default_spelling t)) text ∙ (ap (unsigned_reading default_spelling) (parts_of-fraction (decimal (n / 10 ^ 9)) (places_text 9 (n % 10 ^ 9)) ws.digits fs.digits) ∙ (printed n fs.pad (decimal (n / 10 ^ 9)) (places_text 9 (n % 10 ^ 9)) ws.digits fs.digits ws.some fs.count ws.spells fs.spells h));
+          reading = ap (λ t. unsigned_reading default_spelling (parts_of default_spelling t)) text
+              ∙ (ap (unsigned_reading default_spelling)
+              (parts_of-fraction (decimal (n / 10 ^ 9)) (places_text 9 (n % 10 ^ 9)) ws.digits fs.digits)
+              ∙ (printed n fs.pad (decimal (n / 10 ^ 9)) (places_text 9 (n % 10 ^ 9)) ws.digits fs.digits ws.some
+              fs.count ws.spells fs.spells h));
           bare = first.0;
           positive = first.1;
-          ascii = rw text (IsAscii-append (decimal (n / 10 ^ 9)) (46 ∷ places_text 9 (n % 10 ^ 9)) (IsAscii-digits (decimal (n / 10 ^ 9)) ws.digits) (IsAscii-cons 46 (places_text 9 (n % 10 ^ 9)) (omega arith) (IsAscii-digits (places_text 9 (n % 10 ^ 9)) fs.digits)));
+          ascii = rw text
+              (IsAscii-append (decimal (n / 10 ^ 9)) (46 ∷ places_text 9 (n % 10 ^ 9))
+              (IsAscii-digits (decimal (n / 10 ^ 9)) ws.digits)
+              (IsAscii-cons 46 (places_text 9 (n % 10 ^ 9)) (omega arith)
+              (IsAscii-digits (places_text 9 (n % 10 ^ 9)) fs.digits)));
         }
 
 number_text-bare : (z : ℤ) → unsigned_abs z < 10 ^ 27 → bare_reading default_spelling (number_text z) ≡ Some z
@@ -97,7 +110,8 @@ number_text-IsAscii (pos n) h = (size_text-Sized n h).ascii
 number_text-IsAscii (negsuc n) h = IsAscii-cons 45 (size_text (suc n)) (omega arith) (size_text-Sized (suc n) h).ascii
 
 -- A printed number is read as that number.
-pub number_text-back : (z : ℤ) → unsigned_abs z < 10 ^ 27 → number_reading default_spelling (chars (number_text z)) ≡ Some z
+pub number_text-back : (z : ℤ) → unsigned_abs z < 10 ^ 27
+    → number_reading default_spelling (chars (number_text z)) ≡ Some z
 number_text-back z h = rw (chars-IsAscii (number_text z) (number_text-IsAscii z h)) (number_text-bare z h)
 
 -- ---- the fraction of a number, as it is written
@@ -111,12 +125,15 @@ FractionSoFar text start rest unit billionths =
 pub record Turn (text start : List ℕ) (rest unit billionths : ℕ) : Type 0 where
   pub some : 0 < unit
   pub digit : rest / unit < 10
-  pub next : (new : List ℕ) → new ≡ text ++ (48 + rest / unit) ∷ [] → FractionSoFar new start (rest % unit) (unit / 10) billionths
+  pub next : (new : List ℕ) → new ≡ text ++ (48 + rest / unit) ∷ []
+      → FractionSoFar new start (rest % unit) (unit / 10) billionths
 
-pub fraction-turn : (text start : List ℕ) (rest unit billionths : ℕ) → FractionSoFar text start rest unit billionths → rest ≢ 0 → Turn text start rest unit billionths
+pub fraction-turn : (text start : List ℕ) (rest unit billionths : ℕ) → FractionSoFar text start rest unit billionths
+    → rest ≢ 0 → Turn text start rest unit billionths
 fraction-turn text start rest unit billionths so_far some = by_left so_far.0 so_far.1 so_far.2 so_far.3 so_far.4
   where
-    by_left : (left : ℕ) → left ≤ 9 → rest < 10 ^ left → unit ≡ 10 ^ left / 10 → text ++ places_text left rest ≡ start ++ places_text 9 billionths → Turn text start rest unit billionths
+    by_left : (left : ℕ) → left ≤ 9 → rest < 10 ^ left → unit ≡ 10 ^ left / 10
+        → text ++ places_text left rest ≡ start ++ places_text 9 billionths → Turn text start rest unit billionths
     by_left zero h lt e written = absurd (some (omega arith))
     by_left (suc more) h lt e written =
         let power = pow-suc 10 more in
@@ -124,7 +141,8 @@ fraction-turn text start rest unit billionths so_far some = by_left so_far.0 so_
         let positive : 0 < 10 ^ more = one-le-pow more 10 (omega arith) in
         let digit : rest / 10 ^ more < 10 = div_below rest (10 ^ more) 10 positive (omega arith) in
         let not_zero : eqb rest 0 ≡ false = ne_eqb rest 0 some in
-        let first : places_text (suc more) rest ≡ (48 + rest / 10 ^ more) ∷ places_text more (rest % 10 ^ more) = cond-false _ _ _ not_zero in
+        let first : places_text (suc more) rest ≡ (48 + rest / 10 ^ more) ∷ places_text more (rest % 10 ^ more) =
+        cond-false _ _ _ not_zero in
         record {
           some = omega arith;
           digit = rw same digit;
@@ -133,19 +151,26 @@ fraction-turn text start rest unit billionths so_far some = by_left so_far.0 so_
             omega arith,
             rw same (mod_below rest (10 ^ more) positive),
             ap (λ n. n / 10) same,
-            ap (λ xs. xs ++ places_text more (rest % unit)) made ∙ append_assoc text ((48 + rest / unit) ∷ []) (places_text more (rest % unit))
-                ∙ ap (λ n. text ++ (48 + rest / n) ∷ places_text more (rest % n)) same ∙ sym (ap (λ xs. text ++ xs) first) ∙ written,
+            ap (λ xs. xs ++ places_text more (rest % unit)) made ∙ append_assoc text ((48 + rest / unit) ∷ [])
+                (places_text more (rest % unit))
+                ∙ ap (λ n. text ++ (48 + rest / n) ∷ places_text more (rest % n)) same
+                ∙ sym (ap (λ xs. text ++ xs) first) ∙ written,
           );
         }
 
-pub fraction-start : (start : List ℕ) (billionths : ℕ) → billionths < 10 ^ 9 → FractionSoFar start start billionths 100000000 billionths
+pub fraction-start : (start : List ℕ) (billionths : ℕ) → billionths < 10 ^ 9
+    → FractionSoFar start start billionths 100000000 billionths
 fraction-start start billionths h = (9, omega arith, h, refl, refl)
 
-pub fraction-end : (text start old : List ℕ) (unit billionths rest : ℕ) → FractionSoFar text start rest unit billionths → rest ≡ 0 → start ≡ old ++ 46 ∷ [] → billionths ≢ 0 → text ≡ old ++ fraction_text billionths
+pub fraction-end : (text start old : List ℕ) (unit billionths rest : ℕ)
+    → FractionSoFar text start rest unit billionths → rest ≡ 0 → start ≡ old ++ 46 ∷ [] → billionths ≢ 0
+    → text ≡ old ++ fraction_text billionths
 fraction-end text start old unit billionths rest so_far none begun some =
     let nothing : places_text so_far.0 rest ≡ [] = ap (places_text so_far.0) none ∙ empty so_far.0 in
     let not_zero : eqb billionths 0 ≡ false = ne_eqb billionths 0 some in
-    sym (append-nil text) ∙ sym (ap (λ xs. text ++ xs) nothing) ∙ so_far.4 ∙ ap (λ xs. xs ++ places_text 9 billionths) begun ∙ append_assoc old (46 ∷ []) (places_text 9 billionths) ∙ ap (λ xs. old ++ xs) (sym (cond-false _ _ _ not_zero))
+    sym (append-nil text) ∙ sym (ap (λ xs. text ++ xs) nothing) ∙ so_far.4 ∙ ap (λ xs. xs ++ places_text 9 billionths)
+    begun ∙ append_assoc old (46 ∷ []) (places_text 9 billionths)
+    ∙ ap (λ xs. old ++ xs) (sym (cond-false _ _ _ not_zero))
   where
     empty : (k : ℕ) → places_text k 0 ≡ []
     empty zero = refl

@@ -1,8 +1,11 @@
 -- The texts of whole numbers and of numbers (Table Schema v1, "integer" and "number"), as lists of characters.
-use Rattle.std.specs.Prelude.{ℕ, suc, ◌*◌, ◌/◌, ◌%◌, ◌^◌, ◌==◌, nat_lt, Bool, true, false, ◌&&◌, ◌||◌, not, if◌then◌else◌, List, [], ◌∷◌, ◌++◌, length, filter, Option, Some, None, option_map, option_and_then, unwrap_or, ℤ, pos, negsuc, ◌+ℤ◌, ◌-ℤ◌}
+use Rattle.std.specs.Prelude.{ℕ, suc, ◌*◌, ◌/◌, ◌%◌, ◌^◌, ◌==◌, nat_lt, Bool, true, false, ◌&&◌, ◌||◌, not}
+use Rattle.std.specs.Prelude.{if◌then◌else◌, List, [], ◌∷◌, ◌++◌, length, filter, Option, Some, None, option_map}
+use Rattle.std.specs.Prelude.{option_and_then, unwrap_or, ℤ, pos, negsuc, ◌+ℤ◌, ◌-ℤ◌}
 use Rattle.std.specs.List.{list_all}
 use Rattle.lexical_forms.specs.declared.form.NumberForm.{NumberForm}
-use Rattle.lexical_forms.specs.Digits.{is_digit, is_sign, is_digits, is_empty, spelled, is_negative, unsigned, signed, from_first, until_last}
+use Rattle.lexical_forms.specs.Digits.{is_digit, is_sign, is_digits, is_empty, spelled, is_negative, unsigned, signed}
+use Rattle.lexical_forms.specs.Digits.{from_first, until_last}
 
 -- it is this character, where there is one
 abbrev pub is_that : Option ℕ → ℕ → Bool

@@ -1,5 +1,6 @@
 -- How numbers are printed.
-use Rattle.std.specs.Prelude.{ℕ, zero, suc, ◌+◌, ◌/◌, ◌%◌, ◌^◌, ◌==◌, if◌then◌else◌, List, [], ◌∷◌, ◌++◌, decimal, ℤ, pos, negsuc}
+use Rattle.std.specs.Prelude.{ℕ, zero, suc, ◌+◌, ◌/◌, ◌%◌, ◌^◌, ◌==◌, if◌then◌else◌, List, [], ◌∷◌, ◌++◌, decimal, ℤ}
+use Rattle.std.specs.Prelude.{pos, negsuc}
 
 -- The decimal places of a number below 10 to the power of so many, from the first on, up to the last that isn't 0.
 abbrev pub places_text : ℕ → ℕ → List ℕ

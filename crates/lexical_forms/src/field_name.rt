@@ -2,7 +2,8 @@
 ghost use Rattle.std.specs.Prelude.{◌≡◌, ◌==◌};
 ghost use Rattle.std.specs.List.{list_any};
 ghost use Rattle.std.specs.Str.{chars};
-ghost use Rattle.lexical_forms.specs.FieldName.{is_field_name, begins_with_space, ends_with_space, begins_with_underscore};
+ghost use Rattle.lexical_forms.specs.FieldName.{is_field_name, begins_with_space, ends_with_space};
+ghost use Rattle.lexical_forms.specs.FieldName.{begins_with_underscore};
 
 use crate::split::{split_first, split_last};
 

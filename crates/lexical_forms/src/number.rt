@@ -2,8 +2,11 @@
 ghost use Rattle.std.specs.Prelude.{◌≡◌, ◌+◌, ◌<◌, ◌^◌, true, false, length, IfSome, IfNone, Some, option_map};
 ghost use Rattle.std.specs.Str.{chars};
 ghost use Rattle.lexical_forms.specs.Digits.{is_negative, unsigned, signed, is_digit, is_sign, from_first, until_last};
-ghost use Rattle.lexical_forms.specs.Number.{integer_reading, whole_reading, number_reading, bare_reading, bare_part, begins_number, is_that, is_point, unsigned_reading, parts_of, begins_with_digit, is_exponent_mark, i64_only};
-ghost use Rattle.lexical_forms.specs.Significand.{IsNumberOf, IsLimitedNumberOf, IsExponentOf, IsRead, TakesWhole, TakesFraction, TakesDigits, is_stop};
+ghost use Rattle.lexical_forms.specs.Number.{integer_reading, whole_reading, number_reading, bare_reading, bare_part};
+ghost use Rattle.lexical_forms.specs.Number.{begins_number, is_that, is_point, unsigned_reading, parts_of};
+ghost use Rattle.lexical_forms.specs.Number.{begins_with_digit, is_exponent_mark, i64_only};
+ghost use Rattle.lexical_forms.specs.Significand.{IsNumberOf, IsLimitedNumberOf, IsExponentOf, IsRead, TakesWhole};
+ghost use Rattle.lexical_forms.specs.Significand.{TakesFraction, TakesDigits, is_stop};
 
 mod significand;
 

@@ -16,4 +16,9 @@ pub record Again (A : Type 0) (f : List ℕ → Option (A × List ℕ)) (value :
 
 -- what passes a test that no line end passes
 pub no_end : (test : ℕ → Bool) (c : ℕ) → test 10 ≡ false → test 13 ≡ false → test c ≡ true → not (is_line_end c) ≡ true
-no_end test c h k e = rw (ne_eqb c 10 (λ same. both_ways (test 10) h (ap test (sym same) ∙ e)), ne_eqb c 13 (λ same. both_ways (test 13) k (ap test (sym same) ∙ e))) refl
+no_end test c h k e =
+    rw (
+      ne_eqb c 10 (λ same. both_ways (test 10) h (ap test (sym same) ∙ e)),
+      ne_eqb c 13
+          (λ same. both_ways (test 13) k (ap test (sym same) ∙ e)),
+    ) refl

@@ -1,10 +1,12 @@
 -- What a production leaves is an end of what it was given.
-use Rattle.std.proofs.Common.{◌≡◌, ℕ, ◌+◌, ◌*◌, ◌-◌, ◌≤◌, Bool, true, false, cond, List, [], ◌∷◌, ◌++◌, length, drop, Option, Some, None, refl, sym, ap, subst, ◌∙◌, append_assoc, arith}
+use Rattle.std.proofs.Common.{◌≡◌, ℕ, ◌+◌, ◌*◌, ◌-◌, ◌≤◌, Bool, true, false, cond, List, [], ◌∷◌, ◌++◌, length, drop}
+use Rattle.std.proofs.Common.{Option, Some, None, refl, sym, ap, subst, ◌∙◌, append_assoc, arith}
 use Rattle.std.proofs.lemmas.List.{drop_at, length-append}
 use Rattle.std.specs.Prelude.{nat_lt, nat_eq}
 use Rattle.std.specs.Char.{digit_value}
 use Rattle.ntriples.specs.Reading.{◌>>=◌, character}
-use Rattle.ntriples.specs.Grammar.{hex, hex4, is_scalar, scalar, short_code, long_code, uchar, echar, echar_or, literal_escape}
+use Rattle.ntriples.specs.Grammar.{hex, hex4, is_scalar, scalar, short_code, long_code, uchar, echar, echar_or}
+use Rattle.ntriples.specs.Grammar.{literal_escape}
 
 pub record EndsWith (cs rest : List ℕ) : Type 0 where
   pub front : List ℕ
@@ -14,7 +16,12 @@ pub ends_same : (cs : List ℕ) → EndsWith cs cs
 ends_same cs = record { front = []; parts = refl }
 
 pub ends_then : (a b c : List ℕ) → EndsWith a b → EndsWith b c → EndsWith a c
-ends_then a b c p q = record { front = p.front ++ q.front; parts = p.parts ∙ ap (λ (t : List ℕ). p.front ++ t) q.parts ∙ sym (append_assoc p.front q.front c) }
+ends_then a b c p q =
+    record {
+      front = p.front ++ q.front;
+      parts = p.parts ∙ ap (λ (t : List ℕ). p.front ++ t) q.parts
+          ∙ sym (append_assoc p.front q.front c);
+    }
 
 pub ends_more : (c : ℕ) (a b : List ℕ) → EndsWith a b → EndsWith (c ∷ a) b
 ends_more c a b p = record { front = c ∷ p.front; parts = ap (λ (t : List ℕ). c ∷ t) p.parts }
@@ -32,18 +39,21 @@ abbrev pub Ends : {A : Type 0} → List ℕ → Option (A × List ℕ) → Type 
 Ends cs None = Unit {0}
 Ends cs (Some x) = EndsWith cs x.1
 
-pub ends_at : {A : Type 0} (cs : List ℕ) (r : Option (A × List ℕ)) (x : A × List ℕ) → Ends cs r → r ≡ Some x → EndsWith cs x.1
+pub ends_at : {A : Type 0} (cs : List ℕ) (r : Option (A × List ℕ)) (x : A × List ℕ) → Ends cs r → r ≡ Some x
+    → EndsWith cs x.1
 ends_at cs r x h e = subst (Ends cs) e h
 
 ends_from : {A : Type 0} (a b : List ℕ) (r : Option (A × List ℕ)) → EndsWith a b → Ends b r → Ends a r
 ends_from a b None p h = tt
 ends_from a b (Some x) p h = ends_then a b x.1 p h
 
-pub ends_bind : {A B : Type 0} (cs : List ℕ) (r : Option (A × List ℕ)) (f : A × List ℕ → Option (B × List ℕ)) → Ends cs r → ((x : A × List ℕ) → Ends x.1 (f x)) → Ends cs (r >>= f)
+pub ends_bind : {A B : Type 0} (cs : List ℕ) (r : Option (A × List ℕ)) (f : A × List ℕ → Option (B × List ℕ))
+    → Ends cs r → ((x : A × List ℕ) → Ends x.1 (f x)) → Ends cs (r >>= f)
 ends_bind cs None f h k = tt
 ends_bind cs (Some x) f h k = ends_from cs x.1 (f x) h (k x)
 
-pub ends_cond : {A : Type 0} (cs : List ℕ) (b : Bool) (x y : Option (A × List ℕ)) → Ends cs x → Ends cs y → Ends cs (cond b x y)
+pub ends_cond : {A : Type 0} (cs : List ℕ) (b : Bool) (x y : Option (A × List ℕ)) → Ends cs x → Ends cs y
+    → Ends cs (cond b x y)
 ends_cond cs true x y h k = h
 ends_cond cs false x y h k = k
 
@@ -53,7 +63,9 @@ character_ends (c ∷ cs) = record { front = c ∷ []; parts = refl }
 
 pub hex_ends : (cs : List ℕ) → Ends cs (hex cs)
 unfolding hex
-hex_ends cs = ends_bind cs (character cs) _ (character_ends cs) (λ c. ends_cond c.1 (nat_lt (digit_value c.0) 16) (Some (digit_value c.0, c.1)) None (ends_same c.1) tt)
+hex_ends cs =
+    ends_bind cs (character cs) _ (character_ends cs)
+    (λ c. ends_cond c.1 (nat_lt (digit_value c.0) 16) (Some (digit_value c.0, c.1)) None (ends_same c.1) tt)
 
 pub hex4_ends : (cs : List ℕ) → Ends cs (hex4 cs)
 unfolding hex4

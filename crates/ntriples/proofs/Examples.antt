@@ -7,9 +7,13 @@ use Rattle.ntriples.specs.declared.term.Term.TheVariants.{Iri, Blank, Literal}
 use Rattle.ntriples.specs.declared.term.Triple.{Triple}
 use Rattle.ntriples.specs.Characters.{is_pn_chars_base, is_pn_chars_u, is_pn_chars, is_iri_character}
 use Rattle.ntriples.specs.Reading.{skip_blanks}
-use Rattle.ntriples.specs.Grammar.{hex, hex4, short_code, long_code, uchar, echar, literal_escape, quoted_character, quoted_from, iriref, run, label_rest, blank_node_label, tag_part, subtags_from, langtag, xsd_string, rdf_lang_string, literal_suffix, literal, subject, object, triple, triple_alone, line}
+use Rattle.ntriples.specs.Grammar.{hex, hex4, short_code, long_code, uchar, echar, literal_escape, quoted_character}
+use Rattle.ntriples.specs.Grammar.{quoted_from, iriref, run, label_rest, blank_node_label, tag_part, subtags_from}
+use Rattle.ntriples.specs.Grammar.{langtag, xsd_string, rdf_lang_string, literal_suffix, literal, subject, object}
+use Rattle.ntriples.specs.Grammar.{triple, triple_alone, line}
 use Rattle.ntriples.specs.Document.{lines, line_of, triples_of, IsDocument, IsFirstBadLine}
-use Rattle.ntriples.specs.Written.{iri_byte, literal_byte, iri_text, quoted_text, suffix_text, term_text, triple_text, document_text}
+use Rattle.ntriples.specs.Written.{iri_byte, literal_byte, iri_text, quoted_text, suffix_text, term_text, triple_text}
+use Rattle.ntriples.specs.Written.{document_text}
 
 abbrev about : List ℕ → List ℕ → Term → Triple
 about subject predicate object = record { subject = Iri subject; predicate = predicate; object = object }
@@ -19,11 +23,14 @@ abbrev smile : List ℕ
 smile = 0xF0 ∷ 0x9F ∷ 0x98 ∷ 0x80 ∷ []
 
 abbrev two_triples : List Triple
-two_triples = about (codes "a") (codes "b") (Literal (codes "x") xsd_string None) ∷ about (codes "a") (codes "b") (Literal smile xsd_string None) ∷ []
+two_triples = about (codes "a") (codes "b") (Literal (codes "x") xsd_string None)
+    ∷ about (codes "a") (codes "b") (Literal smile xsd_string None) ∷ []
 
 -- two lines, the first with a comment and ended by CR LF, the last without an end
 two_lines : IsDocument (codes "<a> <b> \"x\" . # note\r\n<a> <b> \"\\U0001F600\" .") two_triples
-unfolding lines line_of triples_of is_utf8 chars encode_utf8 skip_blanks is_iri_character hex hex4 long_code uchar echar literal_escape quoted_character quoted_from iriref literal_suffix literal subject object triple triple_alone line
+unfolding lines line_of triples_of is_utf8 chars encode_utf8 skip_blanks is_iri_character hex hex4 long_code uchar
+    echar literal_escape quoted_character quoted_from iriref literal_suffix literal subject object triple triple_alone
+    line
 two_lines = refl
 
 two_written : document_text two_triples ≡ codes "<a> <b> \"x\" .\n<a> <b> \"" ++ smile ++ codes "\" .\n"
@@ -35,20 +42,26 @@ unfolding lines line_of triples_of is_utf8 chars skip_blanks line
 nothing = refl
 
 surrogate : line_of (codes "<a> <b> \"\\uD800\" .") ≡ None
-unfolding line_of is_utf8 chars encode_utf8 skip_blanks is_iri_character hex hex4 short_code uchar echar literal_escape quoted_character quoted_from iriref literal subject object triple triple_alone line
+unfolding line_of is_utf8 chars encode_utf8 skip_blanks is_iri_character hex hex4 short_code uchar echar
+    literal_escape quoted_character quoted_from iriref literal subject object triple triple_alone line
 surrogate = refl
 
 -- a dot inside a label belongs to it, and one behind it doesn't
-label_with_dot : line_of (codes "_:a <p> _:b.c .") ≡ Some (Some (record { subject = Blank (codes "a"); predicate = codes "p"; object = Blank (codes "b.c") }))
-unfolding line_of is_utf8 chars encode_utf8 skip_blanks is_iri_character is_pn_chars_base is_pn_chars_u is_pn_chars quoted_character quoted_from iriref label_rest blank_node_label subject object triple triple_alone line
+label_with_dot : line_of (codes "_:a <p> _:b.c .")
+    ≡ Some (Some (record { subject = Blank (codes "a"); predicate = codes "p"; object = Blank (codes "b.c") }))
+unfolding line_of is_utf8 chars encode_utf8 skip_blanks is_iri_character is_pn_chars_base is_pn_chars_u is_pn_chars
+    quoted_character quoted_from iriref label_rest blank_node_label subject object triple triple_alone line
 label_with_dot = refl
 
 dot_behind_label : line_of (codes "_:a <p> _:b. .") ≡ None
-unfolding line_of is_utf8 chars encode_utf8 skip_blanks is_iri_character is_pn_chars_base is_pn_chars_u is_pn_chars quoted_character quoted_from iriref label_rest blank_node_label subject object triple triple_alone line
+unfolding line_of is_utf8 chars encode_utf8 skip_blanks is_iri_character is_pn_chars_base is_pn_chars_u is_pn_chars
+    quoted_character quoted_from iriref label_rest blank_node_label subject object triple triple_alone line
 dot_behind_label = refl
 
-language : line_of (codes "<a> <p> \"x\"@en-GB.") ≡ Some (Some (about (codes "a") (codes "p") (Literal (codes "x") rdf_lang_string (Some (codes "en-GB")))))
-unfolding line_of is_utf8 chars encode_utf8 skip_blanks is_iri_character quoted_character quoted_from iriref run tag_part subtags_from langtag literal_suffix literal subject object triple triple_alone line
+language : line_of (codes "<a> <p> \"x\"@en-GB.")
+    ≡ Some (Some (about (codes "a") (codes "p") (Literal (codes "x") rdf_lang_string (Some (codes "en-GB")))))
+unfolding line_of is_utf8 chars encode_utf8 skip_blanks is_iri_character quoted_character quoted_from iriref run
+    tag_part subtags_from langtag literal_suffix literal subject object triple triple_alone line
 language = refl
 
 -- CR LF is one line end, LF CR are two, and so are CR CR
@@ -58,5 +71,15 @@ line_ends = refl
 
 -- `"x` and `" .` on two lines: the first is the bad one
 raw_line_end : IsFirstBadLine (codes "<a> <b> \"x\n\" .") 1
-unfolding lines line_of triples_of is_utf8 chars encode_utf8 skip_blanks is_iri_character quoted_character quoted_from iriref literal subject object triple triple_alone line
-raw_line_end = record { before = []; bad = codes "<a> <b> \"x"; behind = codes "\" ." ∷ []; cut = refl; good = refl; malformed = refl; counted = refl }
+unfolding lines line_of triples_of is_utf8 chars encode_utf8 skip_blanks is_iri_character quoted_character quoted_from
+    iriref literal subject object triple triple_alone line
+raw_line_end =
+    record {
+      before = [];
+      bad = codes "<a> <b> \"x";
+      behind = codes "\" ." ∷ [];
+      cut = refl;
+      good = refl;
+      malformed = refl;
+      counted = refl;
+    }

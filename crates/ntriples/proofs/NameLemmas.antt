@@ -1,5 +1,6 @@
 -- Reading labels and language tags, as loops do.
-use Rattle.std.proofs.Common.{◌≡◌, ℕ, zero, suc, ◌-◌, ◌<◌, ◌≤◌, Bool, true, false, cond, List, [], ◌∷◌, ◌++◌, length, drop, Option, Some, None, refl, sym, ap, subst, ◌∙◌, append_assoc, arith}
+use Rattle.std.proofs.Common.{◌≡◌, ℕ, zero, suc, ◌-◌, ◌<◌, ◌≤◌, Bool, true, false, cond, List, [], ◌∷◌, ◌++◌, length}
+use Rattle.std.proofs.Common.{drop, Option, Some, None, refl, sym, ap, subst, ◌∙◌, append_assoc, arith}
 use Rattle.std.proofs.lemmas.List.{append-nil, length-append}
 use Rattle.std.proofs.lemmas.Bool.{eqb-true}
 use Rattle.std.proofs.lemmas.Option.{some_pair_parts, cond_some}
@@ -15,7 +16,8 @@ use Rattle.ntriples.specs.Reading.{Fails, onto, with_front, behind}
 use Rattle.ntriples.specs.Grammar.{is_in, begins_in, run, some_of, tag_part, subtags_from, dotted, label_rest}
 use Rattle.ntriples.proofs.Behind.{EndsWith, Ends, ends_same, ends_more, ends_at, ends_drop, ends_shorter}
 
-pub run_cons : (class : Class) (c : ℕ) (cs : List ℕ) → is_in class c ≡ true → run class (c ∷ cs) ≡ onto (encode_utf8 c) (run class cs)
+pub run_cons : (class : Class) (c : ℕ) (cs : List ℕ) → is_in class c ≡ true
+    → run class (c ∷ cs) ≡ onto (encode_utf8 c) (run class cs)
 unfolding run
 run_cons class c cs e = rw e refl
 
@@ -25,24 +27,35 @@ run_none class [] e = refl
 run_none class (c ∷ cs) e = rw e refl
 
 onto_onto : (front more : List ℕ) (read : List ℕ × List ℕ) → onto front (onto more read) ≡ onto (front ++ more) read
-onto_onto front more read = ap (λ (v : List ℕ). let r : List ℕ × List ℕ = (v, read.1) in r) (sym (append_assoc front more read.0))
+onto_onto front more read =
+    ap (λ (v : List ℕ). let r : List ℕ × List ℕ = (v, read.1) in r) (sym (append_assoc front more read.0))
 
 pub onto_nil : (front rest : List ℕ) → onto front ([], rest) ≡ (front, rest)
 onto_nil front rest = ap (λ (v : List ℕ). let r : List ℕ × List ℕ = (v, rest) in r) (append-nil front)
 
 -- a loop over the characters of a class
-pub run_more : (class : Class) (front now : List ℕ) (c : ℕ) (rest : List ℕ) (total : List ℕ × List ℕ) → is_in class c ≡ true → now ≡ c ∷ rest → onto front (run class now) ≡ total → onto (front ++ encode_utf8 c) (run class rest) ≡ total
+pub run_more : (class : Class) (front now : List ℕ) (c : ℕ) (rest : List ℕ) (total : List ℕ × List ℕ)
+    → is_in class c ≡ true → now ≡ c ∷ rest → onto front (run class now) ≡ total
+    → onto (front ++ encode_utf8 c) (run class rest) ≡ total
 run_more class front now c rest total e parts so_far =
-    sym (onto_onto front (encode_utf8 c) (run class rest)) ∙ ap (onto front) (sym (ap (run class) parts ∙ run_cons class c rest e)) ∙ so_far
+    sym (onto_onto front (encode_utf8 c) (run class rest))
+    ∙ ap (onto front) (sym (ap (run class) parts ∙ run_cons class c rest e)) ∙ so_far
 
-pub run_done : (class : Class) (front now : List ℕ) (total : List ℕ × List ℕ) → begins_in class now ≡ false → onto front (run class now) ≡ total → (front, now) ≡ total
-run_done class front now total e so_far = sym (onto_nil front now) ∙ ap (onto front) (sym (run_none class now e)) ∙ so_far
+pub run_done : (class : Class) (front now : List ℕ) (total : List ℕ × List ℕ) → begins_in class now ≡ false
+    → onto front (run class now) ≡ total → (front, now) ≡ total
+run_done class front now total e so_far = sym (onto_nil front now) ∙ ap (onto front) (sym (run_none class now e))
+    ∙ so_far
 
-pub skip_more : (class : Class) (now : List ℕ) (c : ℕ) (rest : List ℕ) → is_in class c ≡ true → now ≡ c ∷ rest → (run class rest).1 ≡ (run class now).1
-skip_more class now c rest e parts = sym (ap (λ (r : List ℕ × List ℕ). r.1) (ap (run class) parts ∙ run_cons class c rest e))
+pub skip_more : (class : Class) (now : List ℕ) (c : ℕ) (rest : List ℕ) → is_in class c ≡ true → now ≡ c ∷ rest
+    → (run class rest).1 ≡ (run class now).1
+skip_more class now c rest e parts =
+    sym (ap (λ (r : List ℕ × List ℕ). r.1) (ap (run class) parts ∙ run_cons class c rest e))
 
-run_ends_by : (b : Bool) (class : Class) (c : ℕ) (cs : List ℕ) (r : List ℕ × List ℕ) → cond b (onto (encode_utf8 c) (run class cs)) ([], c ∷ cs) ≡ r → EndsWith cs (run class cs).1 → EndsWith (c ∷ cs) r.1
-run_ends_by true class c cs r e h = subst (λ (r : List ℕ × List ℕ). EndsWith (c ∷ cs) r.1) e (ends_more c cs (run class cs).1 h)
+run_ends_by : (b : Bool) (class : Class) (c : ℕ) (cs : List ℕ) (r : List ℕ × List ℕ)
+    → cond b (onto (encode_utf8 c) (run class cs)) ([], c ∷ cs) ≡ r → EndsWith cs (run class cs).1
+    → EndsWith (c ∷ cs) r.1
+run_ends_by true class c cs r e h =
+    subst (λ (r : List ℕ × List ℕ). EndsWith (c ∷ cs) r.1) e (ends_more c cs (run class cs).1 h)
 run_ends_by false class c cs r e h = subst (λ (r : List ℕ × List ℕ). EndsWith (c ∷ cs) r.1) e (ends_same (c ∷ cs))
 
 run_ends : (class : Class) (cs : List ℕ) → EndsWith cs (run class cs).1
@@ -55,7 +68,8 @@ run_ends class (c ∷ cs) = run_ends_by (is_in class c) class c cs _ refl (run_e
 encode_some : (c : ℕ) → 0 < length (encode_utf8 c)
 encode_some c = omega (arith, length-encode c, len_utf8_bounds c)
 
-some_of_onto : (front : List ℕ) (read : List ℕ × List ℕ) → 0 < length front → some_of (onto front read) ≡ Some (onto front read)
+some_of_onto : (front : List ℕ) (read : List ℕ × List ℕ) → 0 < length front
+    → some_of (onto front read) ≡ Some (onto front read)
 some_of_onto [] read h = absurd (omega arith)
 some_of_onto (b ∷ bs) read h = refl
 
@@ -76,7 +90,8 @@ tag_part_ends : (part : Class) (cs : List ℕ) → Ends cs (tag_part part cs)
 unfolding tag_part
 tag_part_ends part cs = some_of_ends cs (run part cs) (run_ends part cs)
 
-pub behind_ends : (wanted : ℕ) (cs rest : List ℕ) → behind wanted cs ≡ Some rest → (nat_eq wanted wanted ≡ nat_eq wanted wanted) × (cs ≡ wanted ∷ rest)
+pub behind_ends : (wanted : ℕ) (cs rest : List ℕ) → behind wanted cs ≡ Some rest
+    → (nat_eq wanted wanted ≡ nat_eq wanted wanted) × (cs ≡ wanted ∷ rest)
 behind_ends wanted [] rest e = absurd cc
 behind_ends wanted (c ∷ cs) rest e =
     let p = cond_some (nat_eq c wanted) cs rest e in
@@ -89,10 +104,14 @@ subtags_skip zero cs = refl
 subtags_skip (suc skip) [] = refl
 subtags_skip (suc skip) (c ∷ cs) = subtags_skip skip cs
 
-pub subtags_cons : (cs : List ℕ) (x : List ℕ × List ℕ) → tag_part Alphanumerics cs ≡ Some x → subtags_from 0 (45 ∷ cs) ≡ with_front (45 ∷ x.0) (subtags_from 0 x.1)
+pub subtags_cons : (cs : List ℕ) (x : List ℕ × List ℕ) → tag_part Alphanumerics cs ≡ Some x
+    → subtags_from 0 (45 ∷ cs) ≡ with_front (45 ∷ x.0) (subtags_from 0 x.1)
 unfolding subtags_from
 subtags_cons cs x e =
-    rw e (ap (with_front (45 ∷ x.0)) (subtags_skip (length cs - length x.1) cs ∙ ap (subtags_from 0) (ends_drop cs x.1 (ends_at cs (tag_part Alphanumerics cs) x (tag_part_ends Alphanumerics cs) e))))
+    rw e (ap (with_front (45 ∷ x.0))
+    (subtags_skip (length cs - length x.1) cs
+    ∙ ap (subtags_from 0)
+    (ends_drop cs x.1 (ends_at cs (tag_part Alphanumerics cs) x (tag_part_ends Alphanumerics cs) e))))
 
 subtags_none : (cs : List ℕ) → tag_part Alphanumerics cs ≡ None → subtags_from 0 (45 ∷ cs) ≡ None
 unfolding subtags_from
@@ -107,12 +126,15 @@ unfolding subtags_from
 subtags_end [] e = refl
 subtags_end (c ∷ cs) e = rw (cond_none (nat_eq c 45) cs e) refl
 
-regroup : (front more : List ℕ) (read : Option (List ℕ × List ℕ)) → with_front front (with_front more read) ≡ with_front (front ++ more) read
+regroup : (front more : List ℕ) (read : Option (List ℕ × List ℕ))
+    → with_front front (with_front more read) ≡ with_front (front ++ more) read
 regroup front more None = refl
 regroup front more (Some x) = ap Some (onto_onto front more x)
 
 -- a loop over subtags
-subtags_more_at : (front cs new rest : List ℕ) (total part : Option (List ℕ × List ℕ)) → tag_part Alphanumerics cs ≡ part → with_front (front ++ 45 ∷ []) part ≡ Some (new, rest) → with_front front (subtags_from 0 (45 ∷ cs)) ≡ total → with_front new (subtags_from 0 rest) ≡ total
+subtags_more_at : (front cs new rest : List ℕ) (total part : Option (List ℕ × List ℕ))
+    → tag_part Alphanumerics cs ≡ part → with_front (front ++ 45 ∷ []) part ≡ Some (new, rest)
+    → with_front front (subtags_from 0 (45 ∷ cs)) ≡ total → with_front new (subtags_from 0 rest) ≡ total
 subtags_more_at front cs new rest total None e given so_far = absurd cc
 subtags_more_at front cs new rest total (Some x) e given so_far =
     let p = some_pair_parts ((front ++ 45 ∷ []) ++ x.0) new x.1 rest given in
@@ -122,31 +144,48 @@ subtags_more_at front cs new rest total (Some x) e given so_far =
     ∙ sym (regroup front (45 ∷ x.0) (subtags_from 0 x.1))
     ∙ ap (with_front front) (sym (subtags_cons cs x e)) ∙ so_far
 
-subtags_more : (front now cs new rest : List ℕ) (total : Option (List ℕ × List ℕ)) → behind 45 now ≡ Some cs → with_front (front ++ 45 ∷ []) (tag_part Alphanumerics cs) ≡ Some (new, rest) → with_front front (subtags_from 0 now) ≡ total → with_front new (subtags_from 0 rest) ≡ total
+subtags_more : (front now cs new rest : List ℕ) (total : Option (List ℕ × List ℕ)) → behind 45 now ≡ Some cs
+    → with_front (front ++ 45 ∷ []) (tag_part Alphanumerics cs) ≡ Some (new, rest)
+    → with_front front (subtags_from 0 now) ≡ total → with_front new (subtags_from 0 rest) ≡ total
 subtags_more front now cs new rest total e given so_far =
-    subtags_more_at front cs new rest total (tag_part Alphanumerics cs) refl given (ap (λ (v : List ℕ). with_front front (subtags_from 0 v)) (sym (behind_ends 45 now cs e).1) ∙ so_far)
+    subtags_more_at front cs new rest total (tag_part Alphanumerics cs) refl given
+    (ap (λ (v : List ℕ). with_front front (subtags_from 0 v)) (sym (behind_ends 45 now cs e).1) ∙ so_far)
 
-subtags_fails_at : (r : Refusal) (front cs : List ℕ) (total part : Option (List ℕ × List ℕ)) → tag_part Alphanumerics cs ≡ part → Fails r (with_front (front ++ 45 ∷ []) part) → with_front front (subtags_from 0 (45 ∷ cs)) ≡ total → Fails r total
+subtags_fails_at : (r : Refusal) (front cs : List ℕ) (total part : Option (List ℕ × List ℕ))
+    → tag_part Alphanumerics cs ≡ part → Fails r (with_front (front ++ 45 ∷ []) part)
+    → with_front front (subtags_from 0 (45 ∷ cs)) ≡ total → Fails r total
 subtags_fails_at OutOfMemory front cs total part e given so_far = tt
 subtags_fails_at Malformed front cs total (Some x) e given so_far = absurd cc
 subtags_fails_at Malformed front cs total None e given so_far = sym so_far ∙ ap (with_front front) (subtags_none cs e)
 
-subtags_fails : (r : Refusal) (front now cs : List ℕ) (total : Option (List ℕ × List ℕ)) → behind 45 now ≡ Some cs → Fails r (with_front (front ++ 45 ∷ []) (tag_part Alphanumerics cs)) → with_front front (subtags_from 0 now) ≡ total → Fails r total
+subtags_fails : (r : Refusal) (front now cs : List ℕ) (total : Option (List ℕ × List ℕ)) → behind 45 now ≡ Some cs
+    → Fails r (with_front (front ++ 45 ∷ []) (tag_part Alphanumerics cs))
+    → with_front front (subtags_from 0 now) ≡ total → Fails r total
 subtags_fails r front now cs total e given so_far =
-    subtags_fails_at r front cs total (tag_part Alphanumerics cs) refl given (ap (λ (v : List ℕ). with_front front (subtags_from 0 v)) (sym (behind_ends 45 now cs e).1) ∙ so_far)
+    subtags_fails_at r front cs total (tag_part Alphanumerics cs) refl given
+    (ap (λ (v : List ℕ). with_front front (subtags_from 0 v)) (sym (behind_ends 45 now cs e).1) ∙ so_far)
 
-pub subtags_done : (front now : List ℕ) (total : Option (List ℕ × List ℕ)) → behind 45 now ≡ None → with_front front (subtags_from 0 now) ≡ total → total ≡ Some (front, now)
-subtags_done front now total e so_far = sym so_far ∙ ap (with_front front) (subtags_end now e) ∙ ap Some (onto_nil front now)
+pub subtags_done : (front now : List ℕ) (total : Option (List ℕ × List ℕ)) → behind 45 now ≡ None
+    → with_front front (subtags_from 0 now) ≡ total → total ≡ Some (front, now)
+subtags_done front now total e so_far = sym so_far ∙ ap (with_front front) (subtags_end now e)
+    ∙ ap Some (onto_nil front now)
 
-subtags_shorter_at : (front cs new rest : List ℕ) (part : Option (List ℕ × List ℕ)) → Ends cs part → with_front (front ++ 45 ∷ []) part ≡ Some (new, rest) → length rest ≤ length cs
+subtags_shorter_at : (front cs new rest : List ℕ) (part : Option (List ℕ × List ℕ)) → Ends cs part
+    → with_front (front ++ 45 ∷ []) part ≡ Some (new, rest) → length rest ≤ length cs
 subtags_shorter_at front cs new rest None h given = absurd cc
 subtags_shorter_at front cs new rest (Some x) h given =
     let p = some_pair_parts ((front ++ 45 ∷ []) ++ x.0) new x.1 rest given in
     omega (arith, ends_shorter cs x.1 h, ap length p.1)
 
-subtags_shorter : (front now cs new rest : List ℕ) → behind 45 now ≡ Some cs → with_front (front ++ 45 ∷ []) (tag_part Alphanumerics cs) ≡ Some (new, rest) → length rest < length now
+subtags_shorter : (front now cs new rest : List ℕ) → behind 45 now ≡ Some cs
+    → with_front (front ++ 45 ∷ []) (tag_part Alphanumerics cs) ≡ Some (new, rest) → length rest < length now
 subtags_shorter front now cs new rest e given =
-    omega (arith, subtags_shorter_at front cs new rest (tag_part Alphanumerics cs) (tag_part_ends Alphanumerics cs) given, ap length (behind_ends 45 now cs e).1)
+    omega (
+      arith,
+      subtags_shorter_at front cs new rest (tag_part Alphanumerics cs) (tag_part_ends Alphanumerics cs)
+          given,
+      ap length (behind_ends 45 now cs e).1,
+    )
 
 -- ---- labels
 
@@ -158,22 +197,29 @@ dot_run : (cs : List ℕ) → run Dots (46 ∷ cs) ≡ onto (46 ∷ []) (run Dot
 unfolding run encode_utf8
 dot_run cs = refl
 
-pub other_label : (c : ℕ) (cs : List ℕ) → nat_eq c 46 ≡ false → label_rest (c ∷ cs) ≡ cond (is_pn_chars c) (onto (encode_utf8 c) (label_rest cs)) ([], c ∷ cs)
+pub other_label : (c : ℕ) (cs : List ℕ) → nat_eq c 46 ≡ false
+    → label_rest (c ∷ cs) ≡ cond (is_pn_chars c) (onto (encode_utf8 c) (label_rest cs)) ([], c ∷ cs)
 unfolding label_rest
 other_label c cs e = rw e refl
 
-dotted_onto : (cs front : List ℕ) (read : List ℕ × List ℕ) → 0 < length front → dotted cs (onto front read) ≡ onto (46 ∷ front) read
+dotted_onto : (cs front : List ℕ) (read : List ℕ × List ℕ) → 0 < length front
+    → dotted cs (onto front read) ≡ onto (46 ∷ front) read
 dotted_onto cs [] read h = absurd (omega arith)
 dotted_onto cs (b ∷ bs) read h = refl
 
-label_none_by : (b : Bool) (c : ℕ) (cs : List ℕ) → nat_eq c 46 ≡ b → (begins_in Label (run Dots cs).1 ≡ false → label_rest cs ≡ ([], cs)) → begins_in Label (run Dots (c ∷ cs)).1 ≡ false → label_rest (c ∷ cs) ≡ ([], c ∷ cs)
+label_none_by : (b : Bool) (c : ℕ) (cs : List ℕ) → nat_eq c 46 ≡ b
+    → (begins_in Label (run Dots cs).1 ≡ false → label_rest cs ≡ ([], cs))
+    → begins_in Label (run Dots (c ∷ cs)).1 ≡ false → label_rest (c ∷ cs) ≡ ([], c ∷ cs)
 label_none_by true c cs e before h =
     let same : c ≡ 46 = eqb-true c 46 e in
-    let h1 : begins_in Label (run Dots (46 ∷ cs)).1 ≡ false = subst (λ (x : ℕ). begins_in Label (run Dots (x ∷ cs)).1 ≡ false) same h in
-    let h2 : begins_in Label (run Dots cs).1 ≡ false = subst (λ (r : List ℕ × List ℕ). begins_in Label r.1 ≡ false) (dot_run cs) h1 in
+    let h1 : begins_in Label (run Dots (46 ∷ cs)).1 ≡ false =
+    subst (λ (x : ℕ). begins_in Label (run Dots (x ∷ cs)).1 ≡ false) same h in
+    let h2 : begins_in Label (run Dots cs).1 ≡ false =
+    subst (λ (r : List ℕ × List ℕ). begins_in Label r.1 ≡ false) (dot_run cs) h1 in
     rw same (dot_label cs ∙ ap (dotted cs) (before h2))
 label_none_by false c cs e before h =
-    let other : is_pn_chars c ≡ false = subst (λ (r : List ℕ × List ℕ). begins_in Label r.1 ≡ false) (run_none Dots (c ∷ cs) e) h in
+    let other : is_pn_chars c ≡ false =
+    subst (λ (r : List ℕ × List ℕ). begins_in Label r.1 ≡ false) (run_none Dots (c ∷ cs) e) h in
     other_label c cs e ∙ rw other refl
 
 pub label_nil : label_rest [] ≡ ([], [])
@@ -187,7 +233,9 @@ label_none (c ∷ cs) h = label_none_by (nat_eq c 46) c cs refl (label_none cs) 
 IsStep : List ℕ → ℕ → List ℕ → Type 0
 IsStep cs d rest = label_rest cs ≡ onto ((run Dots cs).0 ++ encode_utf8 d) (label_rest rest)
 
-label_step_by : (b : Bool) (c : ℕ) (cs : List ℕ) (d : ℕ) (rest : List ℕ) → nat_eq c 46 ≡ b → ((run Dots cs).1 ≡ d ∷ rest → IsStep cs d rest) → (run Dots (c ∷ cs)).1 ≡ d ∷ rest → is_pn_chars d ≡ true → IsStep (c ∷ cs) d rest
+label_step_by : (b : Bool) (c : ℕ) (cs : List ℕ) (d : ℕ) (rest : List ℕ) → nat_eq c 46 ≡ b
+    → ((run Dots cs).1 ≡ d ∷ rest → IsStep cs d rest) → (run Dots (c ∷ cs)).1 ≡ d ∷ rest → is_pn_chars d ≡ true
+    → IsStep (c ∷ cs) d rest
 unfolding IsStep
 label_step_by true c cs d rest e before h pn =
     let same : c ≡ 46 = eqb-true c 46 e in
@@ -195,7 +243,8 @@ label_step_by true c cs d rest e before h pn =
     let h2 : (run Dots cs).1 ≡ d ∷ rest = subst (λ (r : List ℕ × List ℕ). r.1 ≡ d ∷ rest) (dot_run cs) h1 in
     let front = (run Dots cs).0 ++ encode_utf8 d in
     rw same (dot_label cs ∙ ap (dotted cs) (before h2)
-    ∙ dotted_onto cs front (label_rest rest) (omega (arith, length-append (run Dots cs).0 (encode_utf8 d), encode_some d))
+    ∙ dotted_onto cs front (label_rest rest)
+    (omega (arith, length-append (run Dots cs).0 (encode_utf8 d), encode_some d))
     ∙ ap (λ (r : List ℕ × List ℕ). onto (r.0 ++ encode_utf8 d) (label_rest rest)) (sym (dot_run cs)))
 label_step_by false c cs d rest e before h pn =
     let at = run_none Dots (c ∷ cs) e in
@@ -212,12 +261,17 @@ run_nil : (class : Class) → run class [] ≡ ([], [])
 unfolding run
 run_nil class = refl
 
-label_step : (cs : List ℕ) (d : ℕ) (rest : List ℕ) → (run Dots cs).1 ≡ d ∷ rest → is_pn_chars d ≡ true → IsStep cs d rest
-label_step [] d rest h pn = absurd (let e : [] ≡ d ∷ rest = subst (λ (r : List ℕ × List ℕ). r.1 ≡ d ∷ rest) (run_nil Dots) h in cc)
+label_step : (cs : List ℕ) (d : ℕ) (rest : List ℕ) → (run Dots cs).1 ≡ d ∷ rest → is_pn_chars d ≡ true
+    → IsStep cs d rest
+label_step [] d rest h pn =
+    absurd (let e : [] ≡ d ∷ rest = subst (λ (r : List ℕ × List ℕ). r.1 ≡ d ∷ rest) (run_nil Dots) h in cc)
 label_step (c ∷ cs) d rest h pn = label_step_by (nat_eq c 46) c cs d rest refl (λ k. label_step cs d rest k pn) h pn
 
 -- a loop over the characters of a label
-pub label_more : (front now mid end : List ℕ) (d : ℕ) (rest : List ℕ) (total : List ℕ × List ℕ) → (run Dots now).1 ≡ d ∷ rest → is_pn_chars d ≡ true → ◌≡◌ {A = List ℕ × List ℕ} (mid, end) (onto front (run Dots now)) → onto front (label_rest now) ≡ total → onto (mid ++ encode_utf8 d) (label_rest rest) ≡ total
+pub label_more : (front now mid end : List ℕ) (d : ℕ) (rest : List ℕ) (total : List ℕ × List ℕ)
+    → (run Dots now).1 ≡ d ∷ rest → is_pn_chars d ≡ true
+    → ◌≡◌ {A = List ℕ × List ℕ} (mid, end) (onto front (run Dots now)) → onto front (label_rest now) ≡ total
+    → onto (mid ++ encode_utf8 d) (label_rest rest) ≡ total
 unfolding IsStep
 label_more front now mid end d rest total parts pn pushed so_far =
     let text : mid ≡ front ++ (run Dots now).0 = ap (λ (r : List ℕ × List ℕ). r.0) pushed in
@@ -226,7 +280,8 @@ label_more front now mid end d rest total parts pn pushed so_far =
     ∙ sym (onto_onto front ((run Dots now).0 ++ encode_utf8 d) (label_rest rest))
     ∙ ap (onto front) (sym (label_step now d rest parts pn)) ∙ so_far
 
-pub label_done : (front now : List ℕ) (total : List ℕ × List ℕ) → begins_in Label (run Dots now).1 ≡ false → onto front (label_rest now) ≡ total → ◌≡◌ {A = List ℕ × List ℕ} (front, now) total
+pub label_done : (front now : List ℕ) (total : List ℕ × List ℕ) → begins_in Label (run Dots now).1 ≡ false
+    → onto front (label_rest now) ≡ total → ◌≡◌ {A = List ℕ × List ℕ} (front, now) total
 label_done front now total e so_far = sym (onto_nil front now) ∙ ap (onto front) (sym (label_none now e)) ∙ so_far
 
 pub label_shorter : (now : List ℕ) (d : ℕ) (rest : List ℕ) → (run Dots now).1 ≡ d ∷ rest → length rest < length now
@@ -242,14 +297,25 @@ hyphened : (front mid : List ℕ) → mid ≡ front ++ encode_utf8 45 → mid �
 hyphened front mid e = e ∙ ap (λ (v : List ℕ). front ++ v) hyphen
 
 module _ (front mid now cs : List ℕ) (at : behind 45 now ≡ Some cs) (pushed : mid ≡ front ++ encode_utf8 45) where
-  pub loop_more : (new rest : List ℕ) (total : Option (List ℕ × List ℕ)) → with_front mid (tag_part Alphanumerics cs) ≡ Some (new, rest) → with_front front (subtags_from 0 now) ≡ total → with_front new (subtags_from 0 rest) ≡ total
+  pub loop_more : (new rest : List ℕ) (total : Option (List ℕ × List ℕ))
+      → with_front mid (tag_part Alphanumerics cs) ≡ Some (new, rest) → with_front front (subtags_from 0 now) ≡ total
+      → with_front new (subtags_from 0 rest) ≡ total
   loop_more new rest total given so_far =
-      subtags_more front now cs new rest total at (subst (λ (v : List ℕ). with_front v (tag_part Alphanumerics cs) ≡ Some (new, rest)) (hyphened front mid pushed) given) so_far
+      subtags_more front now cs new rest total
+      at (subst (λ (v : List ℕ). with_front v (tag_part Alphanumerics cs) ≡ Some (new, rest))
+      (hyphened front mid pushed) given) so_far
 
-  pub loop_shorter : (new rest : List ℕ) → with_front mid (tag_part Alphanumerics cs) ≡ Some (new, rest) → length rest < length now
+  pub loop_shorter : (new rest : List ℕ) → with_front mid (tag_part Alphanumerics cs) ≡ Some (new, rest)
+      → length rest < length now
   loop_shorter new rest given =
-      subtags_shorter front now cs new rest at (subst (λ (v : List ℕ). with_front v (tag_part Alphanumerics cs) ≡ Some (new, rest)) (hyphened front mid pushed) given)
+      subtags_shorter front now cs new rest
+      at (subst (λ (v : List ℕ). with_front v (tag_part Alphanumerics cs) ≡ Some (new, rest))
+      (hyphened front mid pushed) given)
 
-  pub loop_fails : (r : Refusal) (total : Option (List ℕ × List ℕ)) → Fails r (with_front mid (tag_part Alphanumerics cs)) → with_front front (subtags_from 0 now) ≡ total → Fails r total
+  pub loop_fails : (r : Refusal) (total : Option (List ℕ × List ℕ))
+      → Fails r (with_front mid (tag_part Alphanumerics cs)) → with_front front (subtags_from 0 now) ≡ total
+      → Fails r total
   loop_fails r total given so_far =
-      subtags_fails r front now cs total at (subst (λ (v : List ℕ). Fails r (with_front v (tag_part Alphanumerics cs))) (hyphened front mid pushed) given) so_far
+      subtags_fails r front now cs total
+      at (subst (λ (v : List ℕ). Fails r (with_front v (tag_part Alphanumerics cs))) (hyphened front mid pushed)
+      given) so_far

@@ -1,5 +1,6 @@
 -- The labels and language tags that are read are read again from what they are.
-use Rattle.std.proofs.Common.{◌≡◌, ℕ, zero, suc, ◌-◌, Bool, true, false, cond, ◌||◌, not, nat_eq, List, [], ◌∷◌, ◌++◌, length, Option, Some, None, refl, sym, ap, ap₂, ◌∙◌, subst, arith, append_assoc}
+use Rattle.std.proofs.Common.{◌≡◌, ℕ, zero, suc, ◌-◌, Bool, true, false, cond, ◌||◌, not, nat_eq, List, [], ◌∷◌, ◌++◌}
+use Rattle.std.proofs.Common.{length, Option, Some, None, refl, sym, ap, ap₂, ◌∙◌, subst, arith, append_assoc}
 use Rattle.std.proofs.lemmas.Bool.{and_parts, and_from, or_parts, eqb-true}
 use Rattle.std.proofs.lemmas.Str.{encode_ascii, encodes-append}
 use Rattle.std.specs.Char.{IsScalar}
@@ -9,7 +10,8 @@ use Rattle.ntriples.specs.declared.names.Class.TheVariants.{Letters, Alphanumeri
 use Rattle.ntriples.specs.Characters.{is_digit, is_letter, is_pn_chars_base, is_pn_chars_u, is_pn_chars}
 use Rattle.ntriples.specs.Document.{is_line_end}
 use Rattle.ntriples.specs.Reading.{◌>>=◌, onto, with_front, character, behind}
-use Rattle.ntriples.specs.Grammar.{is_in, begins_in, run, dotted, label_rest, blank_node_label, some_of, tag_part, subtags_from, langtag}
+use Rattle.ntriples.specs.Grammar.{is_in, begins_in, run, dotted, label_rest, blank_node_label, some_of, tag_part}
+use Rattle.ntriples.specs.Grammar.{subtags_from, langtag}
 use Rattle.ntriples.proofs.NameLemmas.{run_cons, run_none, dot_label, other_label, subtags_cons}
 use Rattle.ntriples.proofs.Encoded.{no_ends, no_ends-append, scalars-append}
 use Rattle.ntriples.proofs.Readings.{Makes, makes_bind, makes_cond, makes_behind, character_makes}
@@ -47,12 +49,14 @@ label_cons : (c : ℕ) (cs : List ℕ) → is_pn_chars c ≡ true → label_rest
 unfolding label_rest
 label_cons c cs e = rw e refl
 
-one_more : (c : ℕ) (read : List ℕ × List ℕ) → IsScalar c → is_pn_chars c ≡ true → IsRest read → IsRest (onto (encode c) read)
+one_more : (c : ℕ) (read : List ℕ × List ℕ) → IsScalar c → is_pn_chars c ≡ true → IsRest read
+    → IsRest (onto (encode c) read)
 one_more c read s e h = (
   record {
     characters = c ∷ h.0.characters;
     are = and_from (scalar c) (scalars h.0.characters) s h.0.are;
-    whole = and_from (not (is_line_end c)) (no_ends h.0.characters) (no_end is_pn_chars c feed_no_label return_no_label e) h.0.whole;
+    whole = and_from (not (is_line_end c)) (no_ends h.0.characters)
+        (no_end is_pn_chars c feed_no_label return_no_label e) h.0.whole;
     spell = ap (λ (t : List ℕ). encode c ++ t) h.0.spell;
     again = λ more. label_cons c (h.0.characters ++ 32 ∷ more) e ∙ ap (onto (encode c)) (h.0.again more);
   },
@@ -66,23 +70,30 @@ dotted_rest cs (b ∷ bs, rest) s h = (
     characters = 46 ∷ h.0.characters;
     are = h.0.are;
     whole = h.0.whole;
-    spell = ap (λ (t : List ℕ). t ++ encodes h.0.characters) (encode_ascii 46 (omega arith)) ∙ ap (λ (t : List ℕ). 46 ∷ t) h.0.spell;
-    again = λ more. dot_label (h.0.characters ++ 32 ∷ more) ∙ ap (dotted (h.0.characters ++ 32 ∷ more)) (h.0.again more);
+    spell = ap (λ (t : List ℕ). t ++ encodes h.0.characters) (encode_ascii 46 (omega arith))
+        ∙ ap (λ (t : List ℕ). 46 ∷ t) h.0.spell;
+    again = λ more. dot_label (h.0.characters ++ 32 ∷ more) ∙ ap (dotted (h.0.characters ++ 32 ∷ more))
+        (h.0.again more);
   },
   h.1,
 )
 
-rest_other : (b : Bool) (c : ℕ) (cs : List ℕ) → nat_eq c 46 ≡ b → is_pn_chars c ≡ false → scalars (c ∷ cs) ≡ true → IsRest (label_rest cs) → IsRest (label_rest (c ∷ cs))
+rest_other : (b : Bool) (c : ℕ) (cs : List ℕ) → nat_eq c 46 ≡ b → is_pn_chars c ≡ false → scalars (c ∷ cs) ≡ true
+    → IsRest (label_rest cs) → IsRest (label_rest (c ∷ cs))
 rest_other true c cs e f s h =
     let same : c ≡ 46 = eqb-true c 46 e in
     let dot : scalars (46 ∷ cs) ≡ true = ap (λ (x : ℕ). scalars (x ∷ cs)) (sym same) ∙ s in
-    subst (λ (x : ℕ). IsRest (label_rest (x ∷ cs))) (sym same) (subst IsRest (sym (dot_label cs)) (dotted_rest cs (label_rest cs) dot h))
+    subst (λ (x : ℕ). IsRest (label_rest (x ∷ cs))) (sym same)
+    (subst IsRest (sym (dot_label cs)) (dotted_rest cs (label_rest cs) dot h))
 rest_other false c cs e f s h =
-    let none : label_rest (c ∷ cs) ≡ ([], c ∷ cs) = other_label c cs e ∙ ap (λ (b : Bool). cond b (onto (encode c) (label_rest cs)) ([], c ∷ cs)) f in
+    let none : label_rest (c ∷ cs) ≡ ([], c ∷ cs) =
+    other_label c cs e ∙ ap (λ (b : Bool). cond b (onto (encode c) (label_rest cs)) ([], c ∷ cs)) f in
     subst IsRest (sym none) (no_rest, s)
 
-rest_by : (b : Bool) (c : ℕ) (cs : List ℕ) → is_pn_chars c ≡ b → scalars (c ∷ cs) ≡ true → IsRest (label_rest cs) → IsRest (label_rest (c ∷ cs))
-rest_by true c cs e s h = subst IsRest (sym (label_cons c cs e)) (one_more c (label_rest cs) (and_parts (scalar c) (scalars cs) s).0 e h)
+rest_by : (b : Bool) (c : ℕ) (cs : List ℕ) → is_pn_chars c ≡ b → scalars (c ∷ cs) ≡ true → IsRest (label_rest cs)
+    → IsRest (label_rest (c ∷ cs))
+rest_by true c cs e s h =
+    subst IsRest (sym (label_cons c cs e)) (one_more c (label_rest cs) (and_parts (scalar c) (scalars cs) s).0 e h)
 rest_by false c cs e s h = rest_other (nat_eq c 46) c cs refl e s h
 
 label_none_left : label_rest [] ≡ ([], [])
@@ -110,7 +121,8 @@ return_not_first : is_first 13 ≡ false
 unfolding is_first is_pn_chars_u is_pn_chars_base
 return_not_first = refl
 
-label_reads : (c : ℕ) (cs : List ℕ) (text rest : List ℕ) → is_first c ≡ true → label_rest cs ≡ (text, rest) → blank_node_label (95 ∷ 58 ∷ c ∷ cs) ≡ Some (encode c ++ text, rest)
+label_reads : (c : ℕ) (cs : List ℕ) (text rest : List ℕ) → is_first c ≡ true → label_rest cs ≡ (text, rest)
+    → blank_node_label (95 ∷ 58 ∷ c ∷ cs) ≡ Some (encode c ++ text, rest)
 unfolding blank_node_label is_first
 label_reads c cs text rest e h = rw (e, h) refl
 
@@ -118,13 +130,15 @@ label_spells : (c : ℕ) (cs : List ℕ) → encodes (95 ∷ 58 ∷ c ∷ cs) �
 unfolding encode
 label_spells c cs = refl
 
-label_again : (c : ℕ) (read : List ℕ × List ℕ) → IsScalar c → is_first c ≡ true → IsRest read → Makes LabelAgain (Some (onto (encode c) read))
+label_again : (c : ℕ) (read : List ℕ × List ℕ) → IsScalar c → is_first c ≡ true → IsRest read
+    → Makes LabelAgain (Some (onto (encode c) read))
 label_again c read s e h = (
   record {
     whole = record {
       characters = 95 ∷ 58 ∷ c ∷ h.0.characters;
       are = and_from (scalar c) (scalars h.0.characters) s h.0.are;
-      whole = and_from (not (is_line_end c)) (no_ends h.0.characters) (no_end is_first c feed_not_first return_not_first e) h.0.whole;
+      whole = and_from (not (is_line_end c)) (no_ends h.0.characters)
+          (no_end is_first c feed_not_first return_not_first e) h.0.whole;
       spell = label_spells c h.0.characters ∙ ap (λ (t : List ℕ). 95 ∷ 58 ∷ (encode c ++ t)) h.0.spell;
       again = λ more. label_reads c (h.0.characters ++ 32 ∷ more) read.0 (32 ∷ more) e (h.0.again more);
     };
@@ -163,27 +177,34 @@ line_ends_out Label = (feed_no_label, return_no_label)
 line_ends_out Dots = (refl, refl)
 
 no_run : (class : Class) → RunAgain class []
-no_run class = record { characters = []; are = refl; whole = refl; spell = refl; again = λ next e. run_none class next e }
+no_run class =
+    record { characters = []; are = refl; whole = refl; spell = refl; again = λ next e. run_none class next e }
 
-run_more : (class : Class) (c : ℕ) (read : List ℕ × List ℕ) → IsScalar c → is_in class c ≡ true → IsRun class read → IsRun class (onto (encode c) read)
+run_more : (class : Class) (c : ℕ) (read : List ℕ × List ℕ) → IsScalar c → is_in class c ≡ true → IsRun class read
+    → IsRun class (onto (encode c) read)
 run_more class c read s e h = (
   record {
     characters = c ∷ h.0.characters;
     are = and_from (scalar c) (scalars h.0.characters) s h.0.are;
-    whole = and_from (not (is_line_end c)) (no_ends h.0.characters) (no_end (is_in class) c (line_ends_out class).0 (line_ends_out class).1 e) h.0.whole;
+    whole = and_from (not (is_line_end c)) (no_ends h.0.characters)
+        (no_end (is_in class) c (line_ends_out class).0 (line_ends_out class).1 e) h.0.whole;
     spell = ap (λ (t : List ℕ). encode c ++ t) h.0.spell;
     again = λ next f. run_cons class c (h.0.characters ++ next) e ∙ ap (onto (encode c)) (h.0.again next f);
   },
   h.1,
 )
 
-run_by : (b : Bool) (class : Class) (c : ℕ) (cs : List ℕ) → is_in class c ≡ b → scalars (c ∷ cs) ≡ true → IsRun class (run class cs) → IsRun class (run class (c ∷ cs))
-run_by true class c cs e s h = subst (IsRun class) (sym (run_cons class c cs e)) (run_more class c (run class cs) (and_parts (scalar c) (scalars cs) s).0 e h)
+run_by : (b : Bool) (class : Class) (c : ℕ) (cs : List ℕ) → is_in class c ≡ b → scalars (c ∷ cs) ≡ true
+    → IsRun class (run class cs) → IsRun class (run class (c ∷ cs))
+run_by true class c cs e s h =
+    subst (IsRun class) (sym (run_cons class c cs e))
+    (run_more class c (run class cs) (and_parts (scalar c) (scalars cs) s).0 e h)
 run_by false class c cs e s h = subst (IsRun class) (sym (run_none class (c ∷ cs) e)) (no_run class, s)
 
 run_is : (class : Class) (cs : List ℕ) → scalars cs ≡ true → IsRun class (run class cs)
 run_is class [] s = subst (IsRun class) (sym (run_none class [] refl)) (no_run class, refl)
-run_is class (c ∷ cs) s = run_by (is_in class c) class c cs refl s (run_is class cs (and_parts (scalar c) (scalars cs) s).1)
+run_is class (c ∷ cs) s =
+    run_by (is_in class c) class c cs refl s (run_is class cs (and_parts (scalar c) (scalars cs) s).1)
 
 -- a part of a tag, which reads again up to what isn't of its class
 record PartAgain (part : Class) (text : List ℕ) : Type 0 where
@@ -193,7 +214,8 @@ record PartAgain (part : Class) (text : List ℕ) : Type 0 where
   pub spell : encodes characters ≡ text
   pub again : (next : List ℕ) → begins_in part next ≡ false → tag_part part (characters ++ next) ≡ Some (text, next)
 
-some_part : (part : Class) (cs : List ℕ) (b : ℕ) (bs next : List ℕ) → run part cs ≡ (b ∷ bs, next) → tag_part part cs ≡ Some (b ∷ bs, next)
+some_part : (part : Class) (cs : List ℕ) (b : ℕ) (bs next : List ℕ) → run part cs ≡ (b ∷ bs, next)
+    → tag_part part cs ≡ Some (b ∷ bs, next)
 unfolding tag_part
 some_part part cs b bs next e = ap some_of e
 
@@ -228,25 +250,31 @@ unfolding subtags_from
 subtags_space more = refl
 
 no_subtags : SubtagsAgain []
-no_subtags = record { characters = []; are = refl; whole = refl; spell = refl; again = subtags_space; stops = λ more. refl }
+no_subtags =
+    record { characters = []; are = refl; whole = refl; spell = refl; again = subtags_space; stops = λ more. refl }
 
-two_spell : (front later text behind : List ℕ) → encodes front ≡ text → encodes later ≡ behind → encodes (front ++ later) ≡ text ++ behind
+two_spell : (front later text behind : List ℕ) → encodes front ≡ text → encodes later ≡ behind
+    → encodes (front ++ later) ≡ text ++ behind
 two_spell front later text behind e f = encodes-append front later ∙ ap₂ (λ (x y : List ℕ). x ++ y) e f
 
 hyphen_spell : (cs text : List ℕ) → encodes cs ≡ text → encodes (45 ∷ cs) ≡ 45 ∷ text
-hyphen_spell cs text e = ap (λ (t : List ℕ). t ++ encodes cs) (encode_ascii 45 (omega arith)) ∙ ap (λ (t : List ℕ). 45 ∷ t) e
+hyphen_spell cs text e = ap (λ (t : List ℕ). t ++ encodes cs) (encode_ascii 45 (omega arith))
+    ∙ ap (λ (t : List ℕ). 45 ∷ t) e
 
-subtag_then : (text : List ℕ) (read : Option (List ℕ × List ℕ)) → PartAgain Alphanumerics text → Makes SubtagsAgain read → Makes SubtagsAgain (with_front (45 ∷ text) read)
+subtag_then : (text : List ℕ) (read : Option (List ℕ × List ℕ)) → PartAgain Alphanumerics text
+    → Makes SubtagsAgain read → Makes SubtagsAgain (with_front (45 ∷ text) read)
 subtag_then text None p h = tt
 subtag_then text (Some x) p h = (
   record {
     characters = 45 ∷ (p.characters ++ h.0.characters);
     are = scalars-append p.characters h.0.characters p.are h.0.are;
     whole = no_ends-append p.characters h.0.characters p.whole h.0.whole;
-    spell = hyphen_spell (p.characters ++ h.0.characters) (text ++ x.0) (two_spell p.characters h.0.characters text x.0 p.spell h.0.spell);
+    spell = hyphen_spell (p.characters ++ h.0.characters) (text ++ x.0)
+        (two_spell p.characters h.0.characters text x.0 p.spell h.0.spell);
     again = λ more.
         ap (λ (t : List ℕ). subtags_from 0 (45 ∷ t)) (append_assoc p.characters h.0.characters (32 ∷ more))
-        ∙ subtags_cons (p.characters ++ (h.0.characters ++ 32 ∷ more)) (text, h.0.characters ++ 32 ∷ more) (p.again (h.0.characters ++ 32 ∷ more) (h.0.stops more))
+        ∙ subtags_cons (p.characters ++ (h.0.characters ++ 32 ∷ more)) (text, h.0.characters ++ 32 ∷ more)
+        (p.again (h.0.characters ++ 32 ∷ more) (h.0.stops more))
         ∙ ap (with_front (45 ∷ text)) (h.0.again more);
     stops = λ more. refl;
   },
@@ -259,9 +287,13 @@ subtags_make skip [] h = (no_subtags, refl)
 subtags_make (suc skip) (c ∷ cs) h = subtags_make skip cs (and_parts (scalar c) (scalars cs) h).1
 subtags_make zero (c ∷ cs) h =
     let tail : scalars cs ≡ true = (and_parts (scalar c) (scalars cs) h).1 in
-    makes_cond SubtagsAgain (nat_eq c 45) (tag_part Alphanumerics cs >>= λ part. with_front (45 ∷ part.0) (subtags_from (length cs - length part.1) cs)) (Some ([], c ∷ cs))
-    (λ e. makes_bind (PartAgain Alphanumerics) SubtagsAgain (tag_part Alphanumerics cs) _ (part_makes Alphanumerics cs tail) (λ part p k.
-    subtag_then part.0 (subtags_from (length cs - length part.1) cs) p (subtags_make (length cs - length part.1) cs tail)))
+    makes_cond SubtagsAgain (nat_eq c 45)
+    (tag_part Alphanumerics cs >>= λ part. with_front (45 ∷ part.0) (subtags_from (length cs - length part.1) cs))
+    (Some ([], c ∷ cs))
+    (λ e. makes_bind (PartAgain Alphanumerics) SubtagsAgain (tag_part Alphanumerics cs) _
+    (part_makes Alphanumerics cs tail) (λ part p k.
+    subtag_then part.0 (subtags_from (length cs - length part.1) cs) p
+    (subtags_make (length cs - length part.1) cs tail)))
     (λ e. (no_subtags, h))
 
 abbrev pub TagAgain : List ℕ → Type 0
@@ -271,11 +303,13 @@ no_letter : (cs : List ℕ) → begins_in Alphanumerics cs ≡ false → begins_
 no_letter [] h = refl
 no_letter (c ∷ cs) h = (or_parts (is_letter c) (is_digit c) h).0
 
-tag_reads : (cs primary middle text rest : List ℕ) → tag_part Letters cs ≡ Some (primary, middle) → subtags_from 0 middle ≡ Some (text, rest) → langtag cs ≡ Some (primary ++ text, rest)
+tag_reads : (cs primary middle text rest : List ℕ) → tag_part Letters cs ≡ Some (primary, middle)
+    → subtags_from 0 middle ≡ Some (text, rest) → langtag cs ≡ Some (primary ++ text, rest)
 unfolding langtag
 tag_reads cs primary middle text rest e f = rw (e, f) refl
 
-tag_again : (primary : List ℕ) (read : Option (List ℕ × List ℕ)) → PartAgain Letters primary → Makes SubtagsAgain read → Makes TagAgain (with_front primary read)
+tag_again : (primary : List ℕ) (read : Option (List ℕ × List ℕ)) → PartAgain Letters primary → Makes SubtagsAgain read
+    → Makes TagAgain (with_front primary read)
 tag_again primary None p h = tt
 tag_again primary (Some x) p h = (
   record {
@@ -285,8 +319,10 @@ tag_again primary (Some x) p h = (
     spell = two_spell p.characters h.0.characters primary x.0 p.spell h.0.spell;
     again = λ more.
         ap langtag (append_assoc p.characters h.0.characters (32 ∷ more))
-        ∙ tag_reads (p.characters ++ (h.0.characters ++ 32 ∷ more)) primary (h.0.characters ++ 32 ∷ more) x.0 (32 ∷ more)
-        (p.again (h.0.characters ++ 32 ∷ more) (no_letter (h.0.characters ++ 32 ∷ more) (h.0.stops more))) (h.0.again more);
+        ∙ tag_reads (p.characters ++ (h.0.characters ++ 32 ∷ more)) primary (h.0.characters ++ 32 ∷ more) x.0
+        (32 ∷ more)
+        (p.again (h.0.characters ++ 32 ∷ more) (no_letter (h.0.characters ++ 32 ∷ more) (h.0.stops more)))
+        (h.0.again more);
   },
   h.1,
 )

@@ -1,5 +1,6 @@
 -- Documents of RDF 1.1 N-Triples, sections 2 and 7: bytes that are cut into lines, each UTF-8 and of the grammar.
-use Rattle.std.specs.Prelude.{◌≡◌, ℕ, ◌+◌, ◌==◌, if◌then◌else◌, Bool, false, ◌||◌, ◌&&◌, List, [], ◌∷◌, ◌++◌, length, drop, Option, Some, None, IsSome, ⊤}
+use Rattle.std.specs.Prelude.{◌≡◌, ℕ, ◌+◌, ◌==◌, if◌then◌else◌, Bool, false, ◌||◌, ◌&&◌, List, [], ◌∷◌, ◌++◌, length}
+use Rattle.std.specs.Prelude.{drop, Option, Some, None, IsSome, ⊤}
 use Rattle.std.specs.Str.{is_utf8, chars}
 use Rattle.ntriples.specs.declared.fault.NtFault.{NtFault}
 use Rattle.ntriples.specs.declared.fault.NtFault.TheVariants.{Line, OutOfMemory}

@@ -1,6 +1,7 @@
 -- The productions of RDF 1.1 N-Triples, section 7, on characters. Each gives the value that it stands for, texts as
 -- UTF-8, and the characters behind it, and is read as long as it can be.
-use Rattle.std.specs.Prelude.{ℕ, zero, suc, ◌+◌, ◌*◌, ◌-◌, ◌==◌, nat_lt, if◌then◌else◌, Bool, true, false, ◌&&◌, ◌||◌, not, List, [], ◌∷◌, length, Option, Some, None, codes}
+use Rattle.std.specs.Prelude.{ℕ, zero, suc, ◌+◌, ◌*◌, ◌-◌, ◌==◌, nat_lt, if◌then◌else◌, Bool, true, false, ◌&&◌, ◌||◌}
+use Rattle.std.specs.Prelude.{not, List, [], ◌∷◌, length, Option, Some, None, codes}
 use Rattle.std.specs.Char.{digit_value, encode_utf8}
 use Rattle.ntriples.specs.declared.quoted.QuoteKind.{QuoteKind}
 use Rattle.ntriples.specs.declared.quoted.QuoteKind.TheVariants.{Iri, Literal}
@@ -162,7 +163,8 @@ unfoldable pub subtags_from : ℕ → List ℕ → Option (List ℕ × List ℕ)
 subtags_from skip [] = Some ([], [])
 subtags_from (suc skip) (c ∷ cs) = subtags_from skip cs
 subtags_from zero (c ∷ cs) =
-    if c == 45 then (tag_part Alphanumerics cs >>= λ part. with_front (45 ∷ part.0) (subtags_from (length cs - length part.1) cs))
+    if c == 45 then
+    (tag_part Alphanumerics cs >>= λ part. with_front (45 ∷ part.0) (subtags_from (length cs - length part.1) cs))
     else Some ([], c ∷ cs)
 
 -- LANGTAG, behind its `@`

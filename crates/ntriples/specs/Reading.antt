@@ -1,5 +1,6 @@
 -- What reading from the left gives: a value and the characters behind it, or nothing.
-use Rattle.std.specs.Prelude.{◌≡◌, ℕ, ◌==◌, if◌then◌else◌, List, [], ◌∷◌, ◌++◌, ◌||◌, Option, Some, None, Result, Ok, Err}
+use Rattle.std.specs.Prelude.{◌≡◌, ℕ, ◌==◌, if◌then◌else◌, List, [], ◌∷◌, ◌++◌, ◌||◌, Option, Some, None, Result, Ok}
+use Rattle.std.specs.Prelude.{Err}
 use Rattle.ntriples.specs.declared.fault.Refusal.{Refusal}
 use Rattle.ntriples.specs.declared.fault.Refusal.TheVariants.{Malformed, OutOfMemory}
 

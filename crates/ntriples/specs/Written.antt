@@ -1,5 +1,6 @@
 -- The text of triples in RDF 1.1 N-Triples, one line each, with as few escapes as the grammar allows.
-use Rattle.std.specs.Prelude.{◌≡◌, ℕ, ◌+◌, ◌/◌, ◌%◌, ◌==◌, nat_lt, if◌then◌else◌, List, [], ◌∷◌, ◌++◌, Option, Some, None, codes}
+use Rattle.std.specs.Prelude.{◌≡◌, ℕ, ◌+◌, ◌/◌, ◌%◌, ◌==◌, nat_lt, if◌then◌else◌, List, [], ◌∷◌, ◌++◌, Option, Some}
+use Rattle.std.specs.Prelude.{None, codes}
 use Rattle.std.specs.List.{flat_map}
 use Rattle.std.specs.Str.{bytes_eq}
 use Rattle.ntriples.specs.declared.term.Term.{Term}
@@ -47,7 +48,8 @@ term_text (Blank label) = codes "_:" ++ label
 term_text (Literal text datatype tag) = quoted_text text ++ suffix_text datatype tag
 
 unfoldable pub triple_text : Triple → List ℕ
-triple_text t = term_text t.subject ++ codes " " ++ iri_text t.predicate ++ codes " " ++ term_text t.object ++ codes " .\n"
+triple_text t = term_text t.subject ++ codes " " ++ iri_text t.predicate ++ codes " " ++ term_text t.object
+    ++ codes " .\n"
 
 -- each triple on a line
 abbrev pub document_text : List Triple → List ℕ

@@ -1,6 +1,7 @@
 //! The classes of characters of the grammar (RDF 1.1 N-Triples, section 7).
 ghost use Rattle.std.specs.Prelude.{◌≡◌};
-ghost use Rattle.ntriples.specs.Characters.{within, is_pn_chars_base, is_pn_chars_u, is_pn_chars, is_digit, is_letter, is_iri_character};
+ghost use Rattle.ntriples.specs.Characters.{within, is_pn_chars_base, is_pn_chars_u, is_pn_chars, is_digit};
+ghost use Rattle.ntriples.specs.Characters.{is_letter, is_iri_character};
 
 const PN_CHARS_BASE: [(char, char); 14] = [
     ('A', 'Z'),

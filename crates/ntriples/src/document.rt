@@ -1,8 +1,10 @@
 //! Whole documents.
-ghost use Rattle.std.specs.Prelude.{All, ◌≡◌, ◌⊎◌, ◌≤◌, ◌<◌, ℕ, List, ◌∷◌, ◌++◌, true, false, length, slice_index, drop, option_map, Ok, Err, IfOk, IfErr, IfSome};
+ghost use Rattle.std.specs.Prelude.{All, ◌≡◌, ◌⊎◌, ◌≤◌, ◌<◌, ℕ, List, ◌∷◌, ◌++◌, true, false, length, slice_index};
+ghost use Rattle.std.specs.Prelude.{drop, option_map, Ok, Err, IfOk, IfErr, IfSome};
 ghost use Rattle.ntriples.specs.declared.term.Triple.{Triple as Triples};
 ghost use Rattle.ntriples.specs.Reading.{Gives};
-ghost use Rattle.ntriples.specs.Document.{is_line_end, begins_with_feed, lines, line_of, given, lines_after, after_end, IsDocument, IsFirstBadLine, IsFault};
+ghost use Rattle.ntriples.specs.Document.{is_line_end, begins_with_feed, lines, line_of, given, lines_after};
+ghost use Rattle.ntriples.specs.Document.{after_end, IsDocument, IsFirstBadLine, IsFault};
 ghost use Rattle.ntriples.specs.Written.{CanBeRead};
 
 use crate::fault::{NtFault, Refusal};

@@ -2,7 +2,8 @@
 ghost use Rattle.std.specs.Prelude.{◌≡◌, ◌<◌, ◌∷◌, ◌++◌, true, false, length, string_bytes, OnOk, IfOk, IfNone, IfSome};
 ghost use Rattle.std.specs.Str.{chars};
 ghost use Rattle.ntriples.specs.Reading.{Gives, onto, with_front, character, behind};
-ghost use Rattle.ntriples.specs.Grammar.{is_in, begins_in, tag_part, run, some_of, subtags_from, langtag, label_rest, blank_node_label};
+ghost use Rattle.ntriples.specs.Grammar.{is_in, begins_in, tag_part, run, some_of, subtags_from, langtag, label_rest};
+ghost use Rattle.ntriples.specs.Grammar.{blank_node_label};
 
 use crate::characters::{is_digit, is_letter, is_pn_chars, is_pn_chars_u};
 use crate::fault::Refusal;

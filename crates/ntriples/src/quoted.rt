@@ -2,7 +2,8 @@
 ghost use Rattle.std.specs.Prelude.{◌≡◌, ◌<◌, ◌^◌, IfOk};
 ghost use Rattle.std.specs.Str.{chars};
 ghost use Rattle.ntriples.specs.Reading.{Gives, character};
-ghost use Rattle.ntriples.specs.Grammar.{hex, hex4, scalar, short_code, long_code, uchar, echar, literal_escape, closing, is_plain, escape, quoted_character, quoted, iriref};
+ghost use Rattle.ntriples.specs.Grammar.{hex, hex4, scalar, short_code, long_code, uchar, echar, literal_escape};
+ghost use Rattle.ntriples.specs.Grammar.{closing, is_plain, escape, quoted_character, quoted, iriref};
 
 use crate::characters::is_iri_character;
 use crate::fault::Refusal;

@@ -2,7 +2,8 @@
 ghost use Rattle.std.specs.Prelude.{◌≡◌};
 ghost use Rattle.std.specs.Str.{chars};
 ghost use Rattle.ntriples.specs.Reading.{Gives, character, skip_blanks};
-ghost use Rattle.ntriples.specs.Grammar.{datatype, literal_suffix, literal, subject, object, triple, is_end, triple_alone, line, quoted, xsd_string, rdf_lang_string};
+ghost use Rattle.ntriples.specs.Grammar.{datatype, literal_suffix, literal, subject, object, triple, is_end};
+ghost use Rattle.ntriples.specs.Grammar.{triple_alone, line, quoted, xsd_string, rdf_lang_string};
 
 use crate::fault::Refusal;
 use crate::names::{blank_node_label, langtag};

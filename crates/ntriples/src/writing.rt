@@ -2,7 +2,8 @@
 ghost use Rattle.std.specs.Prelude.{◌≡◌, ◌<◌, ◌++◌, List, All, OnOk, IfOk};
 ghost use Rattle.std.specs.List.{flat_map};
 ghost use Rattle.ntriples.specs.Document.{IsDocument};
-ghost use Rattle.ntriples.specs.Written.{upper_digit, code_escape, iri_byte, literal_byte, iri_text, quoted_text, typed_text, suffix_text, term_text, triple_text, document_text, CanBeRead};
+ghost use Rattle.ntriples.specs.Written.{upper_digit, code_escape, iri_byte, literal_byte, iri_text, quoted_text};
+ghost use Rattle.ntriples.specs.Written.{typed_text, suffix_text, term_text, triple_text, document_text, CanBeRead};
 
 use crate::characters::is_iri_character;
 use crate::term::{Term, Triple};

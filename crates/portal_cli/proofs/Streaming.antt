@@ -10,11 +10,14 @@ record StandsAt (key : List ℕ) (place : ℕ) (generator : ChaCha) : Type 0 whe
   pub at_place : generator.word_pos ≡ place
 
 -- It gives the word there, and then stands at the next place.
-stream_word-next : (key : List ℕ) (place : ℕ) (old new : ChaCha) (word : ℕ) → StandsAt key place old → place + 1 < 2 ^ 68 → (word, new) ≡ next_word 10 old → (word ≡ stream_word key place) × StandsAt key (place + 1) new
+stream_word-next : (key : List ℕ) (place : ℕ) (old new : ChaCha) (word : ℕ) → StandsAt key place old
+    → place + 1 < 2 ^ 68 → (word, new) ≡ next_word 10 old
+    → (word ≡ stream_word key place) × StandsAt key (place + 1) new
 stream_word-next key place old new word stands below e =
     let after = ap (λ p. p.1) e in
     let next : (place + 1) % 2 ^ 68 ≡ place + 1 = omega arith in (
-      ap (λ p. p.0) e ∙ ap (λ k. word_at 10 k old.stream old.word_pos) stands.same_key ∙ ap (λ s. word_at 10 key s old.word_pos) stands.first_stream ∙ ap (λ p. word_at 10 key 0 p) stands.at_place,
+      ap (λ p. p.0) e ∙ ap (λ k. word_at 10 k old.stream old.word_pos) stands.same_key
+          ∙ ap (λ s. word_at 10 key s old.word_pos) stands.first_stream ∙ ap (λ p. word_at 10 key 0 p) stands.at_place,
       record {
         same_key = ap (λ g. g.key) after ∙ stands.same_key;
         first_stream = ap (λ g. g.stream) after ∙ stands.first_stream;
@@ -22,8 +25,10 @@ stream_word-next key place old new word stands below e =
       },
     )
 
-pub stream_number-words : (count : ℕ) (g0 g1 g2 g3 g4 : ChaCha) (first second third fourth : ℕ) → count < 2 ^ 64 - 1 → g0.stream ≡ 0 → g0.word_pos ≡ 4 * count
-    → (first, g1) ≡ next_word 10 g0 → (second, g2) ≡ next_word 10 g1 → (third, g3) ≡ next_word 10 g2 → (fourth, g4) ≡ next_word 10 g3
+pub stream_number-words : (count : ℕ) (g0 g1 g2 g3 g4 : ChaCha) (first second third fourth : ℕ) → count < 2 ^ 64 - 1
+    → g0.stream ≡ 0 → g0.word_pos ≡ 4 * count
+    → (first, g1) ≡ next_word 10 g0 → (second, g2) ≡ next_word 10 g1 → (third, g3) ≡ next_word 10 g2
+    → (fourth, g4) ≡ next_word 10 g3
     → number_of_words first second third fourth ≡ stream_number g0.key count
 unfolding stream_number
 stream_number-words count g0 g1 g2 g3 g4 first second third fourth below stream place e1 e2 e3 e4 =
@@ -38,5 +43,7 @@ stream_number-words count g0 g1 g2 g3 g4 first second third fourth below stream 
     let fourth_word = four.0 ∙ ap (λ p. stream_word g0.key p) at_fourth in
     ap (λ w. number_of_words w second third fourth) one.0
     ∙ ap (λ w. number_of_words (stream_word g0.key (4 * count)) w third fourth) two.0
-    ∙ ap (λ w. number_of_words (stream_word g0.key (4 * count)) (stream_word g0.key (4 * count + 1)) w fourth) third_word
-    ∙ ap (λ w. number_of_words (stream_word g0.key (4 * count)) (stream_word g0.key (4 * count + 1)) (stream_word g0.key (4 * count + 2)) w) fourth_word
+    ∙ ap (λ w. number_of_words (stream_word g0.key (4 * count)) (stream_word g0.key (4 * count + 1)) w fourth)
+    third_word
+    ∙ ap (λ w. number_of_words (stream_word g0.key (4 * count)) (stream_word g0.key (4 * count + 1))
+    (stream_word g0.key (4 * count + 2)) w) fourth_word

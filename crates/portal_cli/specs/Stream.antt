@@ -1,4 +1,5 @@
--- Numbers of 128 bits from the key stream of ChaCha20 (RFC 8439, section 2.3), for a key of eight words and the nonce 0.
+-- Numbers of 128 bits from the key stream of ChaCha20 (RFC 8439, section 2.3), for a key of eight words and the nonce
+-- 0.
 use Rattle.std.specs.Prelude.{ℕ, zero, suc, ◌+◌, ◌*◌, ◌^◌, List, [], ◌∷◌, ◌++◌}
 use Rattle.rand_chacha.specs.ChaCha.{word_at}
 

@@ -76,13 +76,15 @@ pub fn run<S: Source, O: Sink, C: Clock, N: Nonces>(
     ensures untouched { result ≡ Status.Words → (input.new ≡ input.old) × (output.new ≡ output.old)
         × (clock.new ≡ clock.old) × (nonces.new ≡ nonces.old) }
 
-    // Status 0: where input tells, it was read to its end, as many moments and numbers were drawn as the script has lines
-    // that draw, and output took the transcript from the stated portal.
-    ensures done { result ≡ Status.Done → (whole : List ℕ) → S.to_come input.old ≡ Some whole → PlaysAll stated_state whole
+    // Status 0: where input tells, it was read to its end, as many moments and numbers were drawn as the script has
+    // lines that draw, and output took the transcript from the stated portal.
+    ensures done { result ≡ Status.Done → (whole : List ℕ) → S.to_come input.old ≡ Some whole
+        → PlaysAll stated_state whole
         (devices (S.to_come input.old) (O.taken output.old) (C.given clock.old) (N.given nonces.old))
         (devices (S.to_come input.new) (O.taken output.new) (C.given clock.new) (N.given nonces.new)) }
     // Statuses 3, 4, 6 and 9: what was drawn and what output took belong to one place in the script.
-    ensures cut { IsCut result → (whole : List ℕ) → S.to_come input.old ≡ Some whole → PlaysPart (most_begun result) stated_state whole
+    ensures cut { IsCut result → (whole : List ℕ) → S.to_come input.old ≡ Some whole
+        → PlaysPart (most_begun result) stated_state whole
         (devices (S.to_come input.old) (O.taken output.old) (C.given clock.old) (N.given nonces.old))
         (devices (S.to_come input.new) (O.taken output.new) (C.given clock.new) (N.given nonces.new)) }
 

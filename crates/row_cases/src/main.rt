@@ -30,7 +30,8 @@ fn push_row(alloc: Global, told: &mut String, cells: &[Cell]) -> Result<(), Allo
     told.push(' ')
 }
 
-/// Whether two more calls answer what they should behind the last answer: none behind the end, and `Spent` behind a fault.
+/// Whether two more calls answer what they should behind the last answer: none behind the end, and `Spent` behind a
+/// fault.
 fn is_over<S: Source>(loader: &mut Loader<S>, is_at_end: bool) -> bool {
     for _ in 0..2u8 {
         let holds = match loader.next() {

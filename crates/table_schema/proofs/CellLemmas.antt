@@ -1,5 +1,7 @@
 -- Cells that texts and values are read as, and printed cells that are read back.
-use Rattle.std.proofs.Common.{◌≡◌, ℕ, zero, suc, ◌*◌, ◌^◌, ◌<◌, ◌≤◌, true, false, ◌&&◌, leb, ltb, refl, sym, ap, ◌∙◌, subst, arith, rules, Bool, List, length, take, drop, get_or, ℤ, pos, negsuc, ◌+ℤ◌, ◌-ℤ◌, ◌*ℤ◌}
+use Rattle.std.proofs.Common.{◌≡◌, ℕ, zero, suc, ◌*◌, ◌^◌, ◌<◌, ◌≤◌, true, false, ◌&&◌, leb, ltb, refl, sym, ap, ◌∙◌}
+use Rattle.std.proofs.Common.{subst, arith, rules, Bool, List, length, take, drop, get_or, ℤ, pos, negsuc, ◌+ℤ◌, ◌-ℤ◌}
+use Rattle.std.proofs.Common.{◌*ℤ◌}
 use Rattle.std.specs.Prelude.{Option, Some, None, Result, Ok, Err, IfOk, IfErr, option_map, unsigned_abs, codes}
 use Rattle.std.specs.Str.{chars}
 use Rattle.std.proofs.lemmas.Bool.{and_parts, ltb-true, leb-true, le-leb}
@@ -19,16 +21,21 @@ use Rattle.table_schema.specs.declared.form.Form.TheVariants as form
 use Rattle.table_schema.specs.declared.form.Kind.{Kind}
 use Rattle.table_schema.specs.declared.form.Kind.TheVariants as kind
 use Rattle.lexical_forms.specs.declared.form.NumberForm.{NumberForm}
-use Rattle.table_schema.specs.Calendar.{date_reading, time_reading, year_reading, yearmonth_reading, stamp_reading, zoned_time_reading, is_time_mark, has_month, seconds_of}
+use Rattle.table_schema.specs.Calendar.{date_reading, time_reading, year_reading, yearmonth_reading, stamp_reading}
+use Rattle.table_schema.specs.Calendar.{zoned_time_reading, is_time_mark, has_month, seconds_of}
 use Rattle.table_schema.specs.Constraint.{constraint_fault}
 use Rattle.table_schema.specs.Field.{FieldValue}
 use Rattle.lexical_forms.specs.Digits.{is_digits, spelled, is_negative, unsigned, signed}
 use Rattle.table_schema.specs.Form.{kind_of}
-use Rattle.lexical_forms.specs.Number.{is_i64, i64_only, whole_reading, integer_reading, parts_of, is_number, digits_of, exponent_of, scaled, in_size, billionths_of, unsigned_reading, bare_reading, number_reading, bare_part}
+use Rattle.lexical_forms.specs.Number.{is_i64, i64_only, whole_reading, integer_reading, parts_of, is_number}
+use Rattle.lexical_forms.specs.Number.{digits_of, exponent_of, scaled, in_size, billionths_of, unsigned_reading}
+use Rattle.lexical_forms.specs.Number.{bare_reading, number_reading, bare_part}
 use Rattle.table_schema.specs.Printed.{IsValue, cell_text, cell_value}
-use Rattle.table_schema.specs.Reading.{text_reading, whole_cell, truth_cell, value_in, value_reading, default_form, kind_of_cell, kept, record_reading, record_reading_in, Accepts, IsFault}
+use Rattle.table_schema.specs.Reading.{text_reading, whole_cell, truth_cell, value_in, value_reading, default_form}
+use Rattle.table_schema.specs.Reading.{kind_of_cell, kept, record_reading, record_reading_in, Accepts, IsFault}
 use Rattle.table_schema.specs.Truth.{truth_reading}
-use Rattle.table_schema.proofs.CalendarLemmas.{date_reading-IsDay, time_reading-bound, zoned_time_reading-bound, IsMoment-seconds_of}
+use Rattle.table_schema.proofs.CalendarLemmas.{date_reading-IsDay, time_reading-bound, zoned_time_reading-bound}
+use Rattle.table_schema.proofs.CalendarLemmas.{IsMoment-seconds_of}
 use Rattle.lexical_forms.proofs.ReadingLemmas.{map-some, then-some, if-some}
 use Rattle.lexical_forms.proofs.NumberTextLemmas.{number_text-back}
 use Rattle.table_schema.proofs.PrintLemmas.{date_text-back, clock_text-back, stamp_reading-back, year_month_text-back}
@@ -45,21 +52,27 @@ integer_reading-range : (bare : Bool) (cs : List ℕ) (z : ℤ) → integer_read
 unfolding whole_reading
 integer_reading-range bare cs z e =
     let digits = bare_part bare None cs in
-    i64_only-some (signed (is_negative digits) (spelled (unsigned digits))) z (if-some (is_digits (unsigned digits)) (i64_only (signed (is_negative digits) (spelled (unsigned digits)))) z e).1
+    i64_only-some (signed (is_negative digits) (spelled (unsigned digits))) z
+    (if-some (is_digits (unsigned digits)) (i64_only (signed (is_negative digits) (spelled (unsigned digits)))) z
+    e).1
 
 signed-size : (negative : Bool) (n : ℕ) → unsigned_abs (signed negative n) ≡ n
 signed-size true zero = refl
 signed-size true (suc n) = refl
 signed-size false n = refl
 
-number_reading-size : (spelling : NumberForm) (cs : List ℕ) (z : ℤ) → number_reading spelling cs ≡ Some z → unsigned_abs z < 10 ^ 27
+number_reading-size : (spelling : NumberForm) (cs : List ℕ) (z : ℤ) → number_reading spelling cs ≡ Some z
+    → unsigned_abs z < 10 ^ 27
 unfolding bare_reading
 number_reading-size spelling cs z e =
     let text = bare_part spelling.bare (Some spelling.decimal) cs in
     let parts = parts_of spelling (unsigned text) in
     let read = map-some (signed (is_negative text)) (unsigned_reading spelling parts) z e in
     let size = (if-some (is_number spelling parts) (billionths_of parts) read.0 read.1).1 in
-    let scaled_size = then-some in_size (scaled (spelled (digits_of parts)) (pos 9 +ℤ exponent_of parts.exponent -ℤ pos (length parts.fraction))) read.0 size in
+    let scaled_size =
+    then-some in_size
+    (scaled (spelled (digits_of parts)) (pos 9 +ℤ exponent_of parts.exponent -ℤ pos (length parts.fraction)))
+    read.0 size in
     let small = if-some (ltb scaled_size.0 (10 ^ 27)) (Some scaled_size.0) read.0 scaled_size.2 in
     let same : scaled_size.0 ≡ read.0 = cc (small.1) in
     let total : unsigned_abs z ≡ read.0 = ap unsigned_abs (sym read.2) ∙ signed-size (is_negative text) read.0 in
@@ -69,11 +82,15 @@ stamp_reading-IsMoment : (text : List ℕ) (z : ℤ) → stamp_reading text ≡ 
 unfolding stamp_reading
 stamp_reading-IsMoment text z e =
     let read = (if-some (is_time_mark (get_or text 10 0)) _ z e).1 in
-    let day = then-some (λ day. option_map (seconds_of day) (zoned_time_reading (drop 11 text))) (date_reading (take 10 text)) z read in
+    let day = then-some (λ day. option_map (seconds_of day) (zoned_time_reading (drop 11 text)))
+    (date_reading (take 10 text)) z read in
     let second = map-some (seconds_of day.0) (zoned_time_reading (drop 11 text)) z day.2 in
-    subst IsMoment second.2 (IsMoment-seconds_of day.0 second.0 (date_reading-IsDay (take 10 text) day.0 day.1) (zoned_time_reading-bound (drop 11 text) second.0 second.1))
+    subst IsMoment second.2
+    (IsMoment-seconds_of day.0 second.0 (date_reading-IsDay (take 10 text) day.0 day.1)
+    (zoned_time_reading-bound (drop 11 text) second.0 second.1))
 
-year_in-small : (text : List ℕ) → (get_or text 0 0 ≤ 57) → (get_or text 1 0 ≤ 57) → (get_or text 2 0 ≤ 57) → (get_or text 3 0 ≤ 57) → year_in text ≤ 9999
+year_in-small : (text : List ℕ) → (get_or text 0 0 ≤ 57) → (get_or text 1 0 ≤ 57) → (get_or text 2 0 ≤ 57)
+    → (get_or text 3 0 ≤ 57) → year_in text ≤ 9999
 year_in-small text a b c d = omega arith
 
 year_reading-bound : (text : List ℕ) (year : ℕ) → year_reading text ≡ Some year → year ≤ 9999
@@ -82,9 +99,14 @@ year_reading-bound text year e =
     let read = if-some (fits_form (codes "0000") text) (Some (year_in text)) year e in
     let digit = fits_form-digit (codes "0000") text in
     let same : year_in text ≡ year = cc (read.1) in
-    omega (arith, year_in-small text (digit 0 read.0 refl).2 (digit 1 read.0 refl).2 (digit 2 read.0 refl).2 (digit 3 read.0 refl).2)
+    omega (
+      arith,
+      year_in-small text (digit 0 read.0 refl).2 (digit 1 read.0 refl).2 (digit 2 read.0 refl).2
+          (digit 3 read.0 refl).2,
+    )
 
-yearmonth_reading-bounds : (text : List ℕ) (m : ℕ × ℕ) → yearmonth_reading text ≡ Some m → (m.0 ≤ 9999) × (1 ≤ m.1) × (m.1 ≤ 12)
+yearmonth_reading-bounds : (text : List ℕ) (m : ℕ × ℕ) → yearmonth_reading text ≡ Some m
+    → (m.0 ≤ 9999) × (1 ≤ m.1) × (m.1 ≤ 12)
 unfolding yearmonth_reading
 yearmonth_reading-bounds text m e =
     let made : ℕ × ℕ = (year_in text, number_at 5 text) in
@@ -93,8 +115,10 @@ yearmonth_reading-bounds text m e =
     let month = and_parts (leb 1 (number_at 5 text)) (leb (number_at 5 text) 12) named.1 in
     let digit = fits_form-digit (codes "0000-00") text in
     let same : made ≡ m = cc (read.1) in
-    let year = year_in-small text (digit 0 named.0 refl).2 (digit 1 named.0 refl).2 (digit 2 named.0 refl).2 (digit 3 named.0 refl).2 in
-    subst (λ (x : ℕ × ℕ). (x.0 ≤ 9999) × (1 ≤ x.1) × (x.1 ≤ 12)) same (year, leb-true 1 (number_at 5 text) month.0, leb-true (number_at 5 text) 12 month.1)
+    let year = year_in-small text (digit 0 named.0 refl).2 (digit 1 named.0 refl).2 (digit 2 named.0 refl).2
+    (digit 3 named.0 refl).2 in
+    subst (λ (x : ℕ × ℕ). (x.0 ≤ 9999) × (1 ≤ x.1) × (x.1 ≤ 12)) same
+    (year, leb-true 1 (number_at 5 text) month.0, leb-true (number_at 5 text) 12 month.1)
 
 -- ---- cells in the range of their types
 
@@ -134,10 +158,12 @@ text_reading-IsOf form.Text text c e =
     subst (IsOf kind.Text) same (record { fits = tt; kind = refl })
 text_reading-IsOf (form.Integer bare) text c e =
     let read = map-some cell.Int (integer_reading bare (chars text)) c e in
-    subst (IsOf kind.Integer) read.2 (record { fits = integer_reading-range bare (chars text) read.0 read.1; kind = refl })
+    subst (IsOf kind.Integer) read.2
+    (record { fits = integer_reading-range bare (chars text) read.0 read.1; kind = refl })
 text_reading-IsOf (form.Number spelling) text c e =
     let read = map-some cell.Number (number_reading spelling (chars text)) c e in
-    subst (IsOf kind.Number) read.2 (record { fits = number_reading-size spelling (chars text) read.0 read.1; kind = refl })
+    subst (IsOf kind.Number) read.2
+    (record { fits = number_reading-size spelling (chars text) read.0 read.1; kind = refl })
 text_reading-IsOf (form.Boolean truths) text c e =
     let read = map-some cell.Truth (truth_reading truths.true_values truths.false_values text) c e in
     subst (IsOf kind.Boolean) read.2 (record { fits = tt; kind = refl })
@@ -170,7 +196,8 @@ kind_of-default_form kind.YearMonth = refl
 
 billion-size : (z : ℤ) → unsigned_abs z < 10 ^ 18 → unsigned_abs (z *ℤ pos (10 ^ 9)) < 10 ^ 27
 billion-size (pos n) h = omega arith
-billion-size (negsuc n) h = let size : unsigned_abs (negsuc n *ℤ pos (10 ^ 9)) ≡ suc n * 10 ^ 9 = signed-size true (suc n * 10 ^ 9) in omega arith
+billion-size (negsuc n) h = let size : unsigned_abs (negsuc n *ℤ pos (10 ^ 9)) ≡ suc n * 10 ^ 9 =
+    signed-size true (suc n * 10 ^ 9) in omega arith
 
 whole_cell-IsOf : (k : Kind) (z : ℤ) (c : Cell) → whole_cell k z ≡ Some c → IsOf k c
 whole_cell-IsOf kind.Integer z c e =
@@ -179,7 +206,8 @@ whole_cell-IsOf kind.Integer z c e =
 whole_cell-IsOf kind.Number z c e =
     let read = if-some (ltb (unsigned_abs z) (10 ^ 18)) (Some (cell.Number (z *ℤ pos (10 ^ 9)))) c e in
     let same : cell.Number (z *ℤ pos (10 ^ 9)) ≡ c = cc (read.1) in
-    subst (IsOf kind.Number) same (record { fits = billion-size z (ltb-true (unsigned_abs z) (10 ^ 18) read.0); kind = refl })
+    subst (IsOf kind.Number) same
+    (record { fits = billion-size z (ltb-true (unsigned_abs z) (10 ^ 18) read.0); kind = refl })
 whole_cell-IsOf kind.Year (pos n) c e =
     let read = if-some (leb n 9999) (Some (cell.Year n)) c e in
     let same : cell.Year n ≡ c = cc (read.1) in
@@ -209,7 +237,8 @@ value_in-IsOf : (k : Kind) (value : Json-F Json) (c : Cell) → value_in k value
 value_in-IsOf k Json-F.Null c e = cc
 value_in-IsOf k (Json-F.Truth b) c e = truth_cell-IsOf k b c e
 value_in-IsOf k (Json-F.Whole z) c e = whole_cell-IsOf k z c e
-value_in-IsOf k (Json-F.Text text) c e = subst (λ (x : Kind). IsOf x c) (kind_of-default_form k) (text_reading-IsOf (default_form k) text c e)
+value_in-IsOf k (Json-F.Text text) c e =
+    subst (λ (x : Kind). IsOf x c) (kind_of-default_form k) (text_reading-IsOf (default_form k) text c e)
 value_in-IsOf k (Json-F.List items) c e = cc
 value_in-IsOf k (Json-F.Map entries) c e = cc
 
@@ -222,18 +251,34 @@ value_reading-IsOf k value c e = value_in-IsOf k (out-Json value) c e
 pub cell_value-back : (k : Kind) (c : Cell) → Fits c → kind_of_cell c ≡ Some k → value_reading k (cell_value c) ≡ Some c
 unfolding cell_text out-Json denote.Hole.Carrier.out
 cell_value-back k cell.Null h e = cc
-cell_value-back k (cell.Text text) h e = let same : kind.Text ≡ k = cc in subst (λ (x : Kind). value_reading x (cell_value (cell.Text text)) ≡ Some (cell.Text text)) same refl
-cell_value-back k (cell.Int z) h e = let same : kind.Integer ≡ k = cc in subst (λ (x : Kind). value_reading x (cell_value (cell.Int z)) ≡ Some (cell.Int z)) same (rw h refl)
-cell_value-back k (cell.Number z) h e = let same : kind.Number ≡ k = cc in subst (λ (x : Kind). value_reading x (cell_value (cell.Number z)) ≡ Some (cell.Number z)) same (ap (option_map cell.Number) (number_text-back z h))
-cell_value-back k (cell.Truth b) h e = let same : kind.Boolean ≡ k = cc in subst (λ (x : Kind). value_reading x (cell_value (cell.Truth b)) ≡ Some (cell.Truth b)) same refl
-cell_value-back k (cell.Date day) h e = let same : kind.Date ≡ k = cc in subst (λ (x : Kind). value_reading x (cell_value (cell.Date day)) ≡ Some (cell.Date day)) same (ap (option_map cell.Date) (date_text-back day h))
-cell_value-back k (cell.Time second) h e = let same : kind.Time ≡ k = cc in subst (λ (x : Kind). value_reading x (cell_value (cell.Time second)) ≡ Some (cell.Time second)) same (ap (option_map cell.Time) (clock_text-back second h))
-cell_value-back k (cell.Stamp seconds) h e = let same : kind.Datetime ≡ k = cc in subst (λ (x : Kind). value_reading x (cell_value (cell.Stamp seconds)) ≡ Some (cell.Stamp seconds)) same (ap (option_map cell.Stamp) (stamp_reading-back seconds h))
-cell_value-back k (cell.Year year) h e = let same : kind.Year ≡ k = cc in let small : leb year 9999 ≡ true = le-leb year 9999 h in subst (λ (x : Kind). value_reading x (cell_value (cell.Year year)) ≡ Some (cell.Year year)) same (rw small refl)
-cell_value-back k (cell.YearMonth year month) h e = let same : kind.YearMonth ≡ k = cc in subst (λ (x : Kind). value_reading x (cell_value (cell.YearMonth year month)) ≡ Some (cell.YearMonth year month)) same (ap (option_map (λ (m : ℕ × ℕ). cell.YearMonth m.0 m.1)) (year_month_text-back year month h.0 h.1 h.2))
+cell_value-back k (cell.Text text) h e = let same : kind.Text ≡ k = cc in
+    subst (λ (x : Kind). value_reading x (cell_value (cell.Text text)) ≡ Some (cell.Text text)) same refl
+cell_value-back k (cell.Int z) h e = let same : kind.Integer ≡ k = cc in
+    subst (λ (x : Kind). value_reading x (cell_value (cell.Int z)) ≡ Some (cell.Int z)) same (rw h refl)
+cell_value-back k (cell.Number z) h e = let same : kind.Number ≡ k = cc in
+    subst (λ (x : Kind). value_reading x (cell_value (cell.Number z)) ≡ Some (cell.Number z)) same
+    (ap (option_map cell.Number) (number_text-back z h))
+cell_value-back k (cell.Truth b) h e = let same : kind.Boolean ≡ k = cc in
+    subst (λ (x : Kind). value_reading x (cell_value (cell.Truth b)) ≡ Some (cell.Truth b)) same refl
+cell_value-back k (cell.Date day) h e = let same : kind.Date ≡ k = cc in
+    subst (λ (x : Kind). value_reading x (cell_value (cell.Date day)) ≡ Some (cell.Date day)) same
+    (ap (option_map cell.Date) (date_text-back day h))
+cell_value-back k (cell.Time second) h e = let same : kind.Time ≡ k = cc in
+    subst (λ (x : Kind). value_reading x (cell_value (cell.Time second)) ≡ Some (cell.Time second)) same
+    (ap (option_map cell.Time) (clock_text-back second h))
+cell_value-back k (cell.Stamp seconds) h e = let same : kind.Datetime ≡ k = cc in
+    subst (λ (x : Kind). value_reading x (cell_value (cell.Stamp seconds)) ≡ Some (cell.Stamp seconds)) same
+    (ap (option_map cell.Stamp) (stamp_reading-back seconds h))
+cell_value-back k (cell.Year year) h e = let same : kind.Year ≡ k = cc in let small : leb year 9999 ≡ true =
+    le-leb year 9999 h in subst (λ (x : Kind). value_reading x (cell_value (cell.Year year)) ≡ Some (cell.Year year))
+    same (rw small refl)
+cell_value-back k (cell.YearMonth year month) h e = let same : kind.YearMonth ≡ k = cc in
+    subst (λ (x : Kind). value_reading x (cell_value (cell.YearMonth year month)) ≡ Some (cell.YearMonth year month))
+    same (ap (option_map (λ (m : ℕ × ℕ). cell.YearMonth m.0 m.1)) (year_month_text-back year month h.0 h.1 h.2))
 
 -- A cell that a value is read as is read again from its own value.
-pub value_reading-cell_value : (k : Kind) (value : Json) (c : Cell) → value_reading k value ≡ Some c → value_reading k (cell_value c) ≡ Some c
+pub value_reading-cell_value : (k : Kind) (value : Json) (c : Cell) → value_reading k value ≡ Some c
+    → value_reading k (cell_value c) ≡ Some c
 value_reading-cell_value k value c e =
     let of = value_reading-IsOf k value c e in
     cell_value-back k c of.fits of.kind
@@ -244,23 +289,32 @@ value_reading-IsValue k value c e = Fits-IsValue c (value_reading-IsOf k value c
 
 -- ---- in a field
 
-text_record : (field : FieldValue) (text : List ℕ) → record_reading field (json.Text text) ≡ kept field.constraints (value_reading (kind_of field.form) (json.Text text))
+text_record : (field : FieldValue) (text : List ℕ)
+    → record_reading field (json.Text text)
+    ≡ kept field.constraints (value_reading (kind_of field.form) (json.Text text))
 unfolding out-Json denote.Hole.Carrier.out
 text_record field text = refl
 
-kept-some : (constraints : Constraints) (c : Cell) → constraint_fault constraints c ≡ None → kept constraints (Some c) ≡ Ok c
+kept-some : (constraints : Constraints) (c : Cell) → constraint_fault constraints c ≡ None
+    → kept constraints (Some c) ≡ Ok c
 kept-some constraints c e = rw e refl
 
 -- a cell whose JSON value is a text
 abbrev pub IsWritten : Cell → List ℕ → Type 0
-IsWritten c text = (json.Text text ≡ cell_value c) × ((field : FieldValue) → Accepts field c → record_reading field (json.Text text) ≡ Ok c)
+IsWritten c text = (json.Text text ≡ cell_value c) × ((field : FieldValue) → Accepts field c
+    → record_reading field (json.Text text) ≡ Ok c)
 
-written : (c : Cell) (text : List ℕ) → Fits c → json.Text text ≡ cell_value c → (field : FieldValue) → (kind_of_cell c ≡ Some (kind_of field.form)) × (constraint_fault field.constraints c ≡ None) → record_reading field (json.Text text) ≡ Ok c
+written : (c : Cell) (text : List ℕ) → Fits c → json.Text text ≡ cell_value c → (field : FieldValue)
+    → (kind_of_cell c ≡ Some (kind_of field.form)) × (constraint_fault field.constraints c ≡ None)
+    → record_reading field (json.Text text) ≡ Ok c
 written c text h same field accepts =
     text_record field text ∙ ap (λ v. kept field.constraints (value_reading (kind_of field.form) v)) same
-    ∙ ap (kept field.constraints) (cell_value-back (kind_of field.form) c h accepts.0) ∙ kept-some field.constraints c accepts.1
+    ∙ ap (kept field.constraints) (cell_value-back (kind_of field.form) c h accepts.0)
+    ∙ kept-some field.constraints c accepts.1
 
-pub text_cell : (c : Cell) (text : List ℕ) → (c ≡ cell.Null → ⊥) → ((z : ℤ) → c ≡ cell.Int z → ⊥) → ((b : Bool) → c ≡ cell.Truth b → ⊥) → ((year : ℕ) → c ≡ cell.Year year → ⊥) → IsValue c → text ≡ cell_text c → IsWritten c text
+pub text_cell : (c : Cell) (text : List ℕ) → (c ≡ cell.Null → ⊥) → ((z : ℤ) → c ≡ cell.Int z → ⊥)
+    → ((b : Bool) → c ≡ cell.Truth b → ⊥) → ((year : ℕ) → c ≡ cell.Year year → ⊥) → IsValue c → text ≡ cell_text c
+    → IsWritten c text
 text_cell cell.Null text a b d f h e = absurd (a refl)
 text_cell (cell.Int z) text a b d f h e = absurd (b z refl)
 text_cell (cell.Truth t) text a b d f h e = absurd (d t refl)
@@ -270,7 +324,8 @@ text_cell (cell.Number z) text a b d f h e = (ap json.Text e, written (cell.Numb
 text_cell (cell.Date day) text a b d f h e = (ap json.Text e, written (cell.Date day) text h (ap json.Text e))
 text_cell (cell.Time second) text a b d f h e = (ap json.Text e, written (cell.Time second) text h (ap json.Text e))
 text_cell (cell.Stamp seconds) text a b d f h e = (ap json.Text e, written (cell.Stamp seconds) text h (ap json.Text e))
-text_cell (cell.YearMonth year month) text a b d f h e = (ap json.Text e, written (cell.YearMonth year month) text h (ap json.Text e))
+text_cell (cell.YearMonth year month) text a b d f h e =
+    (ap json.Text e, written (cell.YearMonth year month) text h (ap json.Text e))
 
 kept-same : (constraints : Constraints) (c read : Cell) → kept constraints (Some c) ≡ Ok read → c ≡ read
 kept-same constraints c read e = by_fault (constraint_fault constraints c) refl
@@ -280,25 +335,31 @@ kept-same constraints c read e = by_fault (constraint_fault constraints c) refl
     by_fault (Some fault) some = let refused : kept constraints (Some c) ≡ Err fault = rw some refl in cc
 
 -- What is kept is a value, where what was read is one.
-pub kept-IsValue : (result : Result Cell CellError) (constraints : Constraints) (read : Option Cell) → IfOk result (λ c. kept constraints read ≡ Ok c) → ((c : Cell) → read ≡ Some c → IsValue c) → IfOk result IsValue
+pub kept-IsValue : (result : Result Cell CellError) (constraints : Constraints) (read : Option Cell)
+    → IfOk result (λ c. kept constraints read ≡ Ok c) → ((c : Cell) → read ≡ Some c → IsValue c) → IfOk result IsValue
 kept-IsValue (Err error) constraints read h values = tt
 kept-IsValue (Ok c) constraints None h values = cc
-kept-IsValue (Ok c) constraints (Some found) h values = subst IsValue (kept-same constraints found c h) (values found refl)
+kept-IsValue (Ok c) constraints (Some found) h values =
+    subst IsValue (kept-same constraints found c h) (values found refl)
 
-pub text_reading-IsValue : (f : Form) (text : List ℕ) (read : Option Cell) → read ≡ text_reading f text → (c : Cell) → read ≡ Some c → IsValue c
+pub text_reading-IsValue : (f : Form) (text : List ℕ) (read : Option Cell) → read ≡ text_reading f text → (c : Cell)
+    → read ≡ Some c → IsValue c
 text_reading-IsValue f text read e c h = Fits-IsValue c (text_reading-IsOf f text c (sym e ∙ h)).fits
 
-pub value_read-IsValue : (k : Kind) (value : Json) (read : Option Cell) → read ≡ value_reading k value → (c : Cell) → read ≡ Some c → IsValue c
+pub value_read-IsValue : (k : Kind) (value : Json) (read : Option Cell) → read ≡ value_reading k value → (c : Cell)
+    → read ≡ Some c → IsValue c
 value_read-IsValue k value read e c h = value_reading-IsValue k value c (sym e ∙ h)
 
 null_back : (value : Json) → out-Json value ≡ Json-F.Null → value ≡ json.Null
 null_back value e = search (rules, the_lemmas)
 
 -- A value that isn't null is read in the field's type.
-pub record_reading-other : (field : FieldValue) (value : Json) → (value ≡ json.Null → ⊥) → record_reading field value ≡ kept field.constraints (value_reading (kind_of field.form) value)
+pub record_reading-other : (field : FieldValue) (value : Json) → (value ≡ json.Null → ⊥)
+    → record_reading field value ≡ kept field.constraints (value_reading (kind_of field.form) value)
 record_reading-other field value some = by_value (out-Json value) refl
   where
-    by_value : (v : Json-F Json) → out-Json value ≡ v → record_reading_in field value v ≡ kept field.constraints (value_reading (kind_of field.form) value)
+    by_value : (v : Json-F Json) → out-Json value ≡ v
+        → record_reading_in field value v ≡ kept field.constraints (value_reading (kind_of field.form) value)
     by_value Json-F.Null e = absurd (some (null_back value e))
     by_value (Json-F.Truth b) e = refl
     by_value (Json-F.Whole z) e = refl
@@ -306,9 +367,17 @@ record_reading-other field value some = by_value (out-Json value) refl
     by_value (Json-F.List items) e = refl
     by_value (Json-F.Map entries) e = refl
 
-pub of_json-answers : (field : FieldValue) (own : Form) (constraints : Constraints) (value : Json) (read : Option Cell) (result : Result Cell CellError) → field.form ≡ own → field.constraints ≡ constraints → (value ≡ json.Null → ⊥) → read ≡ value_reading (kind_of own) value → IfOk result (λ c. kept constraints read ≡ Ok c) → IfErr result (IsFault (kept constraints read)) → IfOk result (λ c. record_reading field value ≡ Ok c) × IfErr result (IsFault (record_reading field value))
+pub of_json-answers : (field : FieldValue) (own : Form) (constraints : Constraints) (value : Json)
+    (read : Option Cell) (result : Result Cell CellError) → field.form ≡ own → field.constraints ≡ constraints
+    → (value ≡ json.Null → ⊥) → read ≡ value_reading (kind_of own) value
+    → IfOk result (λ c. kept constraints read ≡ Ok c) → IfErr result (IsFault (kept constraints read))
+    → IfOk result (λ c. record_reading field value ≡ Ok c) × IfErr result (IsFault (record_reading field value))
 of_json-answers field own constraints value read result f k some e ok err =
     let same : kept constraints read ≡ record_reading field value =
     ap (kept constraints) e ∙ ap (λ (x : Form). kept constraints (value_reading (kind_of x) value)) (sym f)
-    ∙ ap (λ (x : Constraints). kept x (value_reading (kind_of field.form) value)) (sym k) ∙ sym (record_reading-other field value some) in
-    (subst (λ (r : Result Cell CellFault). IfOk result (λ c. r ≡ Ok c)) same ok, subst (λ (r : Result Cell CellFault). IfErr result (IsFault r)) same err)
+    ∙ ap (λ (x : Constraints). kept x (value_reading (kind_of field.form) value)) (sym k)
+    ∙ sym (record_reading-other field value some) in (
+      subst (λ (r : Result Cell CellFault). IfOk result (λ c. r ≡ Ok c)) same ok,
+      subst
+          (λ (r : Result Cell CellFault). IfErr result (IsFault r)) same err,
+    )

@@ -1,5 +1,6 @@
 -- The constraints of a field are read back from the dictionary that they are written as.
-use Rattle.std.proofs.Common.{◌≡◌, ℕ, zero, suc, arith, Bool, true, false, refl, ap, ◌∙◌, subst, List, [], ◌∷◌, ◌++◌, map, codes}
+use Rattle.std.proofs.Common.{◌≡◌, ℕ, zero, suc, arith, Bool, true, false, refl, ap, ◌∙◌, subst, List, [], ◌∷◌, ◌++◌}
+use Rattle.std.proofs.Common.{map, codes}
 use Rattle.std.specs.Prelude.{if◌then◌else◌, Option, Some, None, option_map, ℤ, pos, negsuc, IfSome, All}
 use Rattle.std.specs.Option.{option_or}
 use Rattle.std.specs.Str.{bytes_eq}
@@ -10,22 +11,28 @@ use Rattle.portal_base.specs.declared.json_value.Json.TheOpen.{Json-F}
 use Rattle.table_schema.specs.declared.cell.Cell.{Cell}
 use Rattle.table_schema.specs.declared.constraint.Constraints.{Constraints}
 use Rattle.table_schema.specs.declared.form.Kind.{Kind}
-use Rattle.table_schema.specs.Descriptor.{has_length, has_order, count_of, length_in, bound_in, some_of, allowed_in, no_constraints, constraints_in, constraints_of}
+use Rattle.table_schema.specs.Descriptor.{has_length, has_order, count_of, length_in, bound_in, some_of, allowed_in}
+use Rattle.table_schema.specs.Descriptor.{no_constraints, constraints_in, constraints_of}
 use Rattle.table_schema.specs.Printed.{cell_value, IsValue, HasValues}
 use Rattle.table_schema.specs.Reading.{value_in, value_reading}
 use Rattle.portal_base.specs.Kinds.{non_null, is_null_in, present, list_in}
 use Rattle.table_schema.specs.Values.{◌>>=◌, all_of, or_default, optional, dictionary_in, whole_of, whole_in, truth_in}
 use Rattle.table_schema.specs.Written.{MemberList, member_where, member_if, allowed_member, constraints_value}
 use Rattle.table_schema.proofs.CellLemmas.{value_reading-cell_value, value_reading-IsValue}
-use Rattle.table_schema.proofs.ValueLemmas.{bind-some, bind-same, map-some, gated, all_of-back, optional-back, present-Map, whole_in-Whole, truth_in-Truth, list_in-List, full-Truth, full-List}
+use Rattle.table_schema.proofs.ValueLemmas.{bind-some, bind-same, map-some, gated, all_of-back, optional-back}
+use Rattle.table_schema.proofs.ValueLemmas.{present-Map, whole_in-Whole, truth_in-Truth, list_in-List, full-Truth}
+use Rattle.table_schema.proofs.ValueLemmas.{full-List}
 
 -- ---- members of a dictionary that is written part by part
 
-pub first_of-append : (key : List ℕ) (xs ys : MemberList) → first_of key (xs ++ ys) ≡ option_or (first_of key xs) (first_of key ys)
+pub first_of-append : (key : List ℕ) (xs ys : MemberList)
+    → first_of key (xs ++ ys) ≡ option_or (first_of key xs) (first_of key ys)
 first_of-append key [] ys = refl
-first_of-append key (x ∷ xs) ys = chosen (bytes_eq key x.0) x.1 (first_of key (xs ++ ys)) (first_of key xs) (first_of key ys) (first_of-append key xs ys)
+first_of-append key (x ∷ xs) ys = chosen (bytes_eq key x.0) x.1 (first_of key (xs ++ ys)) (first_of key xs)
+    (first_of key ys) (first_of-append key xs ys)
   where
-    chosen : (b : Bool) (a : Json) (rest front back : Option Json) → rest ≡ option_or front back → (if b then Some a else rest) ≡ option_or (if b then Some a else front) back
+    chosen : (b : Bool) (a : Json) (rest front back : Option Json) → rest ≡ option_or front back
+        → (if b then Some a else rest) ≡ option_or (if b then Some a else front) back
     chosen true a rest front back e = refl
     chosen false a rest front back e = e
 
@@ -33,11 +40,14 @@ nothing : (b : Bool) → ◌≡◌ {A = Option Json} None (if b then None else N
 nothing true = refl
 nothing false = refl
 
-pub first_of-where : {A : Type 0} (key other : List ℕ) (value : A → Json) (o : Option A) → first_of key (member_where other value o) ≡ (if bytes_eq key other then option_map value o else None)
+pub first_of-where : {A : Type 0} (key other : List ℕ) (value : A → Json) (o : Option A)
+    → first_of key (member_where other value o) ≡ (if bytes_eq key other then option_map value o else None)
 first_of-where key other value None = nothing (bytes_eq key other)
 first_of-where key other value (Some x) = refl
 
-pub first_of-if : (key other : List ℕ) (b : Bool) → first_of key (member_if other b) ≡ (if bytes_eq key other then (if b then Some (json.Truth true) else None) else None)
+pub first_of-if : (key other : List ℕ) (b : Bool)
+    → first_of key (member_if other b)
+    ≡ (if bytes_eq key other then (if b then Some (json.Truth true) else None) else None)
 first_of-if key other true = refl
 first_of-if key other false = nothing (bytes_eq key other)
 
@@ -45,7 +55,8 @@ abbrev allowed_value : List Cell → Option Json
 allowed_value [] = None
 allowed_value (c ∷ cells) = Some (json.List (map cell_value (c ∷ cells)))
 
-first_of-allowed : (key : List ℕ) (cells : List Cell) → first_of key (allowed_member cells) ≡ (if bytes_eq key (codes "enum") then allowed_value cells else None)
+first_of-allowed : (key : List ℕ) (cells : List Cell)
+    → first_of key (allowed_member cells) ≡ (if bytes_eq key (codes "enum") then allowed_value cells else None)
 first_of-allowed key [] = nothing (bytes_eq key (codes "enum"))
 first_of-allowed key (c ∷ cells) = refl
 
@@ -65,7 +76,8 @@ constraint_at key c =
     (if bytes_eq key (codes "required") then (if c.required then Some (json.Truth true) else None) else None))
     (if bytes_eq key (codes "unique") then (if c.unique then Some (json.Truth true) else None) else None)
 
-present-constraint : (key : List ℕ) (c : Constraints) → present key (constraints_value c) ≡ non_null (constraint_at key c)
+present-constraint : (key : List ℕ) (c : Constraints)
+    → present key (constraints_value c) ≡ non_null (constraint_at key c)
 present-constraint key c =
     present-Map key _ ∙ ap non_null (simp (first_of-append, first_of-where, first_of-if, first_of-allowed))
 
@@ -115,7 +127,8 @@ bound-value : (k : Kind) (o : Option Json) (r : Option Cell) → optional (bound
 bound-value k None r e = let none : None ≡ r = cc in subst (λ s. IfSome s IsValue) none tt
 bound-value k (Some value) r e =
     let got = map-some Some (bound_in k value) r e in
-    subst (λ s. IfSome s IsValue) got.1.1 (value_reading-IsValue k value got.0 (gated (has_order k) (value_reading k value) got.0 got.1.0).1)
+    subst (λ s. IfSome s IsValue) got.1.1
+    (value_reading-IsValue k value got.0 (gated (has_order k) (value_reading k value) got.0 got.1.0).1)
 
 pub All-none : {A : Type 0} (P : A → Type 0) → All P []
 All-none P k d lt = absurd (omega arith)
@@ -124,12 +137,16 @@ pub All-more : {A : Type 0} (P : A → Type 0) (x : A) (xs : List A) → P x →
 All-more P x xs here all zero d lt = here
 All-more P x xs here all (suc k) d lt = all k d (omega arith)
 
-cells-values : (k : Kind) (items : List Json) (cells : List Cell) → all_of (value_reading k) items ≡ Some cells → All IsValue cells
+cells-values : (k : Kind) (items : List Json) (cells : List Cell) → all_of (value_reading k) items ≡ Some cells
+    → All IsValue cells
 cells-values k [] cells e = let none : [] ≡ cells = cc in subst (λ l. All IsValue l) none (All-none IsValue)
 cells-values k (item ∷ items) cells e =
-    let first = bind-some (value_reading k item) (λ y. option_map (λ ys. y ∷ ys) (all_of (value_reading k) items)) cells e in
+    let first = bind-some (value_reading k item) (λ y. option_map (λ ys. y ∷ ys) (all_of (value_reading k) items))
+    cells e in
     let rest = map-some (λ ys. first.0 ∷ ys) (all_of (value_reading k) items) cells first.1.1 in
-    subst (λ l. All IsValue l) rest.1.1 (All-more IsValue first.0 rest.0 (value_reading-IsValue k item first.0 first.1.0) (cells-values k items rest.0 rest.1.0))
+    subst (λ l. All IsValue l) rest.1.1
+    (All-more IsValue first.0 rest.0 (value_reading-IsValue k item first.0 first.1.0)
+    (cells-values k items rest.0 rest.1.0))
 
 -- each of the constraints is read again where it is written, and is a value of the type
 pub record IsKept (k : Kind) (c : Constraints) : Type 0 where
@@ -156,11 +173,13 @@ after_maximum k value required unique min_length max_length minimum maximum =
 
 abbrev after_minimum : Kind → Json → Bool → Bool → Option ℤ → Option ℤ → Option Cell → Option Constraints
 after_minimum k value required unique min_length max_length minimum =
-    optional (bound_in k) (present (codes "maximum") value) >>= after_maximum k value required unique min_length max_length minimum
+    optional (bound_in k) (present (codes "maximum") value) >>= after_maximum k value required unique min_length
+    max_length minimum
 
 abbrev after_max_length : Kind → Json → Bool → Bool → Option ℤ → Option ℤ → Option Constraints
 after_max_length k value required unique min_length max_length =
-    optional (bound_in k) (present (codes "minimum") value) >>= after_minimum k value required unique min_length max_length
+    optional (bound_in k) (present (codes "minimum") value) >>= after_minimum k value required unique min_length
+    max_length
 
 abbrev after_min_length : Kind → Json → Bool → Bool → Option ℤ → Option Constraints
 after_min_length k value required unique min_length =
@@ -174,13 +193,16 @@ abbrev after_required : Kind → Json → Bool → Option Constraints
 after_required k value required =
     or_default truth_in false (present (codes "unique") value) >>= after_unique k value required
 
-allowed-back : (k : Kind) (o : Option Json) (cells : List Cell) → or_default (allowed_in k) [] o ≡ Some cells → all_of (value_reading k) (map cell_value cells) ≡ Some cells
-allowed-back k None cells e = let none : [] ≡ cells = cc in subst (λ l. all_of (value_reading k) (map cell_value l) ≡ Some l) none refl
+allowed-back : (k : Kind) (o : Option Json) (cells : List Cell) → or_default (allowed_in k) [] o ≡ Some cells
+    → all_of (value_reading k) (map cell_value cells) ≡ Some cells
+allowed-back k None cells e = let none : [] ≡ cells = cc in
+    subst (λ l. all_of (value_reading k) (map cell_value l) ≡ Some l) none refl
 allowed-back k (Some value) cells e =
     let some = bind-some (list_in value >>= some_of) (all_of (value_reading k)) cells e in
     all_of-back (value_reading k) cell_value (value_reading-cell_value k) some.0 cells some.1.1
 
-allowed-values : (k : Kind) (o : Option Json) (cells : List Cell) → or_default (allowed_in k) [] o ≡ Some cells → All IsValue cells
+allowed-values : (k : Kind) (o : Option Json) (cells : List Cell) → or_default (allowed_in k) [] o ≡ Some cells
+    → All IsValue cells
 allowed-values k None cells e = let none : [] ≡ cells = cc in subst (λ l. All IsValue l) none (All-none IsValue)
 allowed-values k (Some value) cells e =
     let some = bind-some (list_in value >>= some_of) (all_of (value_reading k)) cells e in
@@ -188,19 +210,31 @@ allowed-values k (Some value) cells e =
 
 kept-dictionary : (k : Kind) (value : Json) (c : Constraints) → constraints_in k value ≡ Some c → IsKept k c
 kept-dictionary k value c e =
-    let required = bind-some (or_default truth_in false (present (codes "required") value)) (after_required k value) c e in
-    let unique = bind-some (or_default truth_in false (present (codes "unique") value)) (after_unique k value required.0) c required.1.1 in
-    let min_length = bind-some (optional (length_in k) (present (codes "minLength") value)) (after_min_length k value required.0 unique.0) c unique.1.1 in
-    let max_length = bind-some (optional (length_in k) (present (codes "maxLength") value)) (after_max_length k value required.0 unique.0 min_length.0) c min_length.1.1 in
-    let minimum = bind-some (optional (bound_in k) (present (codes "minimum") value)) (after_minimum k value required.0 unique.0 min_length.0 max_length.0) c max_length.1.1 in
-    let maximum = bind-some (optional (bound_in k) (present (codes "maximum") value)) (after_maximum k value required.0 unique.0 min_length.0 max_length.0 minimum.0) c minimum.1.1 in
-    let allowed = bind-some (or_default (allowed_in k) [] (present (codes "enum") value)) (λ cells. Some (made required.0 unique.0 min_length.0 max_length.0 minimum.0 maximum.0 cells)) c maximum.1.1 in
-    let same : made required.0 unique.0 min_length.0 max_length.0 minimum.0 maximum.0 allowed.0 ≡ c = cc (allowed.1.1) in
+    let required = bind-some (or_default truth_in false (present (codes "required") value)) (after_required k value) c
+    e in
+    let unique = bind-some (or_default truth_in false (present (codes "unique") value))
+    (after_unique k value required.0) c required.1.1 in
+    let min_length = bind-some (optional (length_in k) (present (codes "minLength") value))
+    (after_min_length k value required.0 unique.0) c unique.1.1 in
+    let max_length = bind-some (optional (length_in k) (present (codes "maxLength") value))
+    (after_max_length k value required.0 unique.0 min_length.0) c min_length.1.1 in
+    let minimum = bind-some (optional (bound_in k) (present (codes "minimum") value))
+    (after_minimum k value required.0 unique.0 min_length.0 max_length.0) c max_length.1.1 in
+    let maximum = bind-some (optional (bound_in k) (present (codes "maximum") value))
+    (after_maximum k value required.0 unique.0 min_length.0 max_length.0 minimum.0) c minimum.1.1 in
+    let allowed = bind-some (or_default (allowed_in k) [] (present (codes "enum") value))
+    (λ cells. Some (made required.0 unique.0 min_length.0 max_length.0 minimum.0 maximum.0 cells)) c maximum.1.1 in
+    let same : made required.0 unique.0 min_length.0 max_length.0 minimum.0 maximum.0 allowed.0 ≡ c =
+    cc (allowed.1.1) in
     subst (IsKept k) same (record {
-      min_length = optional-back (length_in k) json.Whole (length-back k) (length-there k) (present (codes "minLength") value) min_length.0 min_length.1.0;
-      max_length = optional-back (length_in k) json.Whole (length-back k) (length-there k) (present (codes "maxLength") value) max_length.0 max_length.1.0;
-      minimum = optional-back (bound_in k) cell_value (bound-back k) (bound-there k) (present (codes "minimum") value) minimum.0 minimum.1.0;
-      maximum = optional-back (bound_in k) cell_value (bound-back k) (bound-there k) (present (codes "maximum") value) maximum.0 maximum.1.0;
+      min_length = optional-back (length_in k) json.Whole (length-back k) (length-there k)
+          (present (codes "minLength") value) min_length.0 min_length.1.0;
+      max_length = optional-back (length_in k) json.Whole (length-back k) (length-there k)
+          (present (codes "maxLength") value) max_length.0 max_length.1.0;
+      minimum = optional-back (bound_in k) cell_value (bound-back k) (bound-there k) (present (codes "minimum") value)
+          minimum.0 minimum.1.0;
+      maximum = optional-back (bound_in k) cell_value (bound-back k) (bound-there k) (present (codes "maximum") value)
+          maximum.0 maximum.1.0;
       allowed = allowed-back k (present (codes "enum") value) allowed.0 allowed.1.0;
       values = (
         bound-value k (present (codes "minimum") value) minimum.0 minimum.1.0,
@@ -230,7 +264,8 @@ kept-none k = record {
   values = (tt, tt, All-none IsValue);
 }
 
-kept-present : (k : Kind) (o : Option Json) (c : Constraints) → or_default (λ value. dictionary_in value >>= constraints_in k) no_constraints o ≡ Some c → IsKept k c
+kept-present : (k : Kind) (o : Option Json) (c : Constraints)
+    → or_default (λ value. dictionary_in value >>= constraints_in k) no_constraints o ≡ Some c → IsKept k c
 kept-present k None c e = let none : no_constraints ≡ c = cc in subst (IsKept k) none (kept-none k)
 kept-present k (Some value) c e =
     let dictionary = bind-some (dictionary_in value) (constraints_in k) c e in
@@ -246,7 +281,8 @@ truth-back : (b : Bool) → or_default truth_in false (non_null (if b then Some 
 truth-back true = ap (or_default truth_in false) (full-Truth true) ∙ truth_in-Truth true
 truth-back false = refl
 
-enum-back : (k : Kind) (cells : List Cell) → all_of (value_reading k) (map cell_value cells) ≡ Some cells → or_default (allowed_in k) [] (non_null (allowed_value cells)) ≡ Some cells
+enum-back : (k : Kind) (cells : List Cell) → all_of (value_reading k) (map cell_value cells) ≡ Some cells
+    → or_default (allowed_in k) [] (non_null (allowed_value cells)) ≡ Some cells
 enum-back k [] e = refl
 enum-back k (c ∷ cells) e =
     let items = map cell_value (c ∷ cells) in
@@ -258,7 +294,9 @@ pub constraints-back : (k : Kind) (c : Constraints) → IsKept k c → constrain
 constraints-back k c kept =
     let value = constraints_value c in
     let required : or_default truth_in false (present (codes "required") value) ≡ Some c.required =
-    ap (or_default truth_in false) (present-constraint (codes "required") c ∙ ap non_null (option_or-none (if c.required then Some (json.Truth true) else None))) ∙ truth-back c.required in
+    ap (or_default truth_in false)
+    (present-constraint (codes "required") c
+    ∙ ap non_null (option_or-none (if c.required then Some (json.Truth true) else None))) ∙ truth-back c.required in
     let unique : or_default truth_in false (present (codes "unique") value) ≡ Some c.unique =
     ap (or_default truth_in false) (present-constraint (codes "unique") c) ∙ truth-back c.unique in
     let min_length : optional (length_in k) (present (codes "minLength") value) ≡ Some c.min_length =
@@ -270,13 +308,20 @@ constraints-back k c kept =
     let maximum : optional (bound_in k) (present (codes "maximum") value) ≡ Some c.maximum =
     ap (optional (bound_in k)) (present-constraint (codes "maximum") c ∙ simp option_or-none) ∙ kept.maximum in
     let allowed : or_default (allowed_in k) [] (present (codes "enum") value) ≡ Some c.allowed =
-    ap (or_default (allowed_in k) []) (present-constraint (codes "enum") c ∙ simp option_or-none) ∙ enum-back k c.allowed kept.allowed in
-    bind-same (or_default truth_in false (present (codes "required") value)) (after_required k value) c.required required
-    ∙ bind-same (or_default truth_in false (present (codes "unique") value)) (after_unique k value c.required) c.unique unique
-    ∙ bind-same (optional (length_in k) (present (codes "minLength") value)) (after_min_length k value c.required c.unique) c.min_length min_length
-    ∙ bind-same (optional (length_in k) (present (codes "maxLength") value)) (after_max_length k value c.required c.unique c.min_length) c.max_length max_length
-    ∙ bind-same (optional (bound_in k) (present (codes "minimum") value)) (after_minimum k value c.required c.unique c.min_length c.max_length) c.minimum minimum
-    ∙ bind-same (optional (bound_in k) (present (codes "maximum") value)) (after_maximum k value c.required c.unique c.min_length c.max_length c.minimum) c.maximum maximum
+    ap (or_default (allowed_in k) []) (present-constraint (codes "enum") c ∙ simp option_or-none)
+    ∙ enum-back k c.allowed kept.allowed in
+    bind-same (or_default truth_in false (present (codes "required") value)) (after_required k value) c.required
+    required
+    ∙ bind-same (or_default truth_in false (present (codes "unique") value)) (after_unique k value c.required)
+    c.unique unique
+    ∙ bind-same (optional (length_in k) (present (codes "minLength") value))
+    (after_min_length k value c.required c.unique) c.min_length min_length
+    ∙ bind-same (optional (length_in k) (present (codes "maxLength") value))
+    (after_max_length k value c.required c.unique c.min_length) c.max_length max_length
+    ∙ bind-same (optional (bound_in k) (present (codes "minimum") value))
+    (after_minimum k value c.required c.unique c.min_length c.max_length) c.minimum minimum
+    ∙ bind-same (optional (bound_in k) (present (codes "maximum") value))
+    (after_maximum k value c.required c.unique c.min_length c.max_length c.minimum) c.maximum maximum
     ∙ ap (λ o. o >>= λ cells. Some (record c { allowed = cells })) allowed
 
 -- No pattern is written.

@@ -30,7 +30,8 @@ same_bytes (x ∷ xs) (y ∷ ys) h =
 same_month : (a m b n : ℕ) → 1 ≤ m → m ≤ 12 → 1 ≤ n → n ≤ 12 → a * 12 + m ≡ b * 12 + n → (a ≡ b) × (m ≡ n)
 same_month a m b n lm hm ln hn e = (omega arith, omega arith)
 
-from_parts : (a b : Cell) → IsValue a → IsValue b → type_place a ≡ type_place b → rank_of a ≡ rank_of b → bytes_of a ≡ bytes_of b → a ≡ b
+from_parts : (a b : Cell) → IsValue a → IsValue b → type_place a ≡ type_place b → rank_of a ≡ rank_of b
+    → bytes_of a ≡ bytes_of b → a ≡ b
 from_parts cell.Null cell.Null h k t r s = refl
 from_parts (cell.Text a) (cell.Text b) h k t r s = ap cell.Text s
 from_parts (cell.Int a) (cell.Int b) h k t r s = ap cell.Int r

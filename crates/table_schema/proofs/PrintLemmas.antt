@@ -1,5 +1,7 @@
 -- Printed dates, times and months are read back.
-use Rattle.std.proofs.Common.{◌≡◌, ℕ, zero, suc, ◌+◌, ◌-◌, ◌*◌, ◌/◌, ◌%◌, ◌<◌, ◌≤◌, true, false, ◌&&◌, cond, leb, ltb, refl, sym, ap, ◌∙◌, arith, Bool, List, [], ◌∷◌, ◌++◌, length, get_or, take, drop, ℤ, pos, negsuc, ◌+ℤ◌, ◌-ℤ◌, ◌*ℤ◌, ◌≤ℤ◌, length-drop}
+use Rattle.std.proofs.Common.{◌≡◌, ℕ, zero, suc, ◌+◌, ◌-◌, ◌*◌, ◌/◌, ◌%◌, ◌<◌, ◌≤◌, true, false, ◌&&◌, cond, leb, ltb}
+use Rattle.std.proofs.Common.{refl, sym, ap, ◌∙◌, arith, Bool, List, [], ◌∷◌, ◌++◌, length, get_or, take, drop, ℤ}
+use Rattle.std.proofs.Common.{pos, negsuc, ◌+ℤ◌, ◌-ℤ◌, ◌*ℤ◌, ◌≤ℤ◌, length-drop}
 use Rattle.std.specs.Prelude.{Some, None, unsigned_abs, codes}
 use Rattle.std.specs.List.{list_all}
 use Rattle.std.specs.Str.{IsAscii, IsCharBoundary}
@@ -11,18 +13,21 @@ use Rattle.std.proofs.lemmas.Bool.Decides.{nat_tests}
 use Rattle.std.proofs.lemmas.Str.{IsCharBoundary-from_ascii}
 use Rattle.jiff_core.specs.Calendar.{days_from_civil}
 use Rattle.portal_base.specs.Moment.{IsMoment, first_moment}
-use Rattle.portal_base.specs.MomentReading.{fits_form, fits_place, moment_form, number_at, year_in, has_day, has_time, names_moment, seconds_in, moment_reading}
+use Rattle.portal_base.specs.MomentReading.{fits_form, fits_place, moment_form, number_at, year_in, has_day, has_time}
+use Rattle.portal_base.specs.MomentReading.{names_moment, seconds_in, moment_reading}
 use Rattle.portal_base.specs.MomentText.{moment_text, clock_text, day_text, calendar_seconds}
 use Rattle.portal_base.proofs.FormLemmas.{fits_form-at, fits_form-length}
 use Rattle.portal_base.proofs.ReadingBack.{reading-moment_text}
-use Rattle.table_schema.specs.Calendar.{date_reading, time_reading, stamp_reading, zoned_time_reading, yearmonth_reading, has_month, is_zone, is_time_mark, seconds_of}
+use Rattle.table_schema.specs.Calendar.{date_reading, time_reading, stamp_reading, zoned_time_reading}
+use Rattle.table_schema.specs.Calendar.{yearmonth_reading, has_month, is_zone, is_time_mark, seconds_of}
 use Rattle.table_schema.specs.Printed.{IsDay, date_text, year_month_text}
 use Rattle.table_schema.proofs.CalendarLemmas.{time_reading-bound, stamp_reading-read, IsMoment-seconds_of}
 use Rattle.lexical_forms.proofs.NumberTextLemmas.{IsAscii-cons, IsAscii-nil}
 
 -- ---- moments, and their dates and times of day
 
-fits_form-take : (n : ℕ) (form text : List ℕ) → fits_form form text ≡ true → fits_form (take n form) (take n text) ≡ true
+fits_form-take : (n : ℕ) (form text : List ℕ) → fits_form form text ≡ true
+    → fits_form (take n form) (take n text) ≡ true
 fits_form-take zero form text h = refl
 fits_form-take (suc n) [] [] h = refl
 fits_form-take (suc n) [] (c ∷ text) h = cc
@@ -31,12 +36,14 @@ fits_form-take (suc n) (p ∷ form) (c ∷ text) h =
     let parts = and_parts (fits_place p c) (fits_form form text) h in
     and_from (fits_place p c) _ parts.0 (fits_form-take n form text parts.1)
 
-fits_form-drop : (n : ℕ) (form text : List ℕ) → fits_form form text ≡ true → fits_form (drop n form) (drop n text) ≡ true
+fits_form-drop : (n : ℕ) (form text : List ℕ) → fits_form form text ≡ true
+    → fits_form (drop n form) (drop n text) ≡ true
 fits_form-drop zero form text h = h
 fits_form-drop (suc n) [] [] h = refl
 fits_form-drop (suc n) [] (c ∷ text) h = cc
 fits_form-drop (suc n) (p ∷ form) [] h = cc
-fits_form-drop (suc n) (p ∷ form) (c ∷ text) h = fits_form-drop n form text (and_parts (fits_place p c) (fits_form form text) h).1
+fits_form-drop (suc n) (p ∷ form) (c ∷ text) h =
+    fits_form-drop n form text (and_parts (fits_place p c) (fits_form form text) h).1
 
 number_at-take : (n k : ℕ) (text : List ℕ) → k + 1 < n → number_at k (take n text) ≡ number_at k text
 number_at-take n k text h =
@@ -58,32 +65,42 @@ pub record Split (text : List ℕ) (seconds : ℤ) : Type 0 where
   pub mark : get_or text 10 0 ≡ 84
   pub long : length text ≡ 19
 
-named-day : (text : List ℕ) → fits_form moment_form text ≡ true → names_moment text ≡ true → date_reading (take 10 text) ≡ Some (days_from_civil (pos (year_in text)) (number_at 5 text) (number_at 8 text))
+named-day : (text : List ℕ) → fits_form moment_form text ≡ true → names_moment text ≡ true
+    → date_reading (take 10 text) ≡ Some (days_from_civil (pos (year_in text)) (number_at 5 text) (number_at 8 text))
 unfolding date_reading
 named-day text fits named =
     let form : fits_form (codes "0000-00-00") (take 10 text) ≡ true = fits_form-take 10 moment_form text fits in
-    let there : has_day (year_in text) (number_at 5 text) (number_at 8 text) ≡ true = (and_parts (has_day (year_in text) (number_at 5 text) (number_at 8 text)) _ named).0 in
+    let there : has_day (year_in text) (number_at 5 text) (number_at 8 text) ≡ true =
+    (and_parts (has_day (year_in text) (number_at 5 text) (number_at 8 text)) _ named).0 in
     let century : number_at 0 (take 10 text) ≡ number_at 0 text = number_at-take 10 0 text (omega arith) in
     let year : number_at 2 (take 10 text) ≡ number_at 2 text = number_at-take 10 2 text (omega arith) in
     let month : number_at 5 (take 10 text) ≡ number_at 5 text = number_at-take 10 5 text (omega arith) in
     let day : number_at 8 (take 10 text) ≡ number_at 8 text = number_at-take 10 8 text (omega arith) in
     rw (form, century, year, month, day, there) refl
 
-named-second : (text : List ℕ) → fits_form moment_form text ≡ true → names_moment text ≡ true → time_reading (take 8 (drop 11 text)) ≡ Some (number_at 11 text * 3600 + number_at 14 text * 60 + number_at 17 text)
+named-second : (text : List ℕ) → fits_form moment_form text ≡ true → names_moment text ≡ true
+    → time_reading (take 8 (drop 11 text))
+    ≡ Some (number_at 11 text * 3600 + number_at 14 text * 60 + number_at 17 text)
 unfolding time_reading
 named-second text fits named =
-    let form : fits_form (codes "00:00:00") (take 8 (drop 11 text)) ≡ true = fits_form-take 8 (drop 11 moment_form) (drop 11 text) (fits_form-drop 11 moment_form text fits) in
-    let there : has_time (number_at 11 text) (number_at 14 text) (number_at 17 text) ≡ true = (and_parts (has_day (year_in text) (number_at 5 text) (number_at 8 text)) _ named).1 in
-    let hour : number_at 0 (take 8 (drop 11 text)) ≡ number_at 11 text = number_at-take 8 0 (drop 11 text) (omega arith) ∙ number_at-drop 11 0 text in
-    let minute : number_at 3 (take 8 (drop 11 text)) ≡ number_at 14 text = number_at-take 8 3 (drop 11 text) (omega arith) ∙ number_at-drop 11 3 text in
-    let second : number_at 6 (take 8 (drop 11 text)) ≡ number_at 17 text = number_at-take 8 6 (drop 11 text) (omega arith) ∙ number_at-drop 11 6 text in
+    let form : fits_form (codes "00:00:00") (take 8 (drop 11 text)) ≡ true =
+    fits_form-take 8 (drop 11 moment_form) (drop 11 text) (fits_form-drop 11 moment_form text fits) in
+    let there : has_time (number_at 11 text) (number_at 14 text) (number_at 17 text) ≡ true =
+    (and_parts (has_day (year_in text) (number_at 5 text) (number_at 8 text)) _ named).1 in
+    let hour : number_at 0 (take 8 (drop 11 text)) ≡ number_at 11 text =
+    number_at-take 8 0 (drop 11 text) (omega arith) ∙ number_at-drop 11 0 text in
+    let minute : number_at 3 (take 8 (drop 11 text)) ≡ number_at 14 text =
+    number_at-take 8 3 (drop 11 text) (omega arith) ∙ number_at-drop 11 3 text in
+    let second : number_at 6 (take 8 (drop 11 text)) ≡ number_at 17 text =
+    number_at-take 8 6 (drop 11 text) (omega arith) ∙ number_at-drop 11 6 text in
     rw (form, hour, minute, second, there) refl
 
 moment_reading-Split : (text : List ℕ) (seconds : ℤ) → moment_reading text ≡ Some seconds → Split text seconds
 unfolding moment_reading
 moment_reading-Split text seconds e = by_form (fits_form moment_form text) refl e
   where
-    by_names : (b : Bool) → fits_form moment_form text ≡ true → names_moment text ≡ b → cond b (Some (seconds_in text)) None ≡ Some seconds → Split text seconds
+    by_names : (b : Bool) → fits_form moment_form text ≡ true → names_moment text ≡ b
+        → cond b (Some (seconds_in text)) None ≡ Some seconds → Split text seconds
     by_names true fits named h = record {
       day = days_from_civil (pos (year_in text)) (number_at 5 text) (number_at 8 text);
       second = number_at 11 text * 3600 + number_at 14 text * 60 + number_at 17 text;
@@ -95,7 +112,8 @@ moment_reading-Split text seconds e = by_form (fits_form moment_form text) refl 
     }
     by_names false fits named h = cc
 
-    by_form : (b : Bool) → fits_form moment_form text ≡ b → cond (b && names_moment text) (Some (seconds_in text)) None ≡ Some seconds → Split text seconds
+    by_form : (b : Bool) → fits_form moment_form text ≡ b
+        → cond (b && names_moment text) (Some (seconds_in text)) None ≡ Some seconds → Split text seconds
     by_form true fits h = by_names (names_moment text) fits refl h
     by_form false fits h = cc
 
@@ -108,34 +126,43 @@ stamp_reading-back seconds h =
     let split = moment_text-Split seconds h in
     let text = moment_text seconds in
     let mark : is_time_mark (get_or text 10 0) ≡ true = rw split.mark refl in
-    let ends : drop 8 (drop 11 text) ≡ [] = nil_from_length (drop 8 (drop 11 text)) (omega (arith, length-drop {A = ℕ}, split.long)) in
+    let ends : drop 8 (drop 11 text) ≡ [] =
+    nil_from_length (drop 8 (drop 11 text)) (omega (arith, length-drop {A = ℕ}, split.long)) in
     let zone : is_zone (drop 8 (drop 11 text)) ≡ true = rw ends refl in
     let time : zoned_time_reading (drop 11 text) ≡ Some split.second = cond-true _ _ _ zone ∙ split.time in
     stamp_reading-read text split.day split.second mark split.date time ∙ ap Some split.sum
 
-same_day : (a b : ℤ) (s t : ℕ) → s < 86400 → t < 86400 → a *ℤ pos 86400 +ℤ pos s ≡ b *ℤ pos 86400 +ℤ pos t → (a ≡ b) × (s ≡ t)
+same_day : (a b : ℤ) (s t : ℕ) → s < 86400 → t < 86400 → a *ℤ pos 86400 +ℤ pos s ≡ b *ℤ pos 86400 +ℤ pos t
+    → (a ≡ b) × (s ≡ t)
 same_day a b s t h k e = (omega (arith, ints), omega (arith, ints))
 
 natural : (z : ℤ) → pos 0 ≤ℤ z → z ≡ pos (unsigned_abs z)
 natural (pos n) h = refl
 natural (negsuc n) h = absurd (omega (arith, ints))
 
-calendar_seconds-of : (day : ℤ) (second : ℕ) → IsDay day → calendar_seconds (seconds_of day second) ≡ unsigned_abs (day +ℤ pos 719528) * 86400 + second
+calendar_seconds-of : (day : ℤ) (second : ℕ) → IsDay day
+    → calendar_seconds (seconds_of day second) ≡ unsigned_abs (day +ℤ pos 719528) * 86400 + second
 calendar_seconds-of day second h =
     let whole = natural (day +ℤ pos 719528) (omega (arith, ints)) in
-    let total : seconds_of day second -ℤ first_moment ≡ pos (unsigned_abs (day +ℤ pos 719528) * 86400 + second) = omega (arith, ints) in
+    let total : seconds_of day second -ℤ first_moment ≡ pos (unsigned_abs (day +ℤ pos 719528) * 86400 + second) =
+    omega (arith, ints) in
     ap unsigned_abs total
 
 -- The text of a moment has the texts of its date and its time of day.
-moment_text-of : (day : ℤ) (second : ℕ) → IsDay day → second < 86400 → moment_text (seconds_of day second) ≡ date_text day ++ codes "T" ++ clock_text second
+moment_text-of : (day : ℤ) (second : ℕ) → IsDay day → second < 86400
+    → moment_text (seconds_of day second) ≡ date_text day ++ codes "T" ++ clock_text second
 unfolding moment_text
 moment_text-of day second h lt =
     let total = calendar_seconds-of day second h in
-    let days : calendar_seconds (seconds_of day second) / 86400 ≡ unsigned_abs (day +ℤ pos 719528) = ap (λ n. n / 86400) total ∙ div-mul-add (unsigned_abs (day +ℤ pos 719528)) 86400 second lt in
-    let rest : calendar_seconds (seconds_of day second) % 86400 ≡ second = ap (λ n. n % 86400) total ∙ mod-mul-add (unsigned_abs (day +ℤ pos 719528)) 86400 second lt in
-    ap (λ n. day_text n ++ codes "T" ++ clock_text (calendar_seconds (seconds_of day second) % 86400)) days ∙ ap (λ n. date_text day ++ codes "T" ++ clock_text n) rest
+    let days : calendar_seconds (seconds_of day second) / 86400 ≡ unsigned_abs (day +ℤ pos 719528) =
+    ap (λ n. n / 86400) total ∙ div-mul-add (unsigned_abs (day +ℤ pos 719528)) 86400 second lt in
+    let rest : calendar_seconds (seconds_of day second) % 86400 ≡ second = ap (λ n. n % 86400) total
+    ∙ mod-mul-add (unsigned_abs (day +ℤ pos 719528)) 86400 second lt in
+    ap (λ n. day_text n ++ codes "T" ++ clock_text (calendar_seconds (seconds_of day second) % 86400)) days
+    ∙ ap (λ n. date_text day ++ codes "T" ++ clock_text n) rest
 
-read_back : (day : ℤ) (second : ℕ) → IsDay day → second < 86400 → (date_reading (date_text day) ≡ Some day) × (time_reading (clock_text second) ≡ Some second)
+read_back : (day : ℤ) (second : ℕ) → IsDay day → second < 86400
+    → (date_reading (date_text day) ≡ Some day) × (time_reading (clock_text second) ≡ Some second)
 read_back day second h lt =
     let moment = IsMoment-seconds_of day second h lt in
     let split = moment_text-Split (seconds_of day second) moment in
@@ -158,24 +185,33 @@ two_digits-back : (n : ℕ) → n < 100 → (48 + n / 10 - 48) * 10 + (48 + n % 
 two_digits-back n h = omega arith
 
 -- A printed year and month is read as that year and month.
-pub year_month_text-back : (year month : ℕ) → year ≤ 9999 → 1 ≤ month → month ≤ 12 → yearmonth_reading (year_month_text year month) ≡ Some (year, month)
+pub year_month_text-back : (year month : ℕ) → year ≤ 9999 → 1 ≤ month → month ≤ 12
+    → yearmonth_reading (year_month_text year month) ≡ Some (year, month)
 unfolding yearmonth_reading
 year_month_text-back year month h low high =
     let form : fits_form (codes "0000-00") (year_month_text year month) ≡ true =
-    and_from _ _ (digit (year / 100 / 10) (omega arith)) (and_from _ _ (digit (year / 100 % 10) (omega arith)) (and_from _ _ (digit (year % 100 / 10) (omega arith)) (and_from _ _ (digit (year % 100 % 10) (omega arith)) (and_from _ _ (digit (month / 10) (omega arith)) (and_from _ _ (digit (month % 10) (omega arith)) refl))))) in
+    and_from _ _ (digit (year / 100 / 10) (omega arith))
+    (and_from _ _ (digit (year / 100 % 10) (omega arith))
+    (and_from _ _ (digit (year % 100 / 10) (omega arith))
+    (and_from _ _ (digit (year % 100 % 10) (omega arith))
+    (and_from _ _ (digit (month / 10) (omega arith)) (and_from _ _ (digit (month % 10) (omega arith)) refl))))) in
     let century : number_at 0 (year_month_text year month) ≡ year / 100 = two_digits-back (year / 100) (omega arith) in
-    let in_century : number_at 2 (year_month_text year month) ≡ year % 100 = two_digits-back (year % 100) (omega arith) in
+    let in_century : number_at 2 (year_month_text year month) ≡ year % 100 =
+    two_digits-back (year % 100) (omega arith) in
     let month_at : number_at 5 (year_month_text year month) ≡ month = two_digits-back month (omega arith) in
     let named : year_in (year_month_text year month) ≡ year = omega (arith, century, in_century) in
-    let there : has_month month ≡ true = and_from (leb 1 month) (leb month 12) (le-leb 1 month low) (le-leb month 12 high) in
+    let there : has_month month ≡ true =
+    and_from (leb 1 month) (leb month 12) (le-leb 1 month low) (le-leb month 12 high) in
     rw (form, month_at, there, named) refl
   where
     digit : (x : ℕ) → x < 10 → fits_place 48 (48 + x) ≡ true
-    digit x lt = and_from (leb 48 (48 + x)) (leb (48 + x) 57) (le-leb 48 (48 + x) (omega arith)) (le-leb (48 + x) 57 (omega arith))
+    digit x lt = and_from (leb 48 (48 + x)) (leb (48 + x) 57) (le-leb 48 (48 + x) (omega arith))
+        (le-leb (48 + x) 57 (omega arith))
 
 -- ---- the texts of dates and times of day, as they are cut off the text of a moment
 
-fits_form-IsAscii : (form text : List ℕ) → fits_form form text ≡ true → list_all (λ p. ltb p 128) form ≡ true → IsAscii text
+fits_form-IsAscii : (form text : List ℕ) → fits_form form text ≡ true → list_all (λ p. ltb p 128) form ≡ true
+    → IsAscii text
 fits_form-IsAscii [] [] h k = IsAscii-nil
 fits_form-IsAscii [] (c ∷ text) h k = cc
 fits_form-IsAscii (p ∷ form) [] h k = cc
@@ -187,26 +223,31 @@ fits_form-IsAscii (p ∷ form) (c ∷ text) h k =
     place : (p c : ℕ) → fits_place p c ≡ true → p < 128 → c < 128
     place p c h lt = grind (arith, nat_tests)
 
-moment_reading-IsAscii : (text : List ℕ) (seconds : ℤ) → moment_reading text ≡ Some seconds → IsAscii text × (length text ≡ 19)
+moment_reading-IsAscii : (text : List ℕ) (seconds : ℤ) → moment_reading text ≡ Some seconds
+    → IsAscii text × (length text ≡ 19)
 unfolding moment_reading
 moment_reading-IsAscii text seconds e = by_form (fits_form moment_form text) refl e
   where
-    by_form : (b : Bool) → fits_form moment_form text ≡ b → cond (b && names_moment text) (Some (seconds_in text)) None ≡ Some seconds → IsAscii text × (length text ≡ 19)
+    by_form : (b : Bool) → fits_form moment_form text ≡ b
+        → cond (b && names_moment text) (Some (seconds_in text)) None ≡ Some seconds → IsAscii text × (length text ≡ 19)
     by_form true fits h = (fits_form-IsAscii moment_form text fits refl, fits_form-length moment_form text fits)
     by_form false fits h = cc
 
 -- The text of a moment may be cut at these places.
-pub moment-boundary : (text : List ℕ) (seconds : ℤ) (place : ℕ) → moment_reading text ≡ Some seconds → place ≤ 19 → IsCharBoundary text place
+pub moment-boundary : (text : List ℕ) (seconds : ℤ) (place : ℕ) → moment_reading text ≡ Some seconds → place ≤ 19
+    → IsCharBoundary text place
 moment-boundary text seconds place e h =
     let ascii = moment_reading-IsAscii text seconds e in
     IsCharBoundary-from_ascii text place ascii.0 (omega (arith, ascii.1))
 
-pub date-cut : (day moment : ℤ) (text : List ℕ) → IsDay day → moment ≡ day *ℤ pos 86400 → text ≡ moment_text moment → take 10 text ≡ date_text day
+pub date-cut : (day moment : ℤ) (text : List ℕ) → IsDay day → moment ≡ day *ℤ pos 86400 → text ≡ moment_text moment
+    → take 10 text ≡ date_text day
 date-cut day moment text h same e =
     let start : moment ≡ seconds_of day 0 = omega (arith, ints) in
     ap (take 10) (e ∙ ap moment_text start ∙ moment_text-of day 0 h (omega arith))
 
-pub time-cut : (second : ℕ) (moment : ℤ) (text : List ℕ) → second < 86400 → moment ≡ pos second → text ≡ moment_text moment → drop 11 text ≡ clock_text second
+pub time-cut : (second : ℕ) (moment : ℤ) (text : List ℕ) → second < 86400 → moment ≡ pos second
+    → text ≡ moment_text moment → drop 11 text ≡ clock_text second
 time-cut second moment text h same e =
     let start : moment ≡ seconds_of (pos 0) second = omega (arith, ints) in
     ap (drop 11) (e ∙ ap moment_text start ∙ moment_text-of (pos 0) second (omega (arith, ints), omega (arith, ints)) h)

@@ -1,5 +1,6 @@
 -- Values that are read one after another, and what a reading that succeeds took.
-use Rattle.std.proofs.Common.{◌≡◌, ℕ, ◌+◌, ◌<◌, Bool, true, false, refl, ap, sym, ◌∙◌, subst, List, [], ◌∷◌, ◌++◌, map, length, get_or, drop, append_assoc, rules}
+use Rattle.std.proofs.Common.{◌≡◌, ℕ, ◌+◌, ◌<◌, Bool, true, false, refl, ap, sym, ◌∙◌, subst, List, [], ◌∷◌, ◌++◌}
+use Rattle.std.proofs.Common.{map, length, get_or, drop, append_assoc, rules}
 use Rattle.std.specs.Prelude.{if◌then◌else◌, Option, Some, None, option_map, Result, Ok, Err, ℤ}
 use Rattle.std.proofs.lemmas.List.{at_drop_more}
 use Rattle.portal_base.specs.declared.json_value.Json as json
@@ -8,7 +9,8 @@ use Rattle.portal_base.specs.declared.json_value.Json.{Json, out-Json, the_lemma
 use Rattle.portal_base.specs.declared.json_value.Json.TheOpen.{Json-F}
 use Rattle.table_schema.specs.declared.fault.SchemaFault.{SchemaFault}
 use Rattle.portal_base.specs.Kinds.{is_null_in, non_null, present, text_of, text_in, list_of, list_in}
-use Rattle.table_schema.specs.Values.{◌>>=◌, ◌>>>◌, or_fault, all_of, is_map_in, is_map, dictionary_in, truth_of, truth_in, whole_of, whole_in, optional}
+use Rattle.table_schema.specs.Values.{◌>>=◌, ◌>>>◌, or_fault, all_of, is_map_in, is_map, dictionary_in, truth_of}
+use Rattle.table_schema.specs.Values.{truth_in, whole_of, whole_in, optional}
 
 -- ---- values by their kinds
 
@@ -60,7 +62,8 @@ full-List items = full (json.List items) (Json-F.List items) (out-List items) re
 pub full-Map : (entries : List (List ℕ × Json)) → non_null (Some (json.Map entries)) ≡ Some (json.Map entries)
 full-Map entries = full (json.Map entries) (Json-F.Map entries) (out-Map entries) refl
 
-pub present-Map : (key : List ℕ) (entries : List (List ℕ × Json)) → present key (json.Map entries) ≡ non_null (first_of key entries)
+pub present-Map : (key : List ℕ) (entries : List (List ℕ × Json))
+    → present key (json.Map entries) ≡ non_null (first_of key entries)
 present-Map key entries = ap (λ j. non_null (member_in key j)) (out-Map entries)
 
 -- ---- lists of values
@@ -69,36 +72,45 @@ present-Map key entries = ap (λ j. non_null (member_in key j)) (out-Map entries
 abbrev pub read_on : {A : Type 0} → (Json → Option A) → List A → List Json → Option (List A)
 read_on read before items = option_map (λ xs. before ++ xs) (all_of read items)
 
-pub joined : {A : Type 0} (before : List A) (x : A) (rest : Option (List A)) → option_map (λ xs. before ++ xs) (option_map (λ xs. x ∷ xs) rest) ≡ option_map (λ xs. (before ++ x ∷ []) ++ xs) rest
+pub joined : {A : Type 0} (before : List A) (x : A) (rest : Option (List A))
+    → option_map (λ xs. before ++ xs) (option_map (λ xs. x ∷ xs) rest) ≡ option_map (λ xs. (before ++ x ∷ []) ++ xs)
+    rest
 joined before x None = refl
 joined before x (Some xs) = ap Some (sym (append_assoc before (x ∷ []) xs))
 
-pub read_on-some : {A : Type 0} (read : Json → Option A) (before : List A) (items : List Json) (i : ℕ) (item : Json) (x : A) → i < length items → item ≡ get_or items i item → read item ≡ Some x → read_on read before (drop i items) ≡ read_on read (before ++ x ∷ []) (drop (i + 1) items)
+pub read_on-some : {A : Type 0} (read : Json → Option A) (before : List A) (items : List Json) (i : ℕ) (item : Json)
+    (x : A) → i < length items → item ≡ get_or items i item → read item ≡ Some x
+    → read_on read before (drop i items) ≡ read_on read (before ++ x ∷ []) (drop (i + 1) items)
 read_on-some read before items i item x lt is e =
     at_drop_more (read_on read before) items i item lt
     ∙ (rw (← is) (rw e (joined before x (all_of read (drop (i + 1) items)))))
 
 -- ---- what was taken, where a reading succeeded
 
-pub bind-some : {A B : Type 0} (o : Option A) (f : A → Option B) (y : B) → (o >>= f) ≡ Some y → (x : A) × ((o ≡ Some x) × (f x ≡ Some y))
+pub bind-some : {A B : Type 0} (o : Option A) (f : A → Option B) (y : B) → (o >>= f) ≡ Some y
+    → (x : A) × ((o ≡ Some x) × (f x ≡ Some y))
 bind-some None f y e = absurd (cc)
 bind-some (Some x) f y e = (x, (refl, e))
 
-pub bind-ok : {A B : Type 0} (r : Result A SchemaFault) (f : A → Result B SchemaFault) (y : B) → (r >>> f) ≡ Ok y → (x : A) × ((r ≡ Ok x) × (f x ≡ Ok y))
+pub bind-ok : {A B : Type 0} (r : Result A SchemaFault) (f : A → Result B SchemaFault) (y : B) → (r >>> f) ≡ Ok y
+    → (x : A) × ((r ≡ Ok x) × (f x ≡ Ok y))
 bind-ok (Err fault) f y e = absurd (cc)
 bind-ok (Ok x) f y e = (x, (refl, e))
 
 pub bind-same : {A B : Type 0} (o : Option A) (f : A → Option B) (x : A) → o ≡ Some x → (o >>= f) ≡ f x
 bind-same o f x e = ap (λ p. p >>= f) e
 
-pub ok-same : {A B : Type 0} (r : Result A SchemaFault) (f : A → Result B SchemaFault) (x : A) → r ≡ Ok x → (r >>> f) ≡ f x
+pub ok-same : {A B : Type 0} (r : Result A SchemaFault) (f : A → Result B SchemaFault) (x : A) → r ≡ Ok x
+    → (r >>> f) ≡ f x
 ok-same r f x e = ap (λ p. p >>> f) e
 
-pub gated : {A : Type 0} (b : Bool) (o : Option A) (x : A) → (if b then o else None) ≡ Some x → (b ≡ true) × (o ≡ Some x)
+pub gated : {A : Type 0} (b : Bool) (o : Option A) (x : A) → (if b then o else None) ≡ Some x
+    → (b ≡ true) × (o ≡ Some x)
 gated true o x e = (refl, e)
 gated false o x e = absurd (cc)
 
-pub map-some : {A B : Type 0} (f : A → B) (o : Option A) (y : B) → option_map f o ≡ Some y → (x : A) × ((o ≡ Some x) × (f x ≡ y))
+pub map-some : {A B : Type 0} (f : A → B) (o : Option A) (y : B) → option_map f o ≡ Some y
+    → (x : A) × ((o ≡ Some x) × (f x ≡ y))
 map-some f None y e = absurd (cc)
 map-some f (Some x) y e = (x, (refl, cc))
 
@@ -114,18 +126,23 @@ pub if_none : {A : Type 0} (b : Bool) (x y : A) → (if b then None else Some x)
 if_none true x y e = absurd (cc)
 if_none false x y e = (refl, cc)
 
-pub if_ok : {A : Type 0} (fault : SchemaFault) (b : Bool) (x y : A) → (if b then Ok x else Err fault) ≡ Ok y → (b ≡ true) × (x ≡ y)
+pub if_ok : {A : Type 0} (fault : SchemaFault) (b : Bool) (x y : A) → (if b then Ok x else Err fault) ≡ Ok y
+    → (b ≡ true) × (x ≡ y)
 if_ok fault true x y e = (refl, cc)
 if_ok fault false x y e = absurd (cc)
 
-pub if_err : {A : Type 0} (fault : SchemaFault) (b : Bool) (x y : A) → (if b then Err fault else Ok x) ≡ Ok y → (b ≡ false) × (x ≡ y)
+pub if_err : {A : Type 0} (fault : SchemaFault) (b : Bool) (x y : A) → (if b then Err fault else Ok x) ≡ Ok y
+    → (b ≡ false) × (x ≡ y)
 if_err fault true x y e = absurd (cc)
 if_err fault false x y e = (refl, cc)
 
 -- ---- what was read is read again where it is written
 
-pub all_of-back : {A : Type 0} (read : Json → Option A) (write : A → Json) → ((value : Json) (x : A) → read value ≡ Some x → read (write x) ≡ Some x) → (items : List Json) (xs : List A) → all_of read items ≡ Some xs → all_of read (map write xs) ≡ Some xs
-all_of-back read write back [] xs e = let none : [] ≡ xs = cc in subst (λ l. all_of read (map write l) ≡ Some l) none refl
+pub all_of-back : {A : Type 0} (read : Json → Option A) (write : A → Json)
+    → ((value : Json) (x : A) → read value ≡ Some x → read (write x) ≡ Some x) → (items : List Json) (xs : List A)
+    → all_of read items ≡ Some xs → all_of read (map write xs) ≡ Some xs
+all_of-back read write back [] xs e = let none : [] ≡ xs = cc in
+    subst (λ l. all_of read (map write l) ≡ Some l) none refl
 all_of-back read write back (item ∷ items) xs e =
     let first = bind-some (read item) (λ y. option_map (λ ys. y ∷ ys) (all_of read items)) xs e in
     let rest = map-some (λ ys. first.0 ∷ ys) (all_of read items) xs first.1.1 in
@@ -139,8 +156,13 @@ texts-back (text ∷ texts) =
     ap (λ o. o >>= λ t. option_map (λ ts. t ∷ ts) (all_of text_in (map json.Text texts))) (text_in-Text text)
     ∙ ap (option_map (λ ts. text ∷ ts)) (texts-back texts)
 
-pub optional-back : {A : Type 0} (read : Json → Option A) (write : A → Json) → ((value : Json) (x : A) → read value ≡ Some x → read (write x) ≡ Some x) → ((value : Json) (x : A) → read value ≡ Some x → is_null_in (out-Json value) ≡ false) → (o : Option Json) (r : Option A) → optional read o ≡ Some r → optional read (non_null (option_map write r)) ≡ Some r
-optional-back read write back there None r e = let none : None ≡ r = cc in subst (λ s. optional read (non_null (option_map write s)) ≡ Some s) none refl
+pub optional-back : {A : Type 0} (read : Json → Option A) (write : A → Json)
+    → ((value : Json) (x : A) → read value ≡ Some x → read (write x) ≡ Some x)
+    → ((value : Json) (x : A) → read value ≡ Some x → is_null_in (out-Json value) ≡ false)
+    → (o : Option Json) (r : Option A) → optional read o ≡ Some r
+    → optional read (non_null (option_map write r)) ≡ Some r
+optional-back read write back there None r e = let none : None ≡ r = cc in
+    subst (λ s. optional read (non_null (option_map write s)) ≡ Some s) none refl
 optional-back read write back there (Some value) r e =
     let got = map-some Some (read value) r e in
     let again : read (write got.0) ≡ Some got.0 = back value got.0 got.1.0 in

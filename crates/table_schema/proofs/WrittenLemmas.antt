@@ -1,5 +1,6 @@
 -- A schema is read back from the descriptor that it is written as.
-use Rattle.std.proofs.Common.{◌≡◌, ℕ, suc, ◌<◌, ◌≤◌, nat_le, ◌==◌, arith, Bool, true, false, ◌&&◌, ◌||◌, not, refl, ap, sym, ◌∙◌, subst, List, [], ◌∷◌, ◌++◌, map, length, codes}
+use Rattle.std.proofs.Common.{◌≡◌, ℕ, suc, ◌<◌, ◌≤◌, nat_le, ◌==◌, arith, Bool, true, false, ◌&&◌, ◌||◌, not, refl}
+use Rattle.std.proofs.Common.{ap, sym, ◌∙◌, subst, List, [], ◌∷◌, ◌++◌, map, length, codes}
 use Rattle.std.specs.Prelude.{if◌then◌else◌, Option, Some, None, option_map, Result, Ok, Err, All}
 use Rattle.std.specs.List.{list_all}
 use Rattle.std.specs.Str.{bytes_eq}
@@ -15,33 +16,50 @@ use Rattle.table_schema.specs.declared.foreign.Foreign.{Foreign}
 use Rattle.table_schema.specs.Descriptor.{dictionaries, field_items, columns_reading}
 use Rattle.lexical_forms.specs.Digits.{is_empty}
 use Rattle.table_schema.specs.Field.{FieldValue, SchemaValue, shown}
-use Rattle.table_schema.specs.Keys.{missing_in, place_of, is_new, places_from, places_of, places_in, key_in, refers_to_key, foreign_of, reference_in, resource_in, target_in, foreign_in, foreigns_in, fields_from, schema_of, keyed, columns_in, schema_reading}
+use Rattle.table_schema.specs.Keys.{missing_in, place_of, is_new, places_from, places_of, places_in, key_in}
+use Rattle.table_schema.specs.Keys.{refers_to_key, foreign_of, reference_in, resource_in, target_in, foreign_in}
+use Rattle.table_schema.specs.Keys.{foreigns_in, fields_from, schema_of, keyed, columns_in, schema_reading}
 use Rattle.table_schema.specs.Printed.{HasValues}
 use Rattle.portal_base.specs.Kinds.{present, text_in, list_in}
-use Rattle.table_schema.specs.Values.{◌>>=◌, ◌>>>◌, or_fault, or_default, is_map, dictionary_in, texts_in, names_of, names_in, all_of}
+use Rattle.table_schema.specs.Values.{◌>>=◌, ◌>>>◌, or_fault, or_default, is_map, dictionary_in, texts_in, names_of}
+use Rattle.table_schema.specs.Values.{names_in, all_of}
 use Rattle.table_schema.specs.Written.{texts_value, field_value, name_at, reference_value, foreign_value, schema_value}
 use Rattle.table_schema.proofs.ColumnLemmas.{field_items-of}
 use Rattle.table_schema.proofs.DescriptorLemmas.{texts_in-back, columns-back, columns-length, columns-values}
-use Rattle.table_schema.proofs.ValueLemmas.{bind-some, bind-same, bind-ok, ok-same, map-some, gated, or_fault-ok, if_some, all_of-back, texts-back, out-List, text_in-Text, list_in-List, dictionary_in-Map, is_map-Map, full-Text, full-List, full-Map, present-Map}
+use Rattle.table_schema.proofs.ValueLemmas.{bind-some, bind-same, bind-ok, ok-same, map-some, gated, or_fault-ok}
+use Rattle.table_schema.proofs.ValueLemmas.{if_some, all_of-back, texts-back, out-List, text_in-Text, list_in-List}
+use Rattle.table_schema.proofs.ValueLemmas.{dictionary_in-Map, is_map-Map, full-Text, full-List, full-Map}
+use Rattle.table_schema.proofs.ValueLemmas.{present-Map}
 
 -- ---- names of fields
 
 -- The field at the place of a name has the name.
-place_named : (columns : List Column) (name : List ℕ) (p : ℕ) (missing : List (List ℕ)) (key : List ℕ) (q : ℕ) → place_of columns name ≡ Some p → name_at (fields_from missing key q columns) p ≡ name
+place_named : (columns : List Column) (name : List ℕ) (p : ℕ) (missing : List (List ℕ)) (key : List ℕ) (q : ℕ)
+    → place_of columns name ≡ Some p → name_at (fields_from missing key q columns) p ≡ name
 place_named [] name p missing key q e = cc
-place_named (column ∷ columns) name p missing key q e = chosen (bytes_eq column.name name) refl e (λ place found. place_named columns name place missing key (suc q) found)
+place_named (column ∷ columns) name p missing key q e =
+    chosen (bytes_eq column.name name) refl e (λ place found. place_named columns name place missing key (suc q) found)
   where
-    chosen : (b : Bool) → bytes_eq column.name name ≡ b → (if b then Some 0 else option_map suc (place_of columns name)) ≡ Some p → ((place : ℕ) → place_of columns name ≡ Some place → name_at (fields_from missing key (suc q) columns) place ≡ name) → name_at (fields_from missing key q (column ∷ columns)) p ≡ name
-    chosen true is h rest = let first : 0 ≡ p = cc in subst (λ x. name_at (fields_from missing key q (column ∷ columns)) x ≡ name) first ((bytes_eq-Decides column.name name).0 is)
+    chosen : (b : Bool) → bytes_eq column.name name ≡ b
+        → (if b then Some 0 else option_map suc (place_of columns name)) ≡ Some p
+        → ((place : ℕ) → place_of columns name ≡ Some place
+        → name_at (fields_from missing key (suc q) columns) place ≡ name)
+        → name_at (fields_from missing key q (column ∷ columns)) p ≡ name
+    chosen true is h rest = let first : 0 ≡ p = cc in
+        subst (λ x. name_at (fields_from missing key q (column ∷ columns)) x ≡ name) first
+        ((bytes_eq-Decides column.name name).0 is)
     chosen false is h rest =
         let later = map-some suc (place_of columns name) p h in
         subst (λ x. name_at (fields_from missing key q (column ∷ columns)) x ≡ name) later.1.1 (rest later.0 later.1.0)
 
 abbrev next_places : List Column → List ℕ → List (List ℕ) → ℕ → Option (List ℕ)
 next_places columns before names place =
-    if is_new before place then option_map (λ places. place ∷ places) (places_from columns (before ++ place ∷ []) names) else None
+    if is_new before place then option_map (λ places. place ∷ places)
+    (places_from columns (before ++ place ∷ []) names) else None
 
-places-back : (columns : List Column) (missing : List (List ℕ)) (key before : List ℕ) (names : List (List ℕ)) (places : List ℕ) → places_from columns before names ≡ Some places → places_from columns before (map (name_at (fields_from missing key 0 columns)) places) ≡ Some places
+places-back : (columns : List Column) (missing : List (List ℕ)) (key before : List ℕ) (names : List (List ℕ))
+    (places : List ℕ) → places_from columns before names ≡ Some places
+    → places_from columns before (map (name_at (fields_from missing key 0 columns)) places) ≡ Some places
 places-back columns missing key before [] places e =
     let none : [] ≡ places = cc in
     subst (λ l. places_from columns before (map (name_at (fields_from missing key 0 columns)) l) ≡ Some l) none refl
@@ -49,13 +67,17 @@ places-back columns missing key before (name ∷ names) places e =
     let fields = fields_from missing key 0 columns in
     let found = bind-some (place_of columns name) (next_places columns before names) places e in
     let place = found.0 in
-    let new = gated (is_new before place) (option_map (λ ps. place ∷ ps) (places_from columns (before ++ place ∷ []) names)) places found.1.1 in
+    let new =
+    gated (is_new before place) (option_map (λ ps. place ∷ ps) (places_from columns (before ++ place ∷ []) names))
+    places found.1.1 in
     let rest = map-some (λ ps. place ∷ ps) (places_from columns (before ++ place ∷ []) names) places new.1 in
-    let again : place_of columns (name_at fields place) ≡ Some place = ap (place_of columns) (place_named columns name place missing key 0 found.1.0) ∙ found.1.0 in
+    let again : place_of columns (name_at fields place) ≡ Some place =
+    ap (place_of columns) (place_named columns name place missing key 0 found.1.0) ∙ found.1.0 in
     let others = map (name_at fields) rest.0 in
     subst (λ l. places_from columns before (map (name_at fields) l) ≡ Some l) rest.1.1 (
     bind-same (place_of columns (name_at fields place)) (next_places columns before others) place again
-    ∙ ap (λ b. if b then option_map (λ ps. place ∷ ps) (places_from columns (before ++ place ∷ []) others) else None) new.0
+    ∙ ap (λ b. if b then option_map (λ ps. place ∷ ps) (places_from columns (before ++ place ∷ []) others) else None)
+    new.0
     ∙ ap (option_map (λ ps. place ∷ ps)) (places-back columns missing key (before ++ place ∷ []) names rest.0 rest.1.0))
 
 names_in-back : (names : List (List ℕ)) → names_in (texts_value names) ≡ Some names
@@ -63,7 +85,9 @@ names_in-back names = ap names_of (out-List (map json.Text names)) ∙ texts-bac
 
 -- ---- the keys
 
-key-back : (columns : List Column) (missing : List (List ℕ)) (all : List ℕ) (o : Option Json) (key : List ℕ) → or_default (places_in columns) [] o ≡ Some key → places_of columns (map (name_at (fields_from missing all 0 columns)) key) ≡ Some key
+key-back : (columns : List Column) (missing : List (List ℕ)) (all : List ℕ) (o : Option Json) (key : List ℕ)
+    → or_default (places_in columns) [] o ≡ Some key
+    → places_of columns (map (name_at (fields_from missing all 0 columns)) key) ≡ Some key
 key-back columns missing all None key e =
     let none : [] ≡ key = cc in
     subst (λ l. places_of columns (map (name_at (fields_from missing all 0 columns)) l) ≡ Some l) none refl
@@ -84,7 +108,9 @@ abbrev fits_together : List Column → List ℕ → List ℕ → List ℕ → Li
 fits_together columns key places resource target =
     (length places == length target) && (not (is_empty resource) || refers_to_key columns places key target)
 
-foreign-back : (columns : List Column) (missing : List (List ℕ)) (key : List ℕ) (item : Json) (f : Foreign) → foreign_in columns key item ≡ Some f → foreign_in columns key (foreign_value (fields_from missing key 0 columns) f) ≡ Some f
+foreign-back : (columns : List Column) (missing : List (List ℕ)) (key : List ℕ) (item : Json) (f : Foreign)
+    → foreign_in columns key item ≡ Some f
+    → foreign_in columns key (foreign_value (fields_from missing key 0 columns) f) ≡ Some f
 foreign-back columns missing key item f e =
     let fields = fields_from missing key 0 columns in
     let p = bind-some (present (codes "fields") item >>= places_in columns) (after_places columns key item) f e in
@@ -117,26 +143,36 @@ foreign-back columns missing key item f e =
     ∙ bind-same (target_in reference) (foreign_of columns key places resource) target target_so
     ∙ ap (λ b. if b then Some whole else None) fit.0)
 
-foreigns-back : (columns : List Column) (missing : List (List ℕ)) (key : List ℕ) (o : Option Json) (fs : List Foreign) → or_default (λ items. list_in items >>= all_of (foreign_in columns key)) [] o ≡ Some fs → all_of (foreign_in columns key) (map (foreign_value (fields_from missing key 0 columns)) fs) ≡ Some fs
+foreigns-back : (columns : List Column) (missing : List (List ℕ)) (key : List ℕ) (o : Option Json) (fs : List Foreign)
+    → or_default (λ items. list_in items >>= all_of (foreign_in columns key)) [] o ≡ Some fs
+    → all_of (foreign_in columns key) (map (foreign_value (fields_from missing key 0 columns)) fs) ≡ Some fs
 foreigns-back columns missing key None fs e =
     let none : [] ≡ fs = cc in
-    subst (λ l. all_of (foreign_in columns key) (map (foreign_value (fields_from missing key 0 columns)) l) ≡ Some l) none refl
+    subst (λ l. all_of (foreign_in columns key) (map (foreign_value (fields_from missing key 0 columns)) l) ≡ Some l)
+    none refl
 foreigns-back columns missing key (Some value) fs e =
     let items = bind-some (list_in value) (all_of (foreign_in columns key)) fs e in
-    all_of-back (foreign_in columns key) (foreign_value (fields_from missing key 0 columns)) (foreign-back columns missing key) items.0 fs items.1.1
+    all_of-back (foreign_in columns key) (foreign_value (fields_from missing key 0 columns))
+    (foreign-back columns missing key) items.0 fs items.1.1
 
 -- ---- the list of fields
 
-ok_gate : {A : Type 0} (fault : SchemaFault) (b : Bool) (r : Result A SchemaFault) (x : A) → (if b then r else Err fault) ≡ Ok x → r ≡ Ok x
+ok_gate : {A : Type 0} (fault : SchemaFault) (b : Bool) (r : Result A SchemaFault) (x : A)
+    → (if b then r else Err fault) ≡ Ok x → r ≡ Ok x
 ok_gate fault true r x e = e
 ok_gate fault false r x e = cc
 
-pub items_size : (value : Json) (items : List Json) → field_items value ≡ Ok items → (0 < length items) × (length items ≤ 500)
+pub items_size : (value : Json) (items : List Json) → field_items value ≡ Ok items
+    → (0 < length items) × (length items ≤ 500)
 items_size value items e =
-    let found = or_fault-ok NoFields (present (codes "fields") value >>= list_in >>= dictionaries) items (ok_gate NotJson (is_map value) (or_fault NoFields (present (codes "fields") value >>= list_in >>= dictionaries)) items e) in
+    let found = or_fault-ok NoFields (present (codes "fields") value >>= list_in >>= dictionaries) items
+    (ok_gate NotJson (is_map value)
+    (or_fault NoFields (present (codes "fields") value >>= list_in >>= dictionaries)) items e) in
     let list = bind-some (present (codes "fields") value >>= list_in) dictionaries items found in
-    let fit = if_some (nat_le 1 (length list.0) && nat_le (length list.0) 500 && list_all is_map list.0) list.0 items list.1.1 in
-    let sizes = and_parts (nat_le 1 (length list.0)) (nat_le (length list.0) 500) (and_parts (nat_le 1 (length list.0) && nat_le (length list.0) 500) (list_all is_map list.0) fit.0).0 in
+    let fit = if_some (nat_le 1 (length list.0) && nat_le (length list.0) 500 && list_all is_map list.0) list.0 items
+    list.1.1 in
+    let sizes = and_parts (nat_le 1 (length list.0)) (nat_le (length list.0) 500)
+    (and_parts (nat_le 1 (length list.0) && nat_le (length list.0) 500) (list_all is_map list.0) fit.0).0 in
     subst (λ l. (0 < length l) × (length l ≤ 500)) fit.1 (sized (length list.0) sizes.0 sizes.1)
   where
     sized : (n : ℕ) → nat_le 1 n ≡ true → nat_le n 500 ≡ true → (0 < n) × (n ≤ 500)
@@ -149,23 +185,29 @@ columns_few value columns e =
     let as_many : length columns ≡ length items.0 = columns-length 1 [] items.0 columns items.1.1 in
     omega (arith, as_many, (items_size value items.0 items.1.0).1)
 
-values-length : (columns : List Column) (missing : List (List ℕ)) (key : List ℕ) (place : ℕ) → length (map field_value (fields_from missing key place columns)) ≡ length columns
+values-length : (columns : List Column) (missing : List (List ℕ)) (key : List ℕ) (place : ℕ)
+    → length (map field_value (fields_from missing key place columns)) ≡ length columns
 values-length [] missing key place = refl
 values-length (column ∷ columns) missing key place = ap suc (values-length columns missing key (suc place))
 
 values-maps : (fields : List FieldValue) → list_all is_map (map field_value fields) ≡ true
 values-maps [] = refl
-values-maps (field ∷ fields) = and_from (is_map (field_value field)) (list_all is_map (map field_value fields)) (is_map-Map _) (values-maps fields)
+values-maps (field ∷ fields) = and_from (is_map (field_value field)) (list_all is_map (map field_value fields))
+    (is_map-Map _) (values-maps fields)
 
 -- ---- the schema
 
 abbrev after_key : List Column → List (List ℕ) → Json → List ℕ → Option SchemaValue
-after_key columns missing value key = foreigns_in columns key value >>= λ foreign. Some (schema_of columns missing key foreign)
+after_key columns missing value key =
+    foreigns_in columns key value >>= λ foreign. Some (schema_of columns missing key foreign)
 
 abbrev after_missing : List Column → Json → List (List ℕ) → Option SchemaValue
 after_missing columns value missing = key_in columns value >>= after_key columns missing value
 
-keyed-back : (columns : List Column) (value : Json) (items : List Json) (missing : List (List ℕ)) (key : List ℕ) (foreign : List Foreign) → field_items value ≡ Ok items → columns_reading 1 [] items ≡ Ok columns → key_in columns value ≡ Some key → foreigns_in columns key value ≡ Some foreign → schema_reading (schema_value (schema_of columns missing key foreign)) ≡ Ok (schema_of columns missing key foreign)
+keyed-back : (columns : List Column) (value : Json) (items : List Json) (missing : List (List ℕ)) (key : List ℕ)
+    (foreign : List Foreign) → field_items value ≡ Ok items → columns_reading 1 [] items ≡ Ok columns
+    → key_in columns value ≡ Some key → foreigns_in columns key value ≡ Some foreign
+    → schema_reading (schema_value (schema_of columns missing key foreign)) ≡ Ok (schema_of columns missing key foreign)
 unfolding schema_reading schema_value
 keyed-back columns value items missing key foreign there read keys references =
     let schema = schema_of columns missing key foreign in
@@ -173,11 +215,14 @@ keyed-back columns value items missing key foreign there read keys references =
     let values = map field_value fields in
     let back = schema_value schema in
     let size = items_size value items there in
-    let as_many : length values ≡ length items = values-length columns missing key 0 ∙ columns-length 1 [] items columns read in
+    let as_many : length values ≡ length items = values-length columns missing key 0
+    ∙ columns-length 1 [] items columns read in
     let items_so : field_items back ≡ Ok values =
-    field_items-of back (json.List values) values (is_map-Map _) (present-Map (codes "fields") _ ∙ full-List values) (list_in-List values) (omega (arith, as_many, size.0)) (omega (arith, as_many, size.1)) (values-maps fields) in
+    field_items-of back (json.List values) values (is_map-Map _) (present-Map (codes "fields") _ ∙ full-List values)
+    (list_in-List values) (omega (arith, as_many, size.0)) (omega (arith, as_many, size.1)) (values-maps fields) in
     let columns_so : (field_items back >>> columns_reading 1 []) ≡ Ok columns =
-    ok-same (field_items back) (columns_reading 1 []) values items_so ∙ columns-back 1 [] items columns missing key 0 read in
+    ok-same (field_items back) (columns_reading 1 []) values items_so ∙ columns-back 1 [] items columns missing key 0
+    read in
     let missing_so : missing_in back ≡ Some missing =
     ap (or_default texts_in ([] ∷ [])) (present-Map (codes "missingValues") _ ∙ full-List _) ∙ texts_in-back missing in
     let key_so : key_in columns back ≡ Some key =
@@ -185,7 +230,8 @@ keyed-back columns value items missing key foreign there read keys references =
     ∙ ap (λ o. o >>= places_of columns) (names_in-back (map (name_at fields) key))
     ∙ key-back columns missing key (present (codes "primaryKey") value) key keys in
     let foreign_so : foreigns_in columns key back ≡ Some foreign =
-    ap (or_default (λ list. list_in list >>= all_of (foreign_in columns key)) []) (present-Map (codes "foreignKeys") _ ∙ full-List _)
+    ap (or_default (λ list. list_in list >>= all_of (foreign_in columns key)) [])
+    (present-Map (codes "foreignKeys") _ ∙ full-List _)
     ∙ ap (λ o. o >>= all_of (foreign_in columns key)) (list_in-List (map (foreign_value fields) foreign))
     ∙ foreigns-back columns missing key (present (codes "foreignKeys") value) foreign references in
     let keyed_so : keyed columns back ≡ Some schema =
@@ -196,25 +242,29 @@ keyed-back columns value items missing key foreign there read keys references =
     ∙ ap (or_fault BadKey) keyed_so
 
 -- The schema of fields that were read is read back from its own descriptor.
-pub keyed_back : (columns : List Column) (value : Json) (schema : SchemaValue) → columns_in value ≡ Ok columns → keyed columns value ≡ Some schema → schema_reading (schema_value schema) ≡ Ok schema
+pub keyed_back : (columns : List Column) (value : Json) (schema : SchemaValue) → columns_in value ≡ Ok columns
+    → keyed columns value ≡ Some schema → schema_reading (schema_value schema) ≡ Ok schema
 keyed_back columns value schema e whole =
     let items = bind-ok (field_items value) (columns_reading 1 []) columns e in
     let missing = bind-some (missing_in value) (after_missing columns value) schema whole in
     let key = bind-some (key_in columns value) (after_key columns missing.0 value) schema missing.1.1 in
-    let foreign = bind-some (foreigns_in columns key.0 value) (λ f. Some (schema_of columns missing.0 key.0 f)) schema key.1.1 in
+    let foreign = bind-some (foreigns_in columns key.0 value) (λ f. Some (schema_of columns missing.0 key.0 f)) schema
+    key.1.1 in
     let same : schema_of columns missing.0 key.0 foreign.0 ≡ schema = cc (foreign.1.1) in
     subst (λ s. schema_reading (schema_value s) ≡ Ok s) same
     (keyed-back columns value items.0 missing.0 key.0 foreign.0 items.1.0 items.1.1 key.1.0 foreign.1.0)
 
 -- A schema that was read is read back from its own descriptor.
-pub schema-back : (value : Json) (schema : SchemaValue) → schema_reading value ≡ Ok schema → schema_reading (schema_value schema) ≡ Ok schema
+pub schema-back : (value : Json) (schema : SchemaValue) → schema_reading value ≡ Ok schema
+    → schema_reading (schema_value schema) ≡ Ok schema
 unfolding schema_reading
 schema-back value schema e =
     let read = bind-ok (field_items value >>> columns_reading 1 []) (λ cs. or_fault BadKey (keyed cs value)) schema e in
     keyed_back read.0 value schema read.1.0 (or_fault-ok BadKey (keyed read.0 value) schema read.1.1)
 
 -- The bounds and the allowed cells of its fields are values.
-pub schema-values : (value : Json) (schema : SchemaValue) → schema_reading value ≡ Ok schema → All (λ (f : FieldValue). HasValues f.constraints) schema.fields
+pub schema-values : (value : Json) (schema : SchemaValue) → schema_reading value ≡ Ok schema
+    → All (λ (f : FieldValue). HasValues f.constraints) schema.fields
 unfolding schema_reading
 schema-values value schema e =
     let read = bind-ok (field_items value >>> columns_reading 1 []) (λ cs. or_fault BadKey (keyed cs value)) schema e in
@@ -223,13 +273,17 @@ schema-values value schema e =
     let whole = or_fault-ok BadKey (keyed columns value) schema read.1.1 in
     let missing = bind-some (missing_in value) (after_missing columns value) schema whole in
     let key = bind-some (key_in columns value) (after_key columns missing.0 value) schema missing.1.1 in
-    let foreign = bind-some (foreigns_in columns key.0 value) (λ f. Some (schema_of columns missing.0 key.0 f)) schema key.1.1 in
+    let foreign = bind-some (foreigns_in columns key.0 value) (λ f. Some (schema_of columns missing.0 key.0 f)) schema
+    key.1.1 in
     let same : schema_of columns missing.0 key.0 foreign.0 ≡ schema = cc (foreign.1.1) in
     subst (λ s. All (λ (f : FieldValue). HasValues f.constraints) s.fields) same
     (columns-values 1 [] items.0 columns missing.0 key.0 0 items.1.1)
 
 -- A schema of these parts is what its keys are read as.
-pub keyed_shown : (columns : List Column) (value : Json) (fields : List FieldValue) (missing : List (List ℕ)) (key : List ℕ) (foreign : List Foreign) → missing_in value ≡ Some missing → key_in columns value ≡ Some key → foreigns_in columns key value ≡ Some foreign → fields ≡ fields_from missing key 0 columns → keyed columns value ≡ Some (shown fields key foreign missing)
+pub keyed_shown : (columns : List Column) (value : Json) (fields : List FieldValue) (missing : List (List ℕ))
+    (key : List ℕ) (foreign : List Foreign) → missing_in value ≡ Some missing → key_in columns value ≡ Some key
+    → foreigns_in columns key value ≡ Some foreign → fields ≡ fields_from missing key 0 columns
+    → keyed columns value ≡ Some (shown fields key foreign missing)
 keyed_shown columns value fields missing key foreign missing_so key_so foreign_so fields_so =
     bind-same (missing_in value) (after_missing columns value) missing missing_so
     ∙ bind-same (key_in columns value) (after_key columns missing value) key key_so
@@ -237,24 +291,29 @@ keyed_shown columns value fields missing key foreign missing_so key_so foreign_s
     ∙ ap (λ fs. Some (shown fs key foreign missing)) (sym fields_so)
 
 -- What the fields and then the keys are read as, or the fault.
-pub columns_so : (value : Json) (items : List Json) (columns : List Column) → field_items value ≡ Ok items → columns_reading 1 [] items ≡ Ok columns → columns_in value ≡ Ok columns
+pub columns_so : (value : Json) (items : List Json) (columns : List Column) → field_items value ≡ Ok items
+    → columns_reading 1 [] items ≡ Ok columns → columns_in value ≡ Ok columns
 columns_so value items columns there read = ok-same (field_items value) (columns_reading 1 []) items there ∙ read
 
-pub schema_so : (value : Json) (columns : List Column) (schema : SchemaValue) → columns_in value ≡ Ok columns → keyed columns value ≡ Some schema → schema_reading value ≡ Ok schema
+pub schema_so : (value : Json) (columns : List Column) (schema : SchemaValue) → columns_in value ≡ Ok columns
+    → keyed columns value ≡ Some schema → schema_reading value ≡ Ok schema
 unfolding schema_reading
 schema_so value columns schema read whole =
     ok-same (columns_in value) (λ cs. or_fault BadKey (keyed cs value)) columns read ∙ ap (or_fault BadKey) whole
 
-pub bad_key_so : (value : Json) (columns : List Column) → columns_in value ≡ Ok columns → keyed columns value ≡ None → schema_reading value ≡ Err BadKey
+pub bad_key_so : (value : Json) (columns : List Column) → columns_in value ≡ Ok columns → keyed columns value ≡ None
+    → schema_reading value ≡ Err BadKey
 unfolding schema_reading
 bad_key_so value columns read none =
     ok-same (columns_in value) (λ cs. or_fault BadKey (keyed cs value)) columns read ∙ ap (or_fault BadKey) none
 
-pub items_fault_so : (value : Json) (fault : SchemaFault) → field_items value ≡ Err fault → schema_reading value ≡ Err fault
+pub items_fault_so : (value : Json) (fault : SchemaFault) → field_items value ≡ Err fault
+    → schema_reading value ≡ Err fault
 unfolding schema_reading
 items_fault_so value fault e = ap (λ r. r >>> columns_reading 1 [] >>> λ cs. or_fault BadKey (keyed cs value)) e
 
-pub columns_fault_so : (value : Json) (items : List Json) (fault : SchemaFault) → field_items value ≡ Ok items → columns_reading 1 [] items ≡ Err fault → schema_reading value ≡ Err fault
+pub columns_fault_so : (value : Json) (items : List Json) (fault : SchemaFault) → field_items value ≡ Ok items
+    → columns_reading 1 [] items ≡ Err fault → schema_reading value ≡ Err fault
 unfolding schema_reading
 columns_fault_so value items fault there e =
     ap (λ r. r >>> columns_reading 1 [] >>> λ cs. or_fault BadKey (keyed cs value)) there

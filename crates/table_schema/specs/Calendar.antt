@@ -1,6 +1,8 @@
 -- The texts of dates, times of day, date-times, years and year-months (ISO 8601, extended format), on the proleptic
 -- Gregorian calendar, with years of four digits.
-use Rattle.std.specs.Prelude.{ℕ, ◌+◌, ◌*◌, Bool, true, false, ◌&&◌, ◌||◌, ◌==◌, nat_le, if◌then◌else◌, List, [], ◌∷◌, codes, take, drop, slice_index, ℤ, pos, ◌+ℤ◌, ◌*ℤ◌, Option, Some, None, option_map, option_and_then}
+use Rattle.std.specs.Prelude.{ℕ, ◌+◌, ◌*◌, Bool, true, false, ◌&&◌, ◌||◌, ◌==◌, nat_le, if◌then◌else◌, List, [], ◌∷◌}
+use Rattle.std.specs.Prelude.{codes, take, drop, slice_index, ℤ, pos, ◌+ℤ◌, ◌*ℤ◌, Option, Some, None, option_map}
+use Rattle.std.specs.Prelude.{option_and_then}
 use Rattle.jiff_core.specs.Calendar.{days_from_civil}
 use Rattle.portal_base.specs.MomentReading.{fits_form, number_at, year_in, has_day, has_time}
 

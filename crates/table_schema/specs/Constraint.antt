@@ -1,5 +1,6 @@
 -- The constraints of a field (Table Schema v1, "Constraints"), and the first that a cell breaks.
-use Rattle.std.specs.Prelude.{ℕ, Bool, true, ◌&&◌, ◌||◌, not, if◌then◌else◌, length, Option, Some, None, option_map, ℤ, pos, int_le}
+use Rattle.std.specs.Prelude.{ℕ, Bool, true, ◌&&◌, ◌||◌, not, if◌then◌else◌, length, Option, Some, None, option_map}
+use Rattle.std.specs.Prelude.{ℤ, pos, int_le}
 use Rattle.std.specs.List.{list_any}
 use Rattle.std.specs.Str.{chars}
 use Rattle.table_schema.specs.declared.cell.Cell.{Cell}

@@ -1,5 +1,6 @@
 -- A descriptor's fields (Table Schema v1, "Field descriptors"), and their faults in order.
-use Rattle.std.specs.Prelude.{ℕ, suc, nat_le, Bool, true, false, ◌&&◌, if◌then◌else◌, List, [], ◌∷◌, ◌++◌, length, codes, Option, Some, None, option_map, is_some, Result, Ok, Err, ℤ, pos, negsuc}
+use Rattle.std.specs.Prelude.{ℕ, suc, nat_le, Bool, true, false, ◌&&◌, if◌then◌else◌, List, [], ◌∷◌, ◌++◌, length}
+use Rattle.std.specs.Prelude.{codes, Option, Some, None, option_map, is_some, Result, Ok, Err, ℤ, pos, negsuc}
 use Rattle.std.specs.List.{list_all}
 use Rattle.std.specs.Str.{bytes_eq, chars}
 use Rattle.portal_base.specs.declared.json_value.Json.{Json}
@@ -7,7 +8,8 @@ use Rattle.table_schema.specs.declared.cell.Cell.{Cell}
 use Rattle.table_schema.specs.declared.column.Column.{Column}
 use Rattle.table_schema.specs.declared.constraint.Constraints.{Constraints}
 use Rattle.table_schema.specs.declared.fault.SchemaFault.{SchemaFault}
-use Rattle.table_schema.specs.declared.fault.SchemaFault.TheVariants.{NotJson, NoFields, UnknownKind, BadConstraint, RepeatedName, Unsupported, BadName}
+use Rattle.table_schema.specs.declared.fault.SchemaFault.TheVariants.{NotJson, NoFields, UnknownKind, BadConstraint}
+use Rattle.table_schema.specs.declared.fault.SchemaFault.TheVariants.{RepeatedName, Unsupported, BadName}
 use Rattle.table_schema.specs.declared.form.Form.{Form}
 use Rattle.table_schema.specs.declared.form.Form.TheVariants as form
 use Rattle.table_schema.specs.declared.form.Kind.{Kind}
@@ -19,7 +21,8 @@ use Rattle.lexical_forms.specs.Number.{is_that}
 use Rattle.table_schema.specs.Reading.{value_reading}
 use Rattle.table_schema.specs.Truth.{is_among, default_trues, default_falses}
 use Rattle.portal_base.specs.Kinds.{present, text_in, list_in}
-use Rattle.table_schema.specs.Values.{◌>>=◌, ◌>>>◌, or_fault, is_map, dictionary_in, truth_in, whole_in, all_of, texts_in, or_default, optional}
+use Rattle.table_schema.specs.Values.{◌>>=◌, ◌>>>◌, or_fault, is_map, dictionary_in, truth_in, whole_in, all_of}
+use Rattle.table_schema.specs.Values.{texts_in, or_default, optional}
 
 -- ---- the list of fields
 
@@ -75,7 +78,8 @@ kind_named number name = or_fault (kind_fault number name) (supported name)
 -- The type is `string` where none is given.
 abbrev pub kind_reading : ℕ → Json → Result Kind SchemaFault
 kind_reading number item =
-    or_fault (UnknownKind number) (or_default text_in (codes "string") (present (codes "type") item)) >>> kind_named number
+    or_fault (UnknownKind number) (or_default text_in (codes "string") (present (codes "type") item))
+    >>> kind_named number
 
 -- ---- what isn't supported besides
 

@@ -1,5 +1,6 @@
 -- A descriptor's missing values, primary key and foreign keys (Table Schema v1, "Other properties"), and the whole.
-use Rattle.std.specs.Prelude.{ℕ, suc, ◌==◌, Bool, true, false, ◌&&◌, ◌||◌, not, if◌then◌else◌, List, [], ◌∷◌, ◌++◌, length, codes, slice_get, Option, Some, None, option_map, Result, Ok, Err}
+use Rattle.std.specs.Prelude.{ℕ, suc, ◌==◌, Bool, true, false, ◌&&◌, ◌||◌, not, if◌then◌else◌, List, [], ◌∷◌, ◌++◌}
+use Rattle.std.specs.Prelude.{length, codes, slice_get, Option, Some, None, option_map, Result, Ok, Err}
 use Rattle.std.specs.List.{list_any}
 use Rattle.std.specs.Str.{bytes_eq}
 use Rattle.portal_base.specs.declared.json_value.Json.{Json}
@@ -36,7 +37,8 @@ abbrev pub places_from : List Column → List ℕ → List (List ℕ) → Option
 places_from columns before [] = Some []
 places_from columns before (name ∷ names) =
     place_of columns name >>= λ place.
-    (if is_new before place then option_map (λ places. place ∷ places) (places_from columns (before ++ place ∷ []) names)
+    (if is_new before place then option_map (λ places. place ∷ places)
+    (places_from columns (before ++ place ∷ []) names)
     else None)
 
 abbrev pub places_of : List Column → List (List ℕ) → Option (List ℕ)

@@ -5,7 +5,9 @@ use Rattle.table_schema.specs.declared.cell.CellError.TheVariants as error
 use Rattle.table_schema.specs.declared.cell.CellFault.{CellFault}
 use Rattle.table_schema.specs.declared.cell.CellFault.TheVariants.{NotOfType, Required, Length, Range, NotInEnum}
 use Rattle.table_schema.specs.declared.fault.SchemaFault.{SchemaFault}
-use Rattle.table_schema.specs.declared.fault.SchemaFault.TheVariants.{NotJson, NoFields, UnknownKind, BadConstraint, RepeatedName, BadKey, Unsupported, BadName, OutOfMemory}
+use Rattle.table_schema.specs.declared.fault.SchemaFault.TheVariants.{NotJson, NoFields, UnknownKind, BadConstraint}
+use Rattle.table_schema.specs.declared.fault.SchemaFault.TheVariants.{RepeatedName, BadKey, Unsupported, BadName}
+use Rattle.table_schema.specs.declared.fault.SchemaFault.TheVariants.{OutOfMemory}
 
 abbrev pub cell_fault_text : CellFault → List ℕ
 cell_fault_text NotOfType = codes "not of type"

@@ -1,5 +1,6 @@
 -- How cells are printed, as texts and in JSON.
-use Rattle.std.specs.Prelude.{◌≤◌, ◌<◌, ℕ, ◌^◌, Bool, if◌then◌else◌, List, ◌++◌, codes, All, IfSome, decimal, ℤ, pos, negsuc, ◌+ℤ◌, ◌≤ℤ◌, unsigned_abs}
+use Rattle.std.specs.Prelude.{◌≤◌, ◌<◌, ℕ, ◌^◌, Bool, if◌then◌else◌, List, ◌++◌, codes, All, IfSome, decimal, ℤ, pos}
+use Rattle.std.specs.Prelude.{negsuc, ◌+ℤ◌, ◌≤ℤ◌, unsigned_abs}
 use Rattle.std.specs.Fmt.{signed_decimal}
 use Rattle.lexical_forms.specs.NumberText.{number_text}
 use Rattle.portal_base.specs.Moment.{IsMoment}

@@ -1,5 +1,6 @@
 -- What texts and values are read as in a field (Table Schema v1): a cell, or the first rule that is broken.
-use Rattle.std.specs.Prelude.{◌≡◌, ◌⊎◌, ℕ, ◌^◌, nat_lt, nat_le, Bool, true, false, ◌||◌, if◌then◌else◌, List, Option, Some, None, option_map, Result, Ok, Err, ℤ, pos, ◌*ℤ◌, unsigned_abs}
+use Rattle.std.specs.Prelude.{◌≡◌, ◌⊎◌, ℕ, ◌^◌, nat_lt, nat_le, Bool, true, false, ◌||◌, if◌then◌else◌, List, Option}
+use Rattle.std.specs.Prelude.{Some, None, option_map, Result, Ok, Err, ℤ, pos, ◌*ℤ◌, unsigned_abs}
 use Rattle.std.specs.Str.{chars}
 use Rattle.portal_base.specs.declared.json_value.Json.{Json, out-Json}
 use Rattle.portal_base.specs.declared.json_value.Json.TheOpen.{Json-F}
@@ -140,7 +141,8 @@ pub record FailsOnly (field : FieldValue) (text : List ℕ) (fault : CellFault) 
   pub no_cell : (cell : Cell) → Reads field text cell → ⊥
 
 abbrev pub HasOneAnswer : FieldValue → List ℕ → Type 0
-HasOneAnswer field text = ((cell : Cell) × ReadsOnly field text cell) ⊎ ((fault : CellFault) × FailsOnly field text fault)
+HasOneAnswer field text = ((cell : Cell) × ReadsOnly field text cell)
+    ⊎ ((fault : CellFault) × FailsOnly field text fault)
 
 -- What a reader answers but for want of memory: the fault that is read.
 abbrev pub IsFault : Result Cell CellFault → CellError → Type 0

@@ -1,5 +1,6 @@
 -- The values of a descriptor's keys, by their kinds, beside those that every body has.
-use Rattle.std.specs.Prelude.{◌≡◌, ℕ, Bool, true, false, if◌then◌else◌, List, [], ◌∷◌, Option, Some, None, option_map, Result, Ok, Err, ℤ}
+use Rattle.std.specs.Prelude.{◌≡◌, ℕ, Bool, true, false, if◌then◌else◌, List, [], ◌∷◌, Option, Some, None, option_map}
+use Rattle.std.specs.Prelude.{Result, Ok, Err, ℤ}
 use Rattle.portal_base.specs.Kinds.{list_in, text_in}
 use Rattle.portal_base.specs.declared.json_value.Json.{Json, out-Json}
 use Rattle.portal_base.specs.declared.json_value.Json.TheOpen.{Json-F}

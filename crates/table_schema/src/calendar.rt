@@ -2,7 +2,9 @@
 ghost use Rattle.std.specs.Prelude.{◌≡◌, ◌+◌, ◌<◌, pos, IsTrue, codes, slice_index, length, option_map, drop};
 ghost use Rattle.lexical_forms.specs.Digits.{is_digit};
 ghost use Rattle.portal_base.specs.MomentReading.{fits_place, fits_form, number_at, year_in, has_day, has_time};
-ghost use Rattle.table_schema.specs.Calendar.{has_month, date_reading, time_reading, year_reading, yearmonth_reading, stamp_reading, zoned_time_reading, is_zone, is_time_mark, day_in, second_in};
+ghost use Rattle.table_schema.specs.Calendar.{has_month, date_reading, time_reading, year_reading, yearmonth_reading};
+ghost use Rattle.table_schema.specs.Calendar.{stamp_reading, zoned_time_reading, is_zone, is_time_mark, day_in};
+ghost use Rattle.table_schema.specs.Calendar.{second_in};
 
 use jiff::civil::Date;
 use portal_base::moment::Moment;

@@ -4,7 +4,9 @@ ghost use Rattle.std.specs.List.{list_all, list_any};
 ghost use Rattle.std.specs.Str.{bytes_eq};
 ghost use Rattle.table_schema.specs.Values.{is_map, Gives};
 ghost use Rattle.table_schema.specs.Truth.{is_among};
-ghost use Rattle.table_schema.specs.Descriptor.{field_items, name_reading, new_name, supported, unsupported_types, kind_reading, kind_named, format_reading, pattern_reading, has_pattern, column_of, column_reading, columns_reading};
+ghost use Rattle.table_schema.specs.Descriptor.{field_items, name_reading, new_name, supported, unsupported_types};
+ghost use Rattle.table_schema.specs.Descriptor.{kind_reading, kind_named, format_reading, pattern_reading};
+ghost use Rattle.table_schema.specs.Descriptor.{has_pattern, column_of, column_reading, columns_reading};
 
 use crate::constraint::Constraints;
 use crate::fault::SchemaFault;

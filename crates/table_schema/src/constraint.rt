@@ -2,7 +2,8 @@
 ghost use Rattle.std.specs.Prelude.{◌≡◌, length, option_map};
 ghost use Rattle.std.specs.Option.{option_copied};
 ghost use Rattle.std.specs.List.{list_any};
-ghost use Rattle.table_schema.specs.Constraint.{length_of, is_at_least, is_at_most, keeps_length, keeps_range, keeps_enum, constraint_fault};
+ghost use Rattle.table_schema.specs.Constraint.{length_of, is_at_least, is_at_most, keeps_length, keeps_range};
+ghost use Rattle.table_schema.specs.Constraint.{keeps_enum, constraint_fault};
 ghost use Rattle.table_schema.specs.Order.{rank_of, same_cell};
 
 use crate::cell::{Cell, CellFault};

@@ -34,7 +34,13 @@ impl Model for Field {
 
     ghost Value = { FieldValue };
 
-    ghost view = { λ f. record { name = f.name; form = f.form; constraints = f.constraints; missing = arc_value f.missing; in_key = f.in_key } };
+    ghost view = { λ f. record {
+      name = f.name;
+      form = f.form;
+      constraints = f.constraints;
+      missing = arc_value f.missing;
+      in_key = f.in_key;
+    } };
 }
 
 impl Field {
@@ -85,7 +91,14 @@ impl Field {
 impl Field {
     /// The field of these parts.
     pub(crate) fn of_column(column: Column, missing: Arc<Seq<Text>>, in_key: bool) -> Field
-        ensures { result ≡ record { name = column.name; form = column.form; constraints = column.constraints; missing = arc_value missing; in_key = in_key } }
+        ensures { result
+            ≡ record {
+              name = column.name;
+              form = column.form;
+              constraints = column.constraints;
+              missing = arc_value missing;
+              in_key = in_key;
+            } }
     {
         Field {
             name: column.name,

@@ -3,7 +3,9 @@ ghost use Rattle.std.specs.Prelude.{◌≡◌, ◌≤◌, ◌==◌, length, IfOk
 ghost use Rattle.std.specs.Option.{option_copied};
 ghost use Rattle.std.specs.List.{list_any};
 ghost use Rattle.table_schema.specs.Values.{all_of};
-ghost use Rattle.table_schema.specs.Keys.{missing_in, place_of, places_of, places_in, key_in, same_kind, refers, refers_to_key, reference_in, resource_in, target_in, foreign_of, foreign_in, foreigns_in};
+ghost use Rattle.table_schema.specs.Keys.{missing_in, place_of, places_of, places_in, key_in, same_kind, refers};
+ghost use Rattle.table_schema.specs.Keys.{refers_to_key, reference_in, resource_in, target_in, foreign_of};
+ghost use Rattle.table_schema.specs.Keys.{foreign_in, foreigns_in};
 
 use crate::column::Column;
 use crate::foreign::Foreign;

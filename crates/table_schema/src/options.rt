@@ -4,7 +4,9 @@ ghost use Rattle.table_schema.specs.declared.form.Form.TheVariants.{Boolean as b
 ghost use Rattle.portal_base.specs.Kinds.{present};
 ghost use Rattle.table_schema.specs.Values.{or_default, optional, all_of, texts_in};
 ghost use Rattle.table_schema.specs.Reading.{value_reading};
-ghost use Rattle.table_schema.specs.Descriptor.{mark_in, spelling_in, truths_in, form_in, has_length, has_order, count_of, length_in, bound_in, allowed_in, constraints_in, constraints_of, no_constraints};
+ghost use Rattle.table_schema.specs.Descriptor.{mark_in, spelling_in, truths_in, form_in, has_length, has_order};
+ghost use Rattle.table_schema.specs.Descriptor.{count_of, length_in, bound_in, allowed_in, constraints_in};
+ghost use Rattle.table_schema.specs.Descriptor.{constraints_of, no_constraints};
 
 use crate::cell::Cell;
 use crate::constraint::Constraints;

@@ -2,7 +2,10 @@
 ghost use Rattle.std.specs.Prelude.{◌≡◌, ◌++◌, All, map, IfSome, IfOk, OnOk};
 ghost use Rattle.portal_base.specs.declared.json_value.Json.{Whole as whole_value, List as list_value};
 ghost use Rattle.table_schema.specs.Printed.{IsValue, HasValues, cell_value};
-ghost use Rattle.table_schema.specs.Written.{texts_value, kind_name, member_where, member_if, allowed_member, constraints_value, bare_member, character_value, options_before_format, options_before_name, options_before_type, field_value, name_at, names_value, reference_value, foreign_value};
+ghost use Rattle.table_schema.specs.Written.{texts_value, kind_name, member_where, member_if, allowed_member};
+ghost use Rattle.table_schema.specs.Written.{constraints_value, bare_member, character_value, options_before_format};
+ghost use Rattle.table_schema.specs.Written.{options_before_name, options_before_type, field_value, name_at};
+ghost use Rattle.table_schema.specs.Written.{names_value, reference_value, foreign_value};
 
 use crate::cell::Cell;
 use crate::constraint::Constraints;

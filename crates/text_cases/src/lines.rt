@@ -115,8 +115,8 @@ fn numbers_in(alloc: Global, column: &str) -> io::Result<Vec<u64>> {
     Ok(numbers)
 }
 
-/// The most bytes of a line, the most of the source, the calls that fail, and the text: what calls of a reader answer. It is
-/// the same byte by byte, where no call fails and the text isn't too long.
+/// The most bytes of a line, the most of the source, the calls that fail, and the text: what calls of a reader
+/// answer. It is the same byte by byte, where no call fails and the text isn't too long.
 pub fn read(alloc: Global, case: &Case) -> io::Result<Vec<u8>> {
     let bounds = Bounds {
         longest: case.parsed(0)?,

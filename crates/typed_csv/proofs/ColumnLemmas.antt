@@ -1,5 +1,6 @@
 -- The column that is told of a header is the first one out of order.
-use Rattle.std.proofs.Common.{◌≡◌, ◌∙◌, ◌+◌, ◌<◌, ◌≤◌, ◌↔◌, ℕ, zero, suc, Bool, true, false, refl, ap, sym, subst, List, length, take, arith, true≢false}
+use Rattle.std.proofs.Common.{◌≡◌, ◌∙◌, ◌+◌, ◌<◌, ◌≤◌, ◌↔◌, ℕ, zero, suc, Bool, true, false, refl, ap, sym, subst}
+use Rattle.std.proofs.Common.{List, length, take, arith, true≢false}
 use native.Mathlib.Decide.{dec_lt}
 use Rattle.std.proofs.lemmas.List.{drop_all}
 use Rattle.std.specs.Prelude.{Some, None}
@@ -24,7 +25,8 @@ module _ (fields : List FieldValue) (names : List (List ℕ)) where
   none_told : (from column : ℕ) → length names ≤ from → bad_on fields names from ≡ Some column → ⊥
   none_told from column h e = let none : None ≡ Some column = sym (none_on from h) ∙ e in cc
 
-  first_on : (left from column : ℕ) → length names ≤ from + left → bad_on fields names from ≡ Some column → IsFirstFrom from column
+  first_on : (left from column : ℕ) → length names ≤ from + left → bad_on fields names from ≡ Some column
+      → IsFirstFrom from column
   first_on zero from column h e = absurd (none_told from column (omega arith) e)
   first_on (suc left) from column h e = elim (dec_lt from (length names)) [
     | yes within ↦ by (order from) within refl (first_on left (from + 1) column)
@@ -40,12 +42,17 @@ module _ (fields : List FieldValue) (names : List (List ℕ)) where
       ]
 
       by : (b : Bool) → from < length names → order from ≡ b
-          → (length names ≤ from + 1 + left → bad_on fields names (from + 1) ≡ Some column → IsFirstFrom (from + 1) column)
+          → (length names ≤ from + 1 + left → bad_on fields names (from + 1) ≡ Some column
+          → IsFirstFrom (from + 1) column)
           → IsFirstFrom from column
       by false within bad more =
           let same : Some from ≡ Some column = sym (bad-here fields names from within bad) ∙ e in
-          let at : from ≡ column = cc in
-          (subst (IsOutOfOrder fields names) at (within, bad), omega (arith, at), λ earlier low high out. absurd (omega (arith, at)))
+          let at : from ≡ column = cc in (
+            subst (IsOutOfOrder fields names) at (within, bad),
+            omega (arith, at),
+            λ earlier low high out. absurd
+                (omega (arith, at)),
+          )
       by true within good more =
           let rest = more (omega arith) (sym (bad-next fields names from within good) ∙ e) in
           (rest.0, omega (arith, rest.1), λ earlier low high out. later earlier good low high rest.2 out)
@@ -58,17 +65,21 @@ module _ (fields : List FieldValue) (names : List (List ℕ)) where
       let here = subst (IsOutOfOrder fields names) at out in
       bad-here fields names from here.0 here.1 ∙ ap Some (sym at)
   found_on (suc left) from column e out none =
-      by (order from) refl (found_on left (from + 1) column (omega (arith, e)) out (λ earlier low high bad. none earlier (omega (arith, low)) high bad))
+      by (order from) refl
+      (found_on left (from + 1) column (omega (arith, e)) out
+      (λ earlier low high bad. none earlier (omega (arith, low)) high bad))
     where
       within : from < length names
       within = omega (arith, e, out.0)
 
-      by : (b : Bool) → order from ≡ b → bad_on fields names (from + 1) ≡ Some column → bad_on fields names from ≡ Some column
+      by : (b : Bool) → order from ≡ b → bad_on fields names (from + 1) ≡ Some column
+          → bad_on fields names from ≡ Some column
       by false bad more = absurd (none from (omega arith) (omega (arith, e)) (within, bad))
       by true good more = bad-next fields names from within good ∙ more
 
   pub first_column : (column : ℕ) → (bad_column fields names ≡ Some column) ↔ IsFirstOutOfOrder fields names column
   first_column column = (
-    (λ e. let found = first_on (length names) 0 column (omega arith) e in (found.0, λ earlier high out. found.2 earlier (omega arith) high out)),
+    (λ e. let found = first_on (length names) 0 column (omega arith) e in
+        (found.0, λ earlier high out. found.2 earlier (omega arith) high out)),
     (λ h. found_on column 0 column (omega arith) h.0 (λ earlier low high out. h.1 earlier high out)),
   )

@@ -1,5 +1,6 @@
 -- What a record that was read shows of the answer, whatever the source tells.
-use Rattle.std.proofs.Common.{◌≡◌, ◌⊎◌, ℕ, ◌+◌, true, List, [], ◌∷◌, Result, Ok, Err, IfOk, IfErr, refl, subst, inl, inr}
+use Rattle.std.proofs.Common.{◌≡◌, ◌⊎◌, ℕ, ◌+◌, true, List, [], ◌∷◌, Result, Ok, Err, IfOk, IfErr, refl, subst, inl}
+use Rattle.std.proofs.Common.{inr}
 use Rattle.std.specs.Str.{chars, is_utf8}
 use Rattle.table_schema.specs.Field.{FieldValue}
 use Rattle.table_schema.specs.declared.cell.Cell.{Cell}
@@ -13,20 +14,25 @@ use Rattle.typed_csv.specs.Records.{is_text}
 use Rattle.typed_csv.specs.Rows.{row_reading}
 
 -- a refusal is want of memory, or what is read
-pub refused : {Y : Type 0} (why : LoadFault) (reading : Result Y LoadFault) → IsRefused why reading → IsOutside why ⊎ (reading ≡ Err why)
+pub refused : {Y : Type 0} (why : LoadFault) (reading : Result Y LoadFault) → IsRefused why reading
+    → IsOutside why ⊎ (reading ≡ Err why)
 refused fault.OutOfMemory reading given = inl tt
 refused other reading given = inr given
 
 -- ---- the header
 
-pub layout_given : (fields : List FieldValue) (names : List (List ℕ)) (read : Result Layout LoadFault) → is_text names ≡ true → Gives (λ layout. layout) read (header_layout fields names) → IfOk read (IsLayout fields)
+pub layout_given : (fields : List FieldValue) (names : List (List ℕ)) (read : Result Layout LoadFault)
+    → is_text names ≡ true → Gives (λ layout. layout) read (header_layout fields names) → IfOk read (IsLayout fields)
 layout_given fields names (Ok layout) text given = (names, rw text given)
 layout_given fields names (Err why) text given = tt
 
-pub layout_refused : (fields : List FieldValue) (names : List (List ℕ)) (read : Result Layout LoadFault) → is_text names ≡ true → Gives (λ layout. layout) read (header_layout fields names) → IfErr read (IsHeaderFault fields)
+pub layout_refused : (fields : List FieldValue) (names : List (List ℕ)) (read : Result Layout LoadFault)
+    → is_text names ≡ true → Gives (λ layout. layout) read (header_layout fields names)
+    → IfErr read (IsHeaderFault fields)
 layout_refused fields names (Ok layout) text given = tt
 layout_refused fields names (Err why) text given =
-    elim (refused why (header_layout fields names) given) [ inl outside ↦ inl outside | inr read ↦ inr (names ∷ [], rw text read) ]
+    elim (refused why (header_layout fields names) given)
+    [ inl outside ↦ inl outside | inr read ↦ inr (names ∷ [], rw text read) ]
 
 -- a record that isn't UTF-8
 abbrev no_text : List (List ℕ)
@@ -38,15 +44,21 @@ no_text_header fields = inr (no_text ∷ [], refl)
 
 -- ---- a row
 
-pub no_text_row : {S : Type 0} (loader : Loading S) (number : ℕ) → number ≡ loader.number + 1 → IsRowFault loader (fault.NotUtf8 number)
+pub no_text_row : {S : Type 0} (loader : Loading S) (number : ℕ) → number ≡ loader.number + 1
+    → IsRowFault loader (fault.NotUtf8 number)
 unfolding is_utf8 chars
 no_text_row loader number next = rw next (inr (inr (no_text, refl)))
 
-refused_row : {S : Type 0} (loader : Loading S) (texts : List (List ℕ)) (why : LoadFault) → IsRefused why (row_reading loader.fields loader.between.layout (loader.number + 1) texts) → IsRowFault loader why
+refused_row : {S : Type 0} (loader : Loading S) (texts : List (List ℕ)) (why : LoadFault)
+    → IsRefused why (row_reading loader.fields loader.between.layout (loader.number + 1) texts) → IsRowFault loader why
 refused_row loader texts why given =
     elim (refused why (row_reading loader.fields loader.between.layout (loader.number + 1) texts) given)
     [ inl outside ↦ inl outside | inr read ↦ inr (inr (texts, read)) ]
 
-pub row_refused : {S X : Type 0} (loader : Loading S) (texts : List (List ℕ)) (why : LoadFault) (answer : Result X LoadFault) (reading : Result (List Cell) LoadFault) →
-    answer ≡ Err why → IsRefused why reading → reading ≡ row_reading loader.fields loader.between.layout (loader.number + 1) texts → IfErr answer (IsRowFault loader)
-row_refused loader texts why answer reading same e is = rw same (refused_row loader texts why (subst (IsRefused why) is e))
+pub row_refused : {S X : Type 0} (loader : Loading S) (texts : List (List ℕ)) (why : LoadFault)
+    (answer : Result X LoadFault) (reading : Result (List Cell) LoadFault) →
+    answer ≡ Err why → IsRefused why reading
+    → reading ≡ row_reading loader.fields loader.between.layout (loader.number + 1) texts
+    → IfErr answer (IsRowFault loader)
+row_refused loader texts why answer reading same e is =
+    rw same (refused_row loader texts why (subst (IsRefused why) is e))

@@ -1,5 +1,6 @@
 -- What is kept of the bytes that came has the records of them all.
-use Rattle.std.proofs.Common.{◌≡◌, ◌≤◌, ◌+◌, ◌-◌, ℕ, Bool, true, false, List, [], ◌++◌, length, take, drop, refl, sym, ap, subst, ◌∙◌, arith, append_assoc, true≢false}
+use Rattle.std.proofs.Common.{◌≡◌, ◌≤◌, ◌+◌, ◌-◌, ℕ, Bool, true, false, List, [], ◌++◌, length, take, drop, refl, sym}
+use Rattle.std.proofs.Common.{ap, subst, ◌∙◌, arith, append_assoc, true≢false}
 use Rattle.std.specs.Prelude.{Option, Some, None, Result, Ok, Err, OnOk}
 use Rattle.std.proofs.Math.Seq.{take-add, take-length}
 use Rattle.std.proofs.lemmas.List.{drop-drop, take_rest, take-append-drop}
@@ -16,7 +17,8 @@ use Rattle.typed_csv.proofs.PlaceLemmas.{has_start-append, place_after-append, r
 pub place_after-part : (held : List ℕ) (n count : ℕ) (at : Place) → at ≡ place_after RecordStart (take n held)
     → place_after at (take count (drop n held)) ≡ place_after RecordStart (take (n + count) held)
 place_after-part held n count at e =
-    ap (λ p. place_after p (take count (drop n held))) e ∙ sym (place_after-append RecordStart (take n held) (take count (drop n held)))
+    ap (λ p. place_after p (take count (drop n held))) e
+    ∙ sym (place_after-append RecordStart (take n held) (take count (drop n held)))
     ∙ sym (ap (place_after RecordStart) (take-add n count held))
 
 -- the place behind all of them
@@ -48,7 +50,8 @@ pub records_with-split : (old new : Kept) (end : ℕ) → old.ready ≡ [] → o
     → new.held ≡ drop end old.held → (rest : List ℕ) → records_with new rest ≡ records_with old rest
 records_with-split old new end none stale still e ready held rest =
     let whole : take end old.held ++ (drop end old.held ++ rest) ≡ old.held ++ rest =
-    sym (append_assoc (take end old.held) (drop end old.held) rest) ∙ ap (λ v. v ++ rest) (take-append-drop end old.held) in
+    sym (append_assoc (take end old.held) (drop end old.held) rest)
+    ∙ ap (λ v. v ++ rest) (take-append-drop end old.held) in
     rw (none, stale, still, ready, held)
     (sym (records-cut (take end old.held) (drop end old.held ++ rest) e) ∙ ap (records default_config) whole)
 
@@ -59,9 +62,11 @@ records_with-extend old new piece ready fresh held rest = rw (ready, fresh, held
 
 -- a byte order mark was taken off
 pub records_with-strip : (old new : Kept) → 3 ≤ length old.held → new.ready ≡ old.ready → old.is_fresh ≡ true
-    → new.is_fresh ≡ false → new.held ≡ strip_bom old.held → (rest : List ℕ) → records_with new rest ≡ records_with old rest
+    → new.is_fresh ≡ false → new.held ≡ strip_bom old.held → (rest : List ℕ)
+    → records_with new rest ≡ records_with old rest
 records_with-strip old new enough ready fresh stale held rest =
-    rw (ready, fresh, stale, held) (ap (λ v. old.ready ++ records default_config v) (sym (strip_bom-append old.held rest enough)))
+    rw (ready, fresh, stale, held)
+    (ap (λ v. old.ready ++ records default_config v) (sym (strip_bom-append old.held rest enough)))
 
 pub OnOk-map : {T E : Type 0} (r : Result T E) {P Q : Type 0} → (P → Q) → OnOk r P → OnOk r Q
 OnOk-map (Ok x) f p = f p
@@ -69,7 +74,8 @@ OnOk-map (Err e) f p = p
 
 -- ---- what a scan of the bytes that weren't scanned says
 
-pub scanned_place : (held bytes : List ℕ) (n : ℕ) (at next : Place) → bytes ≡ held → at ≡ place_after RecordStart (take n held)
+pub scanned_place : (held bytes : List ℕ) (n : ℕ) (at next : Place) → bytes ≡ held
+    → at ≡ place_after RecordStart (take n held)
     → next ≡ place_after at (take (length bytes - n) (drop n bytes)) → next ≡ place_after RecordStart held
 scanned_place held bytes n at next e stands p =
     p ∙ ap (place_after at) (take_rest bytes n ∙ ap (drop n) e) ∙ place_after-rest held n at stands
@@ -93,9 +99,11 @@ pub scanned_last : (held bytes : List ℕ) (n count : ℕ) (at : Place) (whole :
     → IsLastStart at (take (length bytes - n) (drop n bytes)) whole → whole ≡ Some count
     → has_start RecordStart (drop (n + count) held) ≡ false
 scanned_last held bytes n count at whole e last is =
-    ap (has_start RecordStart) (sym (drop-drop count n held)) ∙ (last-rest held bytes n at whole (Some count) e is last).2
+    ap (has_start RecordStart) (sym (drop-drop count n held))
+    ∙ (last-rest held bytes n at whole (Some count) e is last).2
 
-pub held_back : (is_fresh : Bool) (held : List ℕ) → is_fresh ≡ false → has_start RecordStart held ≡ false → IsHeldBack is_fresh held
+pub held_back : (is_fresh : Bool) (held : List ℕ) → is_fresh ≡ false → has_start RecordStart held ≡ false
+    → IsHeldBack is_fresh held
 held_back true held stale none = cc
 held_back false held stale none = none
 

@@ -1,8 +1,10 @@
 -- A text that is cut between two records.
-use Rattle.std.proofs.Common.{◌≡◌, ◌≤◌, ◌<◌, get_or, ◌+◌, ℕ, Bool, true, false, ◌||◌, List, [], ◌∷◌, ◌++◌, length, take, drop, Option, Some, None, if◌then◌else◌, refl, sym, ap, subst, ◌∙◌, arith}
+use Rattle.std.proofs.Common.{◌≡◌, ◌≤◌, ◌<◌, get_or, ◌+◌, ℕ, Bool, true, false, ◌||◌, List, [], ◌∷◌, ◌++◌, length}
+use Rattle.std.proofs.Common.{take, drop, Option, Some, None, if◌then◌else◌, refl, sym, ap, subst, ◌∙◌, arith}
 use Rattle.std.proofs.lemmas.Bool.Decides.{nat_tests}
 use Rattle.std.proofs.Math.Seq.{take-length}
-use Rattle.std.proofs.lemmas.List.{drop_all, drop-append-le, length-append, length-take-le, take-append-drop, take-append-le, take_more}
+use Rattle.std.proofs.lemmas.List.{drop_all, drop-append-le, length-append, length-take-le, take-append-drop}
+use Rattle.std.proofs.lemmas.List.{take-append-le, take_more}
 use Rattle.csv.specs.Machine.{field_after, fields_after, is_end, step}
 use Rattle.csv.specs.Reading.{default_config, is_bom, records, strip_bom}
 use Rattle.csv.specs.declared.parser.Action.{Action}
@@ -16,7 +18,8 @@ use Rattle.typed_csv.specs.declared.scan.Place.TheVariants as place
 
 -- ---- places behind more bytes
 
-pub place_after-append : (start : Place) (front back : List ℕ) → place_after start (front ++ back) ≡ place_after (place_after start front) back
+pub place_after-append : (start : Place) (front back : List ℕ)
+    → place_after start (front ++ back) ≡ place_after (place_after start front) back
 place_after-append start [] back = refl
 place_after-append start (c ∷ front) back = place_after-append (next_place start c) front back
 
@@ -44,10 +47,12 @@ pub has_start-append : (start : Place) (front back : List ℕ) → has_start sta
 has_start-append start [] back e = refl
 has_start-append start (c ∷ front) back e =
     let none = neither (is_start (next_place start c)) (has_start (next_place start c) front) e in
-    ap (λ here. here || has_start (next_place start c) (front ++ back)) none.0 ∙ has_start-append (next_place start c) front back none.1
+    ap (λ here. here || has_start (next_place start c) (front ++ back)) none.0
+    ∙ has_start-append (next_place start c) front back none.1
 
 -- the last of them is behind all bytes
-last-all : (start : Place) (bytes : List ℕ) (count : ℕ) → count ≡ length bytes → place_after start bytes ≡ place.RecordStart
+last-all : (start : Place) (bytes : List ℕ) (count : ℕ) → count ≡ length bytes
+    → place_after start bytes ≡ place.RecordStart
     → IsLastStart start bytes (Some count)
 last-all start bytes count e at = (
   omega (arith, e),
@@ -61,30 +66,36 @@ no_start at byte e = ap (λ here. here || false) e
 -- one more byte, behind which there is none
 last-before : (start : Place) (bytes : List ℕ) (byte : ℕ) (whole : Option ℕ) → IsLastStart start bytes whole
     → is_start (next_place (place_after start bytes) byte) ≡ false → IsLastStart start (bytes ++ byte ∷ []) whole
-last-before start bytes byte None none e = has_start-append start bytes (byte ∷ []) none ∙ no_start (place_after start bytes) byte e
+last-before start bytes byte None none e = has_start-append start bytes (byte ∷ []) none
+    ∙ no_start (place_after start bytes) byte e
 last-before start bytes byte (Some count) last e =
     let left : place_after start bytes ≡ place_after place.RecordStart (drop count bytes) =
-    ap (place_after start) (sym (take-append-drop count bytes)) ∙ place_after-append start (take count bytes) (drop count bytes)
+    ap (place_after start) (sym (take-append-drop count bytes)) ∙ place_after-append start (take count bytes)
+    (drop count bytes)
     ∙ ap (λ at. place_after at (drop count bytes)) last.1 in (
       omega (arith, last.0, length-append bytes (byte ∷ [])),
       ap (place_after start) (take-append-le count bytes (byte ∷ []) last.0) ∙ last.1,
       ap (has_start place.RecordStart) (drop-append-le count bytes (byte ∷ []) last.0)
           ∙ has_start-append place.RecordStart (drop count bytes) (byte ∷ []) last.2
-          ∙ no_start (place_after place.RecordStart (drop count bytes)) byte (ap (λ at. is_start (next_place at byte)) (sym left) ∙ e),
+          ∙ no_start (place_after place.RecordStart (drop count bytes)) byte
+          (ap (λ at. is_start (next_place at byte)) (sym left) ∙ e),
     )
 
 -- The same for the first bytes of a list. Here is the place behind one more of them.
-pub last_here : (start : Place) (bytes : List ℕ) (i : ℕ) (here : Place) → i < length bytes → here ≡ place_after start (take (i + 1) bytes)
+pub last_here : (start : Place) (bytes : List ℕ) (i : ℕ) (here : Place) → i < length bytes
+    → here ≡ place_after start (take (i + 1) bytes)
     → is_start here ≡ true → IsLastStart start (take (i + 1) bytes) (Some (i + 1))
 last_here start bytes i here h e is =
-    last-all start (take (i + 1) bytes) (i + 1) (sym (length-take-le (i + 1) bytes (omega (arith, h)))) (sym e ∙ start_is here is)
+    last-all start (take (i + 1) bytes) (i + 1) (sym (length-take-le (i + 1) bytes (omega (arith, h))))
+    (sym e ∙ start_is here is)
 
 pub last_still : (start : Place) (bytes : List ℕ) (i : ℕ) (here : Place) (whole : Option ℕ) → i < length bytes
     → here ≡ place_after start (take (i + 1) bytes) → is_start here ≡ false → IsLastStart start (take i bytes) whole
     → IsLastStart start (take (i + 1) bytes) whole
 last_still start bytes i here whole h e is last =
     subst (λ (more : List ℕ). IsLastStart start more whole) (sym (take_more bytes i 0 h))
-    (last-before start (take i bytes) (get_or bytes i 0) whole last (ap is_start (sym (place_after_more start bytes i h) ∙ sym e) ∙ is))
+    (last-before start (take i bytes) (get_or bytes i 0) whole last
+    (ap is_start (sym (place_after_more start bytes i h) ∙ sym e) ∙ is))
 
 -- ---- places and the states of the machine
 
@@ -114,7 +125,8 @@ Comes st.InComment = ⊥
 record Steps (s : State) (c : ℕ) (t : State) (action : Action) : Type 0 where
   goes : next_place (place_of s) c ≡ place_of t
   comes : Comes t
-  starts : is_end action ≡ false → place_of t ≡ place.RecordStart → (place_of s ≡ place.RecordStart) × (action ≡ act.Skip)
+  starts : is_end action ≡ false → place_of t ≡ place.RecordStart
+      → (place_of s ≡ place.RecordStart) × (action ≡ act.Skip)
 
 stepped : (s : State) (c : ℕ) → Comes s → Steps s c (step default_config s c).0 (step default_config s c).1
 stepped st.StartRecord c h = grind (arith, nat_tests)
@@ -132,7 +144,8 @@ after_return : (c : ℕ) → step default_config st.AfterCr c ≡ step default_c
 after_return c = grind (arith, nat_tests)
 
 -- behind a carriage return the records are those of a start
-all_records-return : (f : List (List ℕ)) (p bytes : List ℕ) → all_records st.AfterCr f p bytes ≡ all_records st.StartRecord f p bytes
+all_records-return : (f : List (List ℕ)) (p bytes : List ℕ)
+    → all_records st.AfterCr f p bytes ≡ all_records st.StartRecord f p bytes
 unfolding all_records
 all_records-return f p [] = refl
 all_records-return f p (c ∷ rest) =
@@ -177,7 +190,8 @@ all_records-cut (c ∷ front) back s f p h k e =
     let t = (step default_config s c).0 in
     let action = (step default_config s c).1 in
     let q : Steps s c t action = stepped s c h in
-    let ends : place_after (place_of t) front ≡ place.RecordStart = subst (λ x. place_after x front ≡ place.RecordStart) q.goes e in
+    let ends : place_after (place_of t) front ≡ place.RecordStart =
+    subst (λ x. place_after x front ≡ place.RecordStart) q.goes e in
     at_byte (is_end action) (fields_after action f p) _ _ _ _ (all_records st.StartRecord [] [] back)
     (λ _. all_records-cut front back t [] [] q.comes (λ _. (refl, refl)) ends)
     (λ going. all_records-cut front back t (fields_after action f p) (field_after action c p) q.comes
@@ -189,7 +203,8 @@ pub records-cut : (front back : List ℕ) → place_after place.RecordStart fron
 unfolding IsClear
 records-cut front back e =
     records-all (front ++ back) ∙ all_records-cut front back st.StartRecord [] [] tt (λ _. (refl, refl)) e
-    ∙ sym (ap (λ more. more ++ records default_config back) (records-all front) ∙ ap (λ more. all_records st.StartRecord [] [] front ++ more) (records-all back))
+    ∙ sym (ap (λ more. more ++ records default_config back) (records-all front)
+    ∙ ap (λ more. all_records st.StartRecord [] [] front ++ more) (records-all back))
 
 -- ---- a byte order mark
 

@@ -1,5 +1,6 @@
 -- What a reader of records received over several steps.
-use Rattle.std.proofs.Common.{◌≡◌, ◌≤◌, ◌+◌, ℕ, Bool, false, List, [], ◌∷◌, ◌++◌, length, take, refl, sym, ap, subst, ◌∙◌, arith}
+use Rattle.std.proofs.Common.{◌≡◌, ◌≤◌, ◌+◌, ℕ, Bool, false, List, [], ◌∷◌, ◌++◌, length, take, refl, sym, ap, subst}
+use Rattle.std.proofs.Common.{◌∙◌, arith}
 use Rattle.std.specs.Prelude.{Option, Some, None, option_map}
 use Rattle.std.proofs.lemmas.List.{append-nil, length-append, length-take-le}
 use Rattle.csv.specs.Machine.{next_record}
@@ -23,13 +24,15 @@ pub received_same : (told left left' : Option (List ℕ)) (given now now' : ℕ)
 received_same told left left' given now now' e f p = (p.0, subst (λ o. Gives told p.0 o) (sym e) p.1, f ∙ p.2)
 
 module _ {S : Type 0} (to_come : S → Option (List ℕ)) where
-  pub Receives-same : (old mid opened : Reading S) → opened ≡ mid → Receives to_come old mid → Receives to_come old opened
+  pub Receives-same : (old mid opened : Reading S) → opened ≡ mid → Receives to_come old mid
+      → Receives to_come old opened
   Receives-same old mid opened e r = subst (λ (x : Reading S). Receives to_come old x) (sym e) r
 
   -- the source read into the front of a room
   pub received : (opened old : Reading S) (source : S) (count : ℕ) (room : List ℕ) → opened ≡ old → count ≤ length room
       → Gives (to_come opened.source) (take count room) (to_come source)
-      → (bytes : List ℕ) × Gives (to_come old.source) bytes (to_come source) × (opened.given + count ≡ old.given + length bytes)
+      → (bytes : List ℕ) × Gives (to_come old.source) bytes (to_come source)
+      × (opened.given + count ≡ old.given + length bytes)
   received opened old source count room e within gives = (
     take count room,
     subst (λ (r : Reading S). Gives (to_come r.source) (take count room) (to_come source)) e gives,
@@ -44,20 +47,25 @@ text_records-rest : (is_fresh : Bool) (held : List ℕ) → text_records is_fres
 text_records-rest is_fresh held = ap (text_records is_fresh) (append-nil held)
 
 -- At its end a source has no records but those of the bytes held.
-first_last : (told told' : Option (List ℕ)) (is_fresh is_fresh' : Bool) (held held' : List ℕ) (row : List (List ℕ)) (ready ready' : List (List (List ℕ)))
-    → IsAtEnd told → told' ≡ told → ready ≡ [] → held' ≡ [] → is_fresh' ≡ false → text_records is_fresh held ≡ row ∷ ready'
+first_last : (told told' : Option (List ℕ)) (is_fresh is_fresh' : Bool) (held held' : List ℕ) (row : List (List ℕ))
+    (ready ready' : List (List (List ℕ)))
+    → IsAtEnd told → told' ≡ told → ready ≡ [] → held' ≡ [] → is_fresh' ≡ false
+    → text_records is_fresh held ≡ row ∷ ready'
     → option_map (λ rest. ready ++ text_records is_fresh (held ++ rest)) told
     ≡ option_map (λ rest. row ∷ rest) (option_map (λ rest. ready' ++ text_records is_fresh' (held' ++ rest)) told')
 first_last None told' is_fresh is_fresh' held held' row ready ready' end e none empty stale first = rw e refl
 first_last (Some bytes) told' is_fresh is_fresh' held held' row ready ready' end e none empty stale first =
     rw (e, end, none, empty, stale) (ap Some (text_records-rest is_fresh held ∙ first
-    ∙ ap (λ (more : List (List (List ℕ))). row ∷ more) (sym (append-nil ready') ∙ ap (λ (more : List (List (List ℕ))). ready' ++ more) (sym records-none))))
+    ∙ ap (λ (more : List (List (List ℕ))). row ∷ more)
+    (sym (append-nil ready') ∙ ap (λ (more : List (List (List ℕ))). ready' ++ more) (sym records-none))))
 
-pub TakesFirst-last : {S : Type 0} (to_come : S → Option (List ℕ)) (opened old new : Reading S) (row : List (List ℕ)) (ready : List (List (List ℕ)))
+pub TakesFirst-last : {S : Type 0} (to_come : S → Option (List ℕ)) (opened old new : Reading S) (row : List (List ℕ))
+    (ready : List (List (List ℕ)))
     → opened ≡ old → old.ready ≡ [] → IsAtEnd (to_come old.source) → ready ≡ text_records opened.is_fresh opened.held
     → ready ≡ row ∷ new.ready → new.source ≡ opened.source → new.held ≡ [] → new.is_fresh ≡ false
     → TakesFirst (records_ahead to_come old) row (records_ahead to_come new)
 TakesFirst-last {S} to_come opened old new row ready e none end made first same empty stale =
-    first_last (to_come old.source) (to_come new.source) old.is_fresh new.is_fresh old.held new.held row old.ready new.ready
+    first_last (to_come old.source) (to_come new.source) old.is_fresh new.is_fresh old.held new.held row old.ready
+    new.ready
     end (ap to_come (same ∙ ap (λ (r : Reading S). r.source) e)) none empty stale
     (subst (λ (r : Reading S). text_records r.is_fresh r.held ≡ row ∷ new.ready) e (sym made ∙ first))

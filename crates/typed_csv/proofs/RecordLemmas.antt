@@ -1,5 +1,6 @@
 -- Records as one recursion over the bytes.
-use Rattle.std.proofs.Common.{◌≡◌, ◌⊎◌, ◌<◌, ◌+◌, ℕ, zero, suc, Bool, true, false, List, [], ◌∷◌, ◌++◌, length, Option, Some, None, if◌then◌else◌, refl, sym, ap, ◌∙◌, inl, inr, arith}
+use Rattle.std.proofs.Common.{◌≡◌, ◌⊎◌, ◌<◌, ◌+◌, ℕ, zero, suc, Bool, true, false, List, [], ◌∷◌, ◌++◌, length}
+use Rattle.std.proofs.Common.{Option, Some, None, if◌then◌else◌, refl, sym, ap, ◌∙◌, inl, inr, arith}
 use Rattle.csv.specs.Machine.{Read, ends_at_end, field_after, fields_after, is_end, next_record, step}
 use Rattle.csv.specs.Reading.{default_config, records, records_from, records_next}
 use Rattle.csv.specs.declared.parser.State.{State}
@@ -26,7 +27,8 @@ unfolding records_at all_records
 at_end true row = refl
 at_end false row = refl
 
-at_byte : (b : Bool) (row : List (List ℕ)) (s : State) (rest : List ℕ) (more : List (List (List ℕ))) (next : Option Read)
+at_byte : (b : Bool) (row : List (List ℕ)) (s : State) (rest : List ℕ) (more : List (List (List ℕ)))
+    (next : Option Read)
     → more ≡ records_next records_at next
     → (if b then row ∷ records_at s rest else more) ≡ records_next records_at (if b then Some (row, s, rest) else next)
 at_byte true row s rest more next e = refl
@@ -34,11 +36,13 @@ at_byte false row s rest more next e = e
 
 -- all records are the next one and then the records behind it
 pub all_records-next : (s : State) (fields : List (List ℕ)) (field bytes : List ℕ)
-    → all_records s fields field bytes ≡ records_next (λ t rest. all_records t [] [] rest) (next_record default_config s fields field bytes)
+    → all_records s fields field bytes ≡ records_next (λ t rest. all_records t [] [] rest)
+    (next_record default_config s fields field bytes)
 unfolding records_at all_records next_record
 all_records-next s fields field [] = at_end (ends_at_end s) (fields ++ field ∷ [])
 all_records-next s fields field (c ∷ rest) =
-    at_byte (is_end (step default_config s c).1) (fields_after (step default_config s c).1 fields field) (step default_config s c).0 rest _
+    at_byte (is_end (step default_config s c).1) (fields_after (step default_config s c).1 fields field)
+    (step default_config s c).0 rest _
     (next_record default_config (step default_config s c).0 (fields_after (step default_config s c).1 fields field)
     (field_after (step default_config s c).1 c field) rest)
     (all_records-next (step default_config s c).0 (fields_after (step default_config s c).1 fields field)
@@ -68,11 +72,13 @@ unfolding Shortens
 shortens_at_byte true row s c rest next h = inl (omega arith)
 shortens_at_byte false row s c rest next h = shortens_more c rest next h
 
-next_shortens : (s : State) (fields : List (List ℕ)) (field bytes : List ℕ) → Shortens bytes (next_record default_config s fields field bytes)
+next_shortens : (s : State) (fields : List (List ℕ)) (field bytes : List ℕ)
+    → Shortens bytes (next_record default_config s fields field bytes)
 unfolding next_record
 next_shortens s fields field [] = shortens_at_end (ends_at_end s) (fields ++ field ∷ [])
 next_shortens s fields field (c ∷ rest) =
-    shortens_at_byte (is_end (step default_config s c).1) (fields_after (step default_config s c).1 fields field) (step default_config s c).0 c rest
+    shortens_at_byte (is_end (step default_config s c).1) (fields_after (step default_config s c).1 fields field)
+    (step default_config s c).0 c rest
     (next_record default_config (step default_config s c).0 (fields_after (step default_config s c).1 fields field)
     (field_after (step default_config s c).1 c field) rest)
     (next_shortens (step default_config s c).0 (fields_after (step default_config s c).1 fields field)
@@ -90,11 +96,13 @@ behind_same : (n : ℕ) (bytes : List ℕ) (next : Option Read) → length bytes
     → records_next (records_from default_config n) next ≡ records_next records_at next
 unfolding Shortens records_at all_records
 behind_same n bytes None h k same = refl
-behind_same n bytes (Some p) h (inl k) same = ap (λ (more : List (List (List ℕ))). p.0 ∷ more) (same p.1 p.2 (omega arith))
+behind_same n bytes (Some p) h (inl k) same =
+    ap (λ (more : List (List (List ℕ))). p.0 ∷ more) (same p.1 p.2 (omega arith))
 behind_same n bytes (Some p) h (inr k) same =
     ap (λ (more : List (List (List ℕ))). p.0 ∷ more) (rw (k.0, k.1) (none_from n))
 
-pub records_from-all : (n : ℕ) (s : State) (bytes : List ℕ) → length bytes < n → records_from default_config n s bytes ≡ all_records s [] [] bytes
+pub records_from-all : (n : ℕ) (s : State) (bytes : List ℕ) → length bytes < n
+    → records_from default_config n s bytes ≡ all_records s [] [] bytes
 unfolding records_from records_at
 records_from-all zero s bytes h = absurd (omega arith)
 records_from-all (suc n) s bytes h =

@@ -23,7 +23,8 @@ behind (Err bad) (Err later) = Err (first_of bad later)
 first_of-first_of : (a b c : BadCell) → first_of a (first_of b c) ≡ first_of (first_of a b) c
 first_of-first_of a b c = grind (arith, nat_tests)
 
-behind-next : (read : Result (List Cell) BadCell) (cell : Result Cell BadCell) (rest : Result (List Cell) BadCell) → behind read (joined cell rest) ≡ behind (and_then read cell) rest
+behind-next : (read : Result (List Cell) BadCell) (cell : Result Cell BadCell) (rest : Result (List Cell) BadCell)
+    → behind read (joined cell rest) ≡ behind (and_then read cell) rest
 behind-next (Ok cells) (Ok cell) (Ok rest) = ap Ok (sym (append_assoc cells (cell ∷ []) rest))
 behind-next (Ok cells) (Ok cell) (Err later) = refl
 behind-next (Ok cells) (Err bad) (Ok rest) = refl
@@ -43,22 +44,36 @@ behind-nothing (Err bad) = refl
 
 -- ---- the loop over fields and their columns
 
-pub cells-start : (width : ℕ) (texts : List (List ℕ)) (fields later : List FieldValue) (columns others : List (Option ℕ)) (cells : List Cell) → later ≡ fields → others ≡ columns → cells ≡ [] → cells_reading width texts fields columns ≡ behind (Ok cells) (cells_reading width texts later others)
+pub cells-start : (width : ℕ) (texts : List (List ℕ)) (fields later : List FieldValue)
+    (columns others : List (Option ℕ)) (cells : List Cell) → later ≡ fields → others ≡ columns → cells ≡ []
+    → cells_reading width texts fields columns ≡ behind (Ok cells) (cells_reading width texts later others)
 cells-start width texts fields later columns others cells first second none =
     rw first (rw second (rw none (behind-nothing (cells_reading width texts fields columns))))
 
-pub cells-next : (width : ℕ) (texts : List (List ℕ)) (fields later : List FieldValue) (columns others : List (Option ℕ)) (field : FieldValue) (column : Option ℕ) (read : Result (List Cell) BadCell) (cell : Result Cell BadCell) → fields ≡ field ∷ later → columns ≡ column ∷ others → cell ≡ cell_or_bad field (rank_of width column) (text_in texts column) → behind read (cells_reading width texts fields columns) ≡ behind (and_then read cell) (cells_reading width texts later others)
+pub cells-next : (width : ℕ) (texts : List (List ℕ)) (fields later : List FieldValue)
+    (columns others : List (Option ℕ)) (field : FieldValue) (column : Option ℕ) (read : Result (List Cell) BadCell)
+    (cell : Result Cell BadCell) → fields ≡ field ∷ later → columns ≡ column ∷ others
+    → cell ≡ cell_or_bad field (rank_of width column) (text_in texts column)
+    → behind read (cells_reading width texts fields columns)
+    ≡ behind (and_then read cell) (cells_reading width texts later others)
 cells-next width texts fields later columns others field column read cell more next is =
-    rw more (rw next (rw is (behind-next read (cell_or_bad field (rank_of width column) (text_in texts column)) (cells_reading width texts later others))))
+    rw more (rw next
+    (rw is (behind-next read (cell_or_bad field (rank_of width column) (text_in texts column))
+    (cells_reading width texts later others))))
 
-pub cells-end : (width : ℕ) (texts : List (List ℕ)) (fields : List FieldValue) (columns : List (Option ℕ)) (read : Result (List Cell) BadCell) → (fields ≡ []) ⊎ (columns ≡ []) → behind read (cells_reading width texts fields columns) ≡ read
+pub cells-end : (width : ℕ) (texts : List (List ℕ)) (fields : List FieldValue) (columns : List (Option ℕ))
+    (read : Result (List Cell) BadCell) → (fields ≡ []) ⊎ (columns ≡ [])
+    → behind read (cells_reading width texts fields columns) ≡ read
 cells-end width texts [] columns read none = behind-none read
 cells-end width texts (field ∷ fields) [] read none = behind-none read
 cells-end width texts (field ∷ fields) (column ∷ columns) read (inl none) = cc
 cells-end width texts (field ∷ fields) (column ∷ columns) read (inr none) = cc
 
-pub values-next : (read : Result (List Cell) BadCell) (cell : Result Cell BadCell) → IfOk read (λ cells. All IsValue cells) → IfOk cell IsValue → IfOk (and_then read cell) (λ cells. All IsValue cells)
-values-next (Ok cells) (Ok cell) all one = All-append IsValue cells (cell ∷ []) all (All-cons IsValue cell [] one (All-nil IsValue))
+pub values-next : (read : Result (List Cell) BadCell) (cell : Result Cell BadCell)
+    → IfOk read (λ cells. All IsValue cells) → IfOk cell IsValue
+    → IfOk (and_then read cell) (λ cells. All IsValue cells)
+values-next (Ok cells) (Ok cell) all one =
+    All-append IsValue cells (cell ∷ []) all (All-cons IsValue cell [] one (All-nil IsValue))
 values-next (Ok cells) (Err bad) all one = tt
 values-next (Err first) (Ok cell) all one = tt
 values-next (Err first) (Err bad) all one = tt

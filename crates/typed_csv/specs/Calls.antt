@@ -1,5 +1,6 @@
 -- What the calls inside the crate take of what is told. Only their contracts use this.
-use Rattle.std.specs.Prelude.{◌≡◌, ◌⊎◌, ℕ, List, drop, Option, Some, None, option_map, IfSome, MatchOption, Result, Ok, Err}
+use Rattle.std.specs.Prelude.{◌≡◌, ◌⊎◌, ℕ, List, drop, Option, Some, None, option_map, IfSome, MatchOption, Result}
+use Rattle.std.specs.Prelude.{Ok, Err}
 use Rattle.table_schema.specs.Field.{FieldValue}
 use Rattle.table_schema.specs.declared.cell.Cell.{Cell}
 use Rattle.typed_csv.specs.declared.fault.LoadFault.{LoadFault}
@@ -12,7 +13,8 @@ use Rattle.typed_csv.specs.Reading.{records_ahead}
 use Rattle.typed_csv.specs.Rows.{Rows, before, faulty, no_rows}
 
 -- The first of the records is a header of this layout, where they are told, and the others are left.
-abbrev pub TakesHeader : List FieldValue → Option (List (List (List ℕ))) → Layout → Option (List (List (List ℕ))) → Type 0
+abbrev pub TakesHeader : List FieldValue → Option (List (List (List ℕ))) → Layout → Option (List (List (List ℕ)))
+    → Type 0
 TakesHeader fields old layout new = MatchOption old (new ≡ None)
     (λ all. (header_reading fields all ≡ Ok layout) × (new ≡ Some (drop 1 all)))
 

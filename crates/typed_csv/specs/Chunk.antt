@@ -13,4 +13,5 @@ records_left state (Some bytes) = records_from default_config (length bytes + 1)
 -- It has the default settings, reads a record next, and takes records of any width; or it has failed.
 abbrev pub IsChunkReader : {R : Type 0} → Reader R → Type 0
 IsChunkReader reader = (has_failed reader ≡ true)
-    ⊎ ((reader_trim reader ≡ trim.None) × Ready reader × (is_flexible reader ≡ true) × (reader_config reader ≡ default_config))
+    ⊎ ((reader_trim reader ≡ trim.None) × Ready reader × (is_flexible reader ≡ true)
+    × (reader_config reader ≡ default_config))

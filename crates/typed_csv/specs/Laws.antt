@@ -9,7 +9,8 @@ use Rattle.typed_csv.specs.Records.{text_at, text_in}
 use Rattle.typed_csv.specs.Rows.{rank_of}
 
 -- The field at this place, counted from 0, fails on the text in its column, and this is its bad cell.
-pub record IsBadAt (width : ℕ) (texts : List (List ℕ)) (fields : List FieldValue) (columns : List (Option ℕ)) (place : ℕ) (bad : BadCell) : Type 0 where
+pub record IsBadAt (width : ℕ) (texts : List (List ℕ)) (fields : List FieldValue) (columns : List (Option ℕ))
+    (place : ℕ) (bad : BadCell) : Type 0 where
   pub field : FieldValue
   pub column : Option ℕ
   pub stands : slice_get fields place ≡ Some field

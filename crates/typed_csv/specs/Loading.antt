@@ -1,5 +1,6 @@
 -- What a loader has in hand, and what its calls answer.
-use Rattle.std.specs.Prelude.{◌≡◌, ◌⊎◌, ◌≤◌, ◌^◌, ℕ, ◌+◌, Bool, List, [], ◌∷◌, ⊤, Option, Some, None, option_map, IfSome, Result, Ok, Err}
+use Rattle.std.specs.Prelude.{◌≡◌, ◌⊎◌, ◌≤◌, ◌^◌, ℕ, ◌+◌, Bool, List, [], ◌∷◌, ⊤, Option, Some, None, option_map}
+use Rattle.std.specs.Prelude.{IfSome, Result, Ok, Err}
 use Rattle.table_schema.specs.Field.{FieldValue}
 use Rattle.table_schema.specs.declared.cell.Cell.{Cell}
 use Rattle.typed_csv.specs.declared.fault.LoadFault.{LoadFault}
@@ -12,17 +13,17 @@ use Rattle.typed_csv.specs.Header.{header_reading}
 use Rattle.typed_csv.specs.Reading.{Reading, records_ahead}
 use Rattle.typed_csv.specs.Rows.{Rows, before, faulty, no_rows, row_reading, rows_from, rows_of}
 
--- What a loader keeps between its source and the next row: the columns of the header, the records that were read and not
--- yet given, the bytes behind them, and whether a byte order mark may still come. What it means for a caller is said by
--- rows_ahead, IsRow and IsRowFault.
+-- What a loader keeps between its source and the next row: the columns of the header, the records that were read and
+-- not yet given, the bytes behind them, and whether a byte order mark may still come. What it means for a caller is
+-- said by rows_ahead, IsRow and IsRowFault.
 pub record Between : Type 0 where
   pub layout : Layout
   pub ready : List (List (List ℕ))
   pub held : List ℕ
   pub is_fresh : Bool
 
--- A loader: its source as far as it was read, how many bytes that gave, the fields of the schema, how many rows were given
--- so far, and whether rows may still come.
+-- A loader: its source as far as it was read, how many bytes that gave, the fields of the schema, how many rows were
+-- given so far, and whether rows may still come.
 pub record Loading (S : Type 0) : Type 0 where
   pub source : S
   pub given : ℕ
@@ -65,7 +66,8 @@ Answers old (Err why) new = IsOutside why ⊎ (why ≡ fault.Spent) ⊎ IfSome o
 
 -- The cells are the next row of some record, whatever the source tells.
 abbrev pub IsRow : {S : Type 0} → Loading S → List Cell → Type 0
-IsRow loader cells = (texts : List (List ℕ)) × (row_reading loader.fields loader.between.layout (loader.number + 1) texts ≡ Ok cells)
+IsRow loader cells =
+    (texts : List (List ℕ)) × (row_reading loader.fields loader.between.layout (loader.number + 1) texts ≡ Ok cells)
 
 -- Why no row is given, whatever the source tells: a fault of the source or of memory, a loader that is spent, or a
 -- record that has this fault as the next row.
@@ -73,7 +75,8 @@ abbrev pub IsRowFault : {S : Type 0} → Loading S → LoadFault → Type 0
 IsRowFault loader why = IsOutside why ⊎ (why ≡ fault.Spent)
     ⊎ ((texts : List (List ℕ)) × (row_reading loader.fields loader.between.layout (loader.number + 1) texts ≡ Err why))
 
--- How a loader stands after an answer: behind a row it still reads, at the end it is ended, and after a fault it is spent.
+-- How a loader stands after an answer: behind a row it still reads, at the end it is ended, and after a fault it is
+-- spent.
 abbrev pub stage_after : Result (Option (List Cell)) LoadFault → Stage
 stage_after (Ok (Some cells)) = stage.Reading
 stage_after (Ok None) = stage.Ended
@@ -99,7 +102,8 @@ number_after number other = number
 -- Why a text isn't begun, whatever the source tells: a fault of the source or of memory, or records whose header has
 -- this fault.
 abbrev pub IsHeaderFault : List FieldValue → LoadFault → Type 0
-IsHeaderFault fields why = IsOutside why ⊎ ((records : List (List (List ℕ))) × (header_reading fields records ≡ Err why))
+IsHeaderFault fields why =
+    IsOutside why ⊎ ((records : List (List (List ℕ))) × (header_reading fields records ≡ Err why))
 
 -- The loader has the rows of the text ahead, where it is told.
 abbrev pub Begins : List FieldValue → Option (List ℕ) → Option Rows → Type 0

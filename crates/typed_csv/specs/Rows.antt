@@ -1,5 +1,6 @@
 -- The rows of a text of CSV by a schema: the records behind the header, each with a cell for each field.
-use Rattle.std.specs.Prelude.{ℕ, ◌+◌, nat_lt, ◌==◌, if◌then◌else◌, List, [], ◌∷◌, ◌++◌, length, drop, Option, Some, None, unwrap_or, Result, Ok, Err}
+use Rattle.std.specs.Prelude.{ℕ, ◌+◌, nat_lt, ◌==◌, if◌then◌else◌, List, [], ◌∷◌, ◌++◌, length, drop, Option, Some}
+use Rattle.std.specs.Prelude.{None, unwrap_or, Result, Ok, Err}
 use Rattle.table_schema.specs.Field.{FieldValue}
 use Rattle.table_schema.specs.Reading.{cell_reading}
 use Rattle.table_schema.specs.declared.cell.Cell.{Cell}

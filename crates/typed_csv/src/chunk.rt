@@ -60,7 +60,8 @@ impl Chunk {
         ensures took { result ≡ Ok Next.Record → self.old ≡ fields_of row.new ∷ self.new }
         ensures text { result ≡ Ok Next.Record → is_text (fields_of row.new) ≡ true }
         ensures bytes { result ≡ Ok Next.NotText →
-            (first : List (List ℕ)) × (rest : List (List (List ℕ))) × (self.old ≡ first ∷ rest) × (is_text first ≡ false) }
+            (first : List (List ℕ)) × (rest : List (List (List ℕ))) × (self.old ≡ first ∷ rest)
+            × (is_text first ≡ false) }
         ensures end { result ≡ Ok Next.End → self.old ≡ [] }
     {
         match self.reader.read_record(row) {

@@ -81,7 +81,8 @@ fn bad_column(fields: &[Field], names: &StringRecord) -> Option<usize>
 // Whether the column has no name, or that of a field and of no earlier column.
 fn is_in_order(fields: &[Field], names: &StringRecord, column: usize) -> bool
     requires { column < length (fields_of names.now) }
-    ensures { result ≡ is_in_order fields.now (take column (fields_of names.now)) (text_at (fields_of names.now) column) }
+    ensures { result ≡ is_in_order fields.now (take column (fields_of names.now))
+        (text_at (fields_of names.now) column) }
 {
     let name = text_at(names, column);
     name.is_empty() || (is_field_name(fields, name) && !is_earlier(names, column, name))

@@ -15,13 +15,15 @@ pub fn the_first_column_out_of_order_is_told()
 
 /// The bad cell that is told of a record is the one that is tried first, and no other is told.
 pub fn the_first_bad_cell_is_told()
-    ensures { (width : ℕ) (texts : List (List ℕ)) (fields : List FieldValue) (columns : List (Option ℕ)) (bad : BadCell) →
+    ensures { (width : ℕ) (texts : List (List ℕ)) (fields : List FieldValue) (columns : List (Option ℕ))
+        (bad : BadCell) →
         ((cells_reading width texts fields columns ≡ Err bad) ↔ IsFirstBad width texts fields columns bad) }
 {}
 
 /// The cells of a record are what the fields read of the texts in their columns, in the schema's order.
 pub fn cells_stand_in_the_schema_order()
-    ensures { (width : ℕ) (texts : List (List ℕ)) (fields : List FieldValue) (columns : List (Option ℕ)) (cells : List Cell) →
+    ensures { (width : ℕ) (texts : List (List ℕ)) (fields : List FieldValue) (columns : List (Option ℕ))
+        (cells : List Cell) →
         length fields ≡ length columns →
         ((cells_reading width texts fields columns ≡ Ok cells) ↔ AreCellsOf texts fields columns cells) }
 {}

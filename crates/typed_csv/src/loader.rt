@@ -1,9 +1,12 @@
 //! The loader: the rows of a source, one after the other.
-ghost use Rattle.std.specs.Prelude.{◌≡◌, ◌↔◌, ◌≢◌, ◌<◌, ◌≤◌, ◌^◌, ◌+◌, ℕ, List, [], length, Ok, Err, None, All, IfOk, IfErr, IfSome};
+ghost use Rattle.std.specs.Prelude.{◌≡◌, ◌↔◌, ◌≢◌, ◌<◌, ◌≤◌, ◌^◌, ◌+◌, ℕ, List, [], length, Ok, Err, None, All, IfOk};
+ghost use Rattle.std.specs.Prelude.{IfErr, IfSome};
 ghost use Rattle.portal_base.specs.Outside.{Gives, Rose};
 ghost use Rattle.table_schema.specs.Printed.{IsValue};
 ghost use Rattle.typed_csv.specs.Calls.{Reads, RefusesRecords, TakesHeader, rows_left};
-ghost use Rattle.typed_csv.specs.Loading.{Answers, Begins, HasHeader, IsHeaderFault, IsLayout, IsOfSameFile, IsRow, IsRowFault, RefusesHeader, number_after, reading_of, rows_ahead, stage_after};
+ghost use Rattle.typed_csv.specs.Loading.{Answers, Begins, HasHeader, IsHeaderFault, IsLayout, IsOfSameFile, IsRow};
+ghost use Rattle.typed_csv.specs.Loading.{IsRowFault, RefusesHeader, number_after, reading_of, rows_ahead};
+ghost use Rattle.typed_csv.specs.Loading.{stage_after};
 ghost use Rattle.typed_csv.specs.Reading.{Receives, records_ahead};
 
 use crate::chunk::Next;
@@ -30,8 +33,9 @@ pub(crate) enum Stage {
 }
 
 /// Reads the rows of a source of CSV (RFC 4180) by a schema of Table Schema v1. The records are those that the crate
-/// `csv` reads with its default settings, save that they may differ in width. A byte order mark at the start is dropped.
-/// The first record is the header; a column without a name is skipped, and a field without a column reads the empty text.
+/// `csv` reads with its default settings, save that they may differ in width. A byte order mark at the start is
+/// dropped. The first record is the header; a column without a name is skipped, and a field without a column reads
+/// the empty text.
 #[derive(Drop)]
 pub struct Loader<S> {
     alloc: Global,
@@ -54,7 +58,8 @@ impl<S> Model for Loader<S> {
       fields = l.schema.fields;
       number = l.number;
       stage = l.stage;
-      between = record { layout = l.layout; ready = l.records.ready; held = l.records.held; is_fresh = l.records.is_fresh };
+      between =
+          record { layout = l.layout; ready = l.records.ready; held = l.records.held; is_fresh = l.records.is_fresh };
     } };
 
     ghost invariant = { λ l. IsWithin l.stage l.records.given };
@@ -66,7 +71,8 @@ impl<S: Source> Loader<S> {
     /// The faults are `NotUtf8(0)`, `Header`, `ReadFault`, `TooLong` and `OutOfMemory`.
     pub fn start(alloc: Global, schema: Schema, source: S) -> Result<Loader<S>, (LoadFault, S)>
         ensures begins { IfOk result (λ loader. Begins schema.fields (S.to_come source) (rows_ahead S.to_come loader)) }
-        ensures stage { IfOk result (λ loader. (loader.fields ≡ schema.fields) × (loader.number ≡ 0) × (loader.stage ≡ Stage.Reading)) }
+        ensures stage { IfOk result
+            (λ loader. (loader.fields ≡ schema.fields) × (loader.number ≡ 0) × (loader.stage ≡ Stage.Reading)) }
         ensures header { IfOk result (HasHeader schema.fields) }
         ensures received { IfOk result (λ loader. (bytes : List ℕ) × Gives (S.to_come source) bytes (S.to_come loader.source)
             × (loader.given ≡ length bytes) × (length bytes ≤ 2 ^ 40)) }
@@ -98,8 +104,8 @@ impl<S: Source> Loader<S> {
     /// The next row, with a cell for each field in the schema's order, or none at the end.
     ///
     /// In a row the faults are tried in this order: `NotUtf8`, `Width`, `Cell` of the first bad cell in the header's
-    /// order, and last of fields without a column in the schema's order. `ReadFault`, `TooLong` and `OutOfMemory` may come
-    /// at any row. After a fault each call answers `Spent`.
+    /// order, and last of fields without a column in the schema's order. `ReadFault`, `TooLong` and `OutOfMemory` may
+    /// come at any row. After a fault each call answers `Spent`.
     pub fn next(&mut self) -> Result<Option<Seq<Cell>>, LoadFault>
         ensures answers { Answers (rows_ahead S.to_come self.old) result (rows_ahead S.to_come self.new) }
         ensures row { IfOk result (λ row. IfSome row (IsRow self.old)) }
@@ -181,12 +187,15 @@ fn read_header<S: Source>(
     records: &mut RecordReader<S>,
     row: &mut StringRecord,
 ) -> Result<Layout, LoadFault>
-    ensures begins { IfOk result (λ layout. TakesHeader fields.now (records_ahead S.to_come records.old) layout (records_ahead S.to_come records.new)) }
+    ensures begins { IfOk result
+        (λ layout. TakesHeader fields.now (records_ahead S.to_come records.old) layout
+        (records_ahead S.to_come records.new)) }
     ensures refused { IfErr result (RefusesRecords fields.now (records_ahead S.to_come records.old)) }
     ensures header { IfOk result (IsLayout fields.now) }
     ensures cause { IfErr result (IsHeaderFault fields.now) }
     ensures received { Receives S.to_come records.old records.new }
-    ensures failed { result ≡ Err LoadFault.ReadFault → Rose (S.faults records.old.source) (S.faults records.new.source) }
+    ensures failed { result ≡ Err LoadFault.ReadFault
+        → Rose (S.faults records.old.source) (S.faults records.new.source) }
     ensures counts { S.faults records.old.source ≤ S.faults records.new.source }
     ensures much { (result ≡ Err LoadFault.TooLong) ↔ (2 ^ 40 < records.new.given) }
 {

@@ -34,8 +34,8 @@ fn make_room(alloc: Global, room: &mut Vec<u8>) -> Result<(), AllocError>
     Ok(())
 }
 
-/// Reads the records of a source. Between two calls it holds no more of it than the whole records of a piece and the one
-/// that isn't whole yet.
+/// Reads the records of a source. Between two calls it holds no more of it than the whole records of a piece and the
+/// one that isn't whole yet.
 #[derive(Drop)]
 pub(crate) struct RecordReader<S> {
     alloc: Global,
@@ -53,7 +53,13 @@ impl<S> Model for RecordReader<S> {
 
     ghost Value = { Reading S };
 
-    ghost view = { λ r. record { source = r.source; ready = r.pieces.ready; held = r.pieces.held; given = r.given; is_fresh = r.pieces.is_fresh } };
+    ghost view = { λ r. record {
+      source = r.source;
+      ready = r.pieces.ready;
+      held = r.pieces.held;
+      given = r.given;
+      is_fresh = r.pieces.is_fresh;
+    } };
 
     ghost invariant = { λ r. IsRoom r.room.items };
 }
@@ -81,11 +87,13 @@ impl<S: Source> RecordReader<S> {
 
     /// Reads the next record into `row`.
     pub(crate) fn next(&mut self, row: &mut StringRecord) -> Result<Next, LoadFault>
-        ensures took { result ≡ Ok Next.Record → TakesFirst (records_ahead S.to_come self.old) (fields_of row.new) (records_ahead S.to_come self.new) }
+        ensures took { result ≡ Ok Next.Record
+            → TakesFirst (records_ahead S.to_come self.old) (fields_of row.new) (records_ahead S.to_come self.new) }
         ensures text { result ≡ Ok Next.Record → is_text (fields_of row.new) ≡ true }
         ensures bytes { result ≡ Ok Next.NotText → BeginsNotText (records_ahead S.to_come self.old) }
         ensures end { result ≡ Ok Next.End → IsNoneLeft (records_ahead S.to_come self.old) }
-        ensures held { IsHeldBack self.old.is_fresh self.old.held → OnOk result (IsHeldBack self.new.is_fresh self.new.held) }
+        ensures held { IsHeldBack self.old.is_fresh self.old.held
+            → OnOk result (IsHeldBack self.new.is_fresh self.new.held) }
         ensures received { Receives S.to_come self.old self.new }
         ensures fault { IfErr result IsOutside }
         ensures failed { result ≡ Err LoadFault.ReadFault → Rose (S.faults self.old.source) (S.faults self.new.source) }
@@ -113,7 +121,8 @@ impl<S: Source> RecordReader<S> {
         ensures ahead { OnOk result (records_ahead S.to_come self.new ≡ records_ahead S.to_come self.old) }
         ensures rises { result ≡ Ok true → self.old.given < self.new.given }
         ensures end { result ≡ Ok false → IsAtEnd (S.to_come self.new.source) × (self.new.ready ≡ []) }
-        ensures held { IsHeldBack self.old.is_fresh self.old.held → OnOk result (IsHeldBack self.new.is_fresh self.new.held) }
+        ensures held { IsHeldBack self.old.is_fresh self.old.held
+            → OnOk result (IsHeldBack self.new.is_fresh self.new.held) }
         ensures received { Receives S.to_come self.old self.new }
         ensures fault { IfErr result IsOutside }
         ensures failed { result ≡ Err LoadFault.ReadFault → Rose (S.faults self.old.source) (S.faults self.new.source) }
@@ -137,7 +146,8 @@ impl<S: Source> RecordReader<S> {
     fn take_last(&mut self, row: &mut StringRecord) -> Result<Next, AllocError>
         requires ready { self.old.ready ≡ [] }
         requires end { IsAtEnd (S.to_come self.old.source) }
-        ensures took { result ≡ Ok Next.Record → TakesFirst (records_ahead S.to_come self.old) (fields_of row.new) (records_ahead S.to_come self.new) }
+        ensures took { result ≡ Ok Next.Record
+            → TakesFirst (records_ahead S.to_come self.old) (fields_of row.new) (records_ahead S.to_come self.new) }
         ensures text { result ≡ Ok Next.Record → is_text (fields_of row.new) ≡ true }
         ensures bytes { result ≡ Ok Next.NotText → BeginsNotText (records_ahead S.to_come self.old) }
         ensures none { result ≡ Ok Next.End → IsNoneLeft (records_ahead S.to_come self.old) }

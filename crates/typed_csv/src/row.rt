@@ -53,7 +53,8 @@ fn cells_of(
     layout: &Layout,
     row: &StringRecord,
 ) -> Result<Result<Seq<Cell>, BadCell>, AllocError>
-    ensures read { IfOk result (λ read. read ≡ cells_reading layout.now.width (fields_of row.now) fields.now layout.now.columns) }
+    ensures read { IfOk result
+        (λ read. read ≡ cells_reading layout.now.width (fields_of row.now) fields.now layout.now.columns) }
     ensures value { IfOk result (λ read. IfOk read (λ cells. All IsValue cells)) }
 {
     let mut read = Ok(Seq::from(Vec::with_capacity(alloc, fields.len())?));

@@ -1,5 +1,6 @@
 //! The digits of a number, as one whole number without its last zeros.
-ghost use Rattle.std.specs.Prelude.{◌≡◌, ◌≤◌, ◌<◌, ◌+◌, ◌*◌, ◌^◌, ℕ, [], ◌∷◌, List, pos, ℤ, ◌+ℤ◌, ◌-ℤ◌, ◌<ℤ◌, ◌≤ℤ◌, IfSome, IfNone, option_and_then};
+ghost use Rattle.std.specs.Prelude.{◌≡◌, ◌≤◌, ◌<◌, ◌+◌, ◌*◌, ◌^◌, ℕ, [], ◌∷◌, List, pos, ℤ, ◌+ℤ◌, ◌-ℤ◌, ◌<ℤ◌, ◌≤ℤ◌};
+ghost use Rattle.std.specs.Prelude.{IfSome, IfNone, option_and_then};
 ghost use Rattle.lexical_forms.specs.Digits.{spelled};
 ghost use Rattle.lexical_forms.specs.Number.{scaled, in_size};
 ghost use Rattle.lexical_forms.specs.Significand.{Spells, Adds, IsRead, IsInLimits, IsLimited};

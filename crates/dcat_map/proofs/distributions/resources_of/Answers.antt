@@ -14,7 +14,12 @@ unfolding resources_in
 returns c =
     let after = c.sort_unstable_by.new.self.items in
     let sorted : IsSortedBy (λ x y. is_lt (distribution_cmp x y)) after =
-    c.sort_unstable_by.ensures.sorted (λ x y. is_lt (distribution_cmp x y)) (ranks_by distribution_cmp_total (λ x. x)) (answers_always _ _ _ (λ f a r g called. search rules)) in
+    c.sort_unstable_by.ensures.sorted (λ x y. is_lt (distribution_cmp x y)) (ranks_by distribution_cmp_total (λ x. x))
+    (answers_always _ _ _ (λ f a r g called. search rules)) in
     let all = distributions_in c.args.graph.now (about c.args.graph.now c.args.dataset.now dcat_distribution) in
-    let moved : IsPermutation all after = subst (λ xs. IsPermutation xs after) (c.in_ok-distributions.ensures ∙ ap (distributions_in c.args.graph.now) c.about.ensures) c.sort_unstable_by.ensures.permutation in
-    c.from.ensures ∙ c.truncate.ensures.items ∙ ap (take 200) (in_order-sort distribution_cmp distribution_cmp_total same_distribution all after moved sorted)
+    let moved : IsPermutation all after =
+    subst (λ xs. IsPermutation xs after)
+    (c.in_ok-distributions.ensures ∙ ap (distributions_in c.args.graph.now) c.about.ensures)
+    c.sort_unstable_by.ensures.permutation in
+    c.from.ensures ∙ c.truncate.ensures.items
+    ∙ ap (take 200) (in_order-sort distribution_cmp distribution_cmp_total same_distribution all after moved sorted)

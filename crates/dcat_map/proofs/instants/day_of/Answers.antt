@@ -12,4 +12,5 @@ returns-in-Ok c =
     let month : d.month ≡ c.args.month = omega (arith, ints, v.1) in
     let day : d.day ≡ c.args.day = omega (arith, ints, v.2) in
     let kept : to_z w32 (of_z w32 c.to_unix_epoch_day.result) ≡ c.to_unix_epoch_day.result = omega (arith, ints) in
-    ap Some kept ∙ day_of-date c.args.year c.args.month c.args.day d.year d.month d.day c.to_unix_epoch_day.result year month day d.month_in d.day_in n.value
+    ap Some kept ∙ day_of-date c.args.year c.args.month c.args.day d.year d.month d.day c.to_unix_epoch_day.result
+    year month day d.month_in d.day_in n.value

@@ -14,9 +14,13 @@ loop-statement-init c = sym (least-nil (flip_args int_cmp))
 
 pub loop-statement-preserved : goal.loop-statement-preserved
 loop-statement-preserved c =
-    kept_more (flip_args int_cmp) (back_total int_cmp_total) same_moment (λ t. moment_of t.object) c.args.statements.now c.loop-statement.statement-index c.triple.result.now c.statement-item.result _ _ _ c.loop-statement-test.true c.statement-item.is c.triple.ensures c.moment_of.ensures c.loop-statement.invariant c.later-best.ensures
+    kept_more (flip_args int_cmp) (back_total int_cmp_total) same_moment (λ t. moment_of t.object)
+    c.args.statements.now c.loop-statement.statement-index c.triple.result.now c.statement-item.result _ _ _
+    c.loop-statement-test.true c.statement-item.is c.triple.ensures c.moment_of.ensures c.loop-statement.invariant
+    c.later-best.ensures
 
 pub returns : goal.returns
 unfolding latest
 returns c =
-    c.loop-statement.invariant ∙ ap (λ ts. least (flip_args int_cmp) (filter_map (λ t. moment_of t.object) ts)) (take_all c.loop-statement.statement-index c.args.statements.now c.loop-statement-test.false)
+    c.loop-statement.invariant ∙ ap (λ ts. least (flip_args int_cmp) (filter_map (λ t. moment_of t.object) ts))
+    (take_all c.loop-statement.statement-index c.args.statements.now c.loop-statement-test.false)

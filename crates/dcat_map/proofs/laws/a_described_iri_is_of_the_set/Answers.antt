@@ -13,9 +13,12 @@ pub returns-clause-lists : goal.returns-clause-lists
 unfolding is_described
 returns-clause-lists c = λ g h iri same.
     let test = λ (t : Triple). is_iri iri t.subject && is_typed dcat_dataset_class t in
-    sym (list_any-ascending_set triple_cmp same_triple test g) ∙ ap (list_any test) (same_set triple_cmp triple_cmp_total same_triple g h same)
+    sym (list_any-ascending_set triple_cmp same_triple test g)
+    ∙ ap (list_any test) (same_set triple_cmp triple_cmp_total same_triple g h same)
     ∙ list_any-ascending_set triple_cmp same_triple test h
 
 pub returns-clause-graph : goal.returns-clause-graph
 unfolding is_described graph_of
-returns-clause-graph c = λ ts iri. list_any-ascending_set triple_cmp same_triple (λ t. is_iri iri t.subject && is_typed dcat_dataset_class t) ts
+returns-clause-graph c =
+    λ ts iri. list_any-ascending_set triple_cmp same_triple
+    (λ t. is_iri iri t.subject && is_typed dcat_dataset_class t) ts

@@ -8,4 +8,5 @@ use Rattle.dcat_map.proofs.laws.a_record_is_of_the_set.Goals as goal
 
 pub returns : goal.returns
 unfolding graph_of description_of
-returns c = λ g h iri same. ap (λ set. description_in set iri) (same_set triple_cmp triple_cmp_total same_triple g h same)
+returns c =
+    λ g h iri same. ap (λ set. description_in set iri) (same_set triple_cmp triple_cmp_total same_triple g h same)

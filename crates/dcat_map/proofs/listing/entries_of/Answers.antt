@@ -12,5 +12,7 @@ unfolding entries_in
 returns c =
     let sorted = c.sort_unstable.new.self.items in
     let links = links_in c.args.graph.now c.args.graph.now in
-    let moved : IsPermutation links sorted = subst (λ xs. IsPermutation xs sorted) c.in_ok-entries.ensures c.sort_unstable.ensures.permutation in
-    dedup_is _ _ _ c.dedup.ensures.filtered ∙ ascending_set-dedup term_cmp term_cmp_total same_term links sorted moved c.sort_unstable.ensures.sorted
+    let moved : IsPermutation links sorted =
+    subst (λ xs. IsPermutation xs sorted) c.in_ok-entries.ensures c.sort_unstable.ensures.permutation in
+    dedup_is _ _ _ c.dedup.ensures.filtered ∙ ascending_set-dedup term_cmp term_cmp_total same_term links sorted moved
+    c.sort_unstable.ensures.sorted

@@ -6,4 +6,6 @@ use Rattle.dcat_map.proofs.listing.iris_of.Goals as goal
 
 pub loop-node-preserved : goal.loop-node-preserved
 loop-node-preserved c =
-    pushed_more (filter_map iri_of) (filter_map-append iri_of) c.args.nodes.now c.loop-node.node-index c.term.result.now c.node-item.result _ _ c.loop-node-test.true c.node-item.is c.term.ensures c.loop-node.invariant c.in_ok-push_iri.ensures
+    pushed_more (filter_map iri_of) (filter_map-append iri_of) c.args.nodes.now c.loop-node.node-index
+    c.term.result.now c.node-item.result _ _ c.loop-node-test.true c.node-item.is c.term.ensures
+    c.loop-node.invariant c.in_ok-push_iri.ensures

@@ -10,7 +10,12 @@ loop-statement-init c = c.new-links.ensures.items ∙ sym (links_in-nil _)
 
 pub loop-statement-preserved : goal.loop-statement-preserved
 loop-statement-preserved c =
-    pushed_more (links_in c.args.graph.now) (links_in-append c.args.graph.now) c.statements-statements.result.now c.loop-statement.statement-index c.triple.result.now c.statement-item.result _ _ c.loop-statement-test.true c.statement-item.is c.triple.ensures c.loop-statement.invariant c.in_ok-push_links.ensures
+    pushed_more (links_in c.args.graph.now) (links_in-append c.args.graph.now) c.statements-statements.result.now
+    c.loop-statement.statement-index c.triple.result.now c.statement-item.result _ _ c.loop-statement-test.true
+    c.statement-item.is c.triple.ensures c.loop-statement.invariant c.in_ok-push_links.ensures
 
 pub returns : goal.returns
-returns c = c.loop-statement.invariant ∙ ap (links_in c.args.graph.now) (take_all c.loop-statement.statement-index c.statements-statements.result.now c.loop-statement-test.false ∙ c.statements-statements.ensures)
+returns c = c.loop-statement.invariant
+    ∙ ap (links_in c.args.graph.now)
+    (take_all c.loop-statement.statement-index c.statements-statements.result.now c.loop-statement-test.false
+    ∙ c.statements-statements.ensures)

@@ -15,9 +15,12 @@ loop-statement-init c = sym (least-nil text_cmp)
 
 pub loop-statement-preserved : goal.loop-statement-preserved
 loop-statement-preserved c =
-    kept_more text_cmp nat_list_cmp_total same_text (λ t. iri_of t.object) c.args.statements.now c.loop-statement.statement-index c.triple.result.now c.statement-item.result _ _ _ c.loop-statement-test.true c.statement-item.is c.triple.ensures c.iri_of.ensures c.loop-statement.invariant c.lesser-best.ensures
+    kept_more text_cmp nat_list_cmp_total same_text (λ t. iri_of t.object) c.args.statements.now
+    c.loop-statement.statement-index c.triple.result.now c.statement-item.result _ _ _ c.loop-statement-test.true
+    c.statement-item.is c.triple.ensures c.iri_of.ensures c.loop-statement.invariant c.lesser-best.ensures
 
 pub returns : goal.returns
 unfolding least_iri
 returns c =
-    c.loop-statement.invariant ∙ ap (λ ts. least text_cmp (filter_map (λ t. iri_of t.object) ts)) (take_all c.loop-statement.statement-index c.args.statements.now c.loop-statement-test.false)
+    c.loop-statement.invariant ∙ ap (λ ts. least text_cmp (filter_map (λ t. iri_of t.object) ts))
+    (take_all c.loop-statement.statement-index c.args.statements.now c.loop-statement-test.false)

@@ -7,4 +7,5 @@ use Rattle.dcat_map.specs.Listings.{iri_of}
 use Rattle.dcat_map.proofs.picks.least_iri.Given as goal
 
 abbrev pub invariant-loop-statement : goal.invariant-loop-statement
-invariant-loop-statement l = option_copied l.best ≡ least text_cmp (filter_map (λ t. iri_of t.object) (take l.statement-index l.statements))
+invariant-loop-statement l =
+    option_copied l.best ≡ least text_cmp (filter_map (λ t. iri_of t.object) (take l.statement-index l.statements))

@@ -6,4 +6,6 @@ use Rattle.lexical_forms.proofs.field_name.ends_with_space.Goals as goal
 
 pub returns-in-Some : goal.returns-in-Some
 returns-in-Some c =
-    c.is_whitespace.ensures ∙ sym (ap ends_with_space c.in-Some.ensures.some ∙ ends_with_space-last (chars c.in-Some.field-0-0.now) c.in-Some.character)
+    c.is_whitespace.ensures
+    ∙ sym (ap ends_with_space c.in-Some.ensures.some ∙ ends_with_space-last (chars c.in-Some.field-0-0.now)
+    c.in-Some.character)

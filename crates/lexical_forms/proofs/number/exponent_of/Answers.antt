@@ -13,4 +13,5 @@ returns-then-is_negative c =
     let minus : is_negative behind ≡ true = sym c.is_negative.ensures ∙ c.if-is_negative.true in
     let digits = sym (ap is_digits c.without_sign.ensures) ∙ c.in_ok-magnitude.ensures.0 in
     let number = c.in_ok-magnitude.ensures.1 ∙ ap limited_in c.without_sign.ensures in
-    some_exponent (chars c.args.text.now) behind c.in-Some.character n _ c.in-Some.ensures.some mark digits number (negated n (omega (arith, c.in_ok-magnitude.ensures.1)) ∙ ap (λ b. signed b n) (sym minus))
+    some_exponent (chars c.args.text.now) behind c.in-Some.character n _ c.in-Some.ensures.some mark digits number
+    (negated n (omega (arith, c.in_ok-magnitude.ensures.1)) ∙ ap (λ b. signed b n) (sym minus))

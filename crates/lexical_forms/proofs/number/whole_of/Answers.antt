@@ -7,4 +7,5 @@ use Rattle.lexical_forms.proofs.number.whole_of.Goals as goal
 
 pub returns-in_err-magnitude : goal.returns-in_err-magnitude
 returns-in_err-magnitude c =
-    c.from_residual.ensures ∙ whole_reading-none (chars c.args.text.now) (subst (λ (xs : List ℕ). IsNumberOf xs None) c.without_sign.ensures c.in_err-magnitude.ensures)
+    c.from_residual.ensures ∙ whole_reading-none (chars c.args.text.now)
+    (subst (λ (xs : List ℕ). IsNumberOf xs None) c.without_sign.ensures c.in_err-magnitude.ensures)

@@ -7,10 +7,13 @@ loop-triples-init c = UnderWay-start c.args.bytes.now c.new-triples.result c.new
 pub returns-in-None-clause-triples : goal.returns-in-None-clause-triples
 returns-in-None-clause-triples c =
     let cut = rw c.in-None.is at c.split_line.ensures.cut in
-    UnderWay-done c.args.bytes.now c.loop-triples.rest.now c.loop-triples.triples c.loop-triples.ended c.loop-triples.invariant c.split_line.result.0.now c.push_line.new.triples cut c.in-Ok.ensures
+    UnderWay-done c.args.bytes.now c.loop-triples.rest.now c.loop-triples.triples c.loop-triples.ended
+    c.loop-triples.invariant c.split_line.result.0.now c.push_line.new.triples cut c.in-Ok.ensures
 
 pub loop-triples-preserved : goal.loop-triples-preserved
 loop-triples-preserved c =
     let cut = rw c.in-Some.is at c.split_line.ensures.cut in
     let shorter = rw c.in-Some.is at c.split_line.ensures.shorter in
-    UnderWay-more c.args.bytes.now c.loop-triples.rest.now c.loop-triples.triples c.loop-triples.ended c.loop-triples.invariant c.split_line.result.0.now c.in-Some.behind.now c.push_line.new.triples cut c.in-Ok.ensures shorter
+    UnderWay-more c.args.bytes.now c.loop-triples.rest.now c.loop-triples.triples c.loop-triples.ended
+    c.loop-triples.invariant c.split_line.result.0.now c.in-Some.behind.now c.push_line.new.triples cut
+    c.in-Ok.ensures shorter

@@ -9,7 +9,8 @@ use Rattle.ntriples.proofs.quoted.quoted.Given as goal
 
 abbrev pub invariant-loop-value : goal.invariant-loop-value
 invariant-loop-value l =
-    shadow (Utf8 l.rest) × (with_front (string_bytes l.value) (quoted l.kind (chars l.rest)) ≡ quoted l.kind (chars l.text))
+    shadow (Utf8 l.rest)
+    × (with_front (string_bytes l.value) (quoted l.kind (chars l.rest)) ≡ quoted l.kind (chars l.text))
 
 abbrev pub decreases-loop-value : goal.decreases-loop-value
 decreases-loop-value l = length (chars l.rest)

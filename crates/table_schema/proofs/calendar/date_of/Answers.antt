@@ -12,5 +12,6 @@ returns-in-Err c =
     let day = c.number_at-day.ensures in
     let unnamed : has_day (year_in text) (number_at 5 text) (number_at 8 text) ≡ false =
     false_from_ne_true (has_day (year_in text) (number_at 5 text) (number_at 8 text))
-    (λ t. cc (c.in-Err.ensures.succeeds.1 (named-IsDate _ _ _ _ _ _ year.year month.number day.number year.bound month.bound day.bound t))) in
+    (λ t. cc (c.in-Err.ensures.succeeds.1
+    (named-IsDate _ _ _ _ _ _ year.year month.number day.number year.bound month.bound day.bound t))) in
     date_reading-unnamed text unnamed

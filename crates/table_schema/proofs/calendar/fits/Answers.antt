@@ -4,7 +4,9 @@ use Rattle.portal_base.proofs.FormLemmas.{fits_form-all, fits_form-other_place, 
 use Rattle.table_schema.proofs.calendar.fits.Goals as goal
 
 pub returns-then-text-form : goal.returns-then-text-form
-returns-then-text-form c = sym (fits_form-other_length c.args.form.now c.args.text.now (let ne : length c.args.text.now ≢ length c.args.form.now = omega arith in ne))
+returns-then-text-form c =
+    sym (fits_form-other_length c.args.form.now c.args.text.now
+    (let ne : length c.args.text.now ≢ length c.args.form.now = omega arith in ne))
 
 pub returns-then-not-fits_place : goal.returns-then-not-fits_place
 returns-then-not-fits_place c =
@@ -14,4 +16,6 @@ returns-then-not-fits_place c =
     sym (fits_form-other_place c.args.form.now c.args.text.now place lt other)
 
 pub returns : goal.returns
-returns c = sym (fits_form-all c.args.form.now c.args.text.now (c.loop-place.invariant.0) (λ k lt. c.loop-place.invariant.1 k (omega arith)))
+returns c =
+    sym (fits_form-all c.args.form.now c.args.text.now (c.loop-place.invariant.0)
+    (λ k lt. c.loop-place.invariant.1 k (omega arith)))

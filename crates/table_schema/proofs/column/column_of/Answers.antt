@@ -6,7 +6,8 @@ use Rattle.table_schema.specs.Descriptor.{name_reading, kind_reading, format_rea
 use Rattle.table_schema.specs.Truth.{is_among}
 use Rattle.table_schema.specs.Values.{or_fault}
 use Rattle.table_schema.proofs.ColumnLemmas.{list_any-map, refused, gives_err}
-use Rattle.table_schema.proofs.DescriptorLemmas.{name_fault, taken_fault, new_so, kind_fault_so, kind_so, format_fault_so, format_so, pattern_fault_so, pattern_so}
+use Rattle.table_schema.proofs.DescriptorLemmas.{name_fault, taken_fault, new_so, kind_fault_so, kind_so}
+use Rattle.table_schema.proofs.DescriptorLemmas.{format_fault_so, format_so, pattern_fault_so, pattern_so}
 use Rattle.table_schema.proofs.column.column_of.Goals as goal
 
 pub returns-in_err-name : goal.returns-in_err-name
@@ -16,7 +17,8 @@ returns-in_err-name c =
     let item = c.args.item.now in
     let fault = c.in_err-name.field-0.0 in
     gives_err (λ x. x) c.from_residual.result (column_reading number names item) fault c.from_residual.ensures.1
-    (refused fault (name_reading number item) (column_reading number names item) (λ e. name_fault number names item fault e) c.in_err-name.ensures)
+    (refused fault (name_reading number item) (column_reading number names item)
+    (λ e. name_fault number names item fault e) c.in_err-name.ensures)
 
 pub returns-then-is_taken : goal.returns-then-is_taken
 returns-then-is_taken c =
@@ -24,7 +26,8 @@ returns-then-is_taken c =
     let names = map (λ (x : Column). x.name) c.args.before.now in
     let item = c.args.item.now in
     let name = c.in_ok-name.name.now in
-    let old : is_among names name ≡ true = list_any-map (λ (x : Column). x.name) (λ t. bytes_eq t name) c.args.before.now ∙ sym c.if-is_taken.ensures in
+    let old : is_among names name ≡ true =
+    list_any-map (λ (x : Column). x.name) (λ t. bytes_eq t name) c.args.before.now ∙ sym c.if-is_taken.ensures in
     taken_fault number names item name c.in_ok-name.ensures old
 
 pub returns-in_err-kind : goal.returns-in_err-kind
@@ -33,11 +36,14 @@ returns-in_err-kind c =
     let names = map (λ (x : Column). x.name) c.args.before.now in
     let item = c.args.item.now in
     let name = c.in_ok-name.name.now in
-    let new : is_among names name ≡ false = list_any-map (λ (x : Column). x.name) (λ t. bytes_eq t name) c.args.before.now ∙ sym c.if-is_taken.ensures in
+    let new : is_among names name ≡ false =
+    list_any-map (λ (x : Column). x.name) (λ t. bytes_eq t name) c.args.before.now ∙ sym c.if-is_taken.ensures in
     let named = new_so number names item name c.in_ok-name.ensures new in
     let fault = c.in_err-kind.field-0.0 in
-    gives_err (λ x. x) c.from_residual-in_err-kind.result (column_reading number names item) fault c.from_residual-in_err-kind.ensures.1
-    (refused fault (kind_reading number item) (column_reading number names item) (λ e. named ∙ kind_fault_so number item name fault e) c.in_err-kind.ensures)
+    gives_err (λ x. x) c.from_residual-in_err-kind.result (column_reading number names item) fault
+    c.from_residual-in_err-kind.ensures.1
+    (refused fault (kind_reading number item) (column_reading number names item)
+    (λ e. named ∙ kind_fault_so number item name fault e) c.in_err-kind.ensures)
 
 pub returns-in_err-refuse_format : goal.returns-in_err-refuse_format
 returns-in_err-refuse_format c =
@@ -45,13 +51,16 @@ returns-in_err-refuse_format c =
     let names = map (λ (x : Column). x.name) c.args.before.now in
     let item = c.args.item.now in
     let name = c.in_ok-name.name.now in
-    let new : is_among names name ≡ false = list_any-map (λ (x : Column). x.name) (λ t. bytes_eq t name) c.args.before.now ∙ sym c.if-is_taken.ensures in
+    let new : is_among names name ≡ false =
+    list_any-map (λ (x : Column). x.name) (λ t. bytes_eq t name) c.args.before.now ∙ sym c.if-is_taken.ensures in
     let named = new_so number names item name c.in_ok-name.ensures new in
     let k = c.in_ok-kind.kind in
     let kinded = named ∙ kind_so number item name k c.in_ok-kind.ensures in
     let fault = c.in_err-refuse_format.field-0.0 in
-    gives_err (λ x. x) c.from_residual-in_err-refuse_format.result (column_reading number names item) fault c.from_residual-in_err-refuse_format.ensures.1
-    (refused fault (format_reading item) (column_reading number names item) (λ e. kinded ∙ format_fault_so number item name k fault e) c.in_err-refuse_format.ensures)
+    gives_err (λ x. x) c.from_residual-in_err-refuse_format.result (column_reading number names item) fault
+    c.from_residual-in_err-refuse_format.ensures.1
+    (refused fault (format_reading item) (column_reading number names item)
+    (λ e. kinded ∙ format_fault_so number item name k fault e) c.in_err-refuse_format.ensures)
 
 pub returns-in_err-refuse_pattern : goal.returns-in_err-refuse_pattern
 returns-in_err-refuse_pattern c =
@@ -59,14 +68,17 @@ returns-in_err-refuse_pattern c =
     let names = map (λ (x : Column). x.name) c.args.before.now in
     let item = c.args.item.now in
     let name = c.in_ok-name.name.now in
-    let new : is_among names name ≡ false = list_any-map (λ (x : Column). x.name) (λ t. bytes_eq t name) c.args.before.now ∙ sym c.if-is_taken.ensures in
+    let new : is_among names name ≡ false =
+    list_any-map (λ (x : Column). x.name) (λ t. bytes_eq t name) c.args.before.now ∙ sym c.if-is_taken.ensures in
     let named = new_so number names item name c.in_ok-name.ensures new in
     let k = c.in_ok-kind.kind in
     let kinded = named ∙ kind_so number item name k c.in_ok-kind.ensures in
     let formed = kinded ∙ format_so number item name k c.in_ok-refuse_format.ensures in
     let fault = c.in_err-refuse_pattern.field-0.0 in
-    gives_err (λ x. x) c.from_residual-in_err-refuse_pattern.result (column_reading number names item) fault c.from_residual-in_err-refuse_pattern.ensures.1
-    (refused fault (pattern_reading item) (column_reading number names item) (λ e. formed ∙ pattern_fault_so number item name k fault e) c.in_err-refuse_pattern.ensures)
+    gives_err (λ x. x) c.from_residual-in_err-refuse_pattern.result (column_reading number names item) fault
+    c.from_residual-in_err-refuse_pattern.ensures.1
+    (refused fault (pattern_reading item) (column_reading number names item)
+    (λ e. formed ∙ pattern_fault_so number item name k fault e) c.in_err-refuse_pattern.ensures)
 
 pub returns-in-Some : goal.returns-in-Some
 returns-in-Some c =
@@ -74,12 +86,14 @@ returns-in-Some c =
     let names = map (λ (x : Column). x.name) c.args.before.now in
     let item = c.args.item.now in
     let name = c.in_ok-name.name.now in
-    let new : is_among names name ≡ false = list_any-map (λ (x : Column). x.name) (λ t. bytes_eq t name) c.args.before.now ∙ sym c.if-is_taken.ensures in
+    let new : is_among names name ≡ false =
+    list_any-map (λ (x : Column). x.name) (λ t. bytes_eq t name) c.args.before.now ∙ sym c.if-is_taken.ensures in
     let named = new_so number names item name c.in_ok-name.ensures new in
     let k = c.in_ok-kind.kind in
     let kinded = named ∙ kind_so number item name k c.in_ok-kind.ensures in
     let formed = kinded ∙ format_so number item name k c.in_ok-refuse_format.ensures in
-    formed ∙ pattern_so number item name k c.in_ok-column.field-0 c.in_ok-refuse_pattern.ensures c.in_ok-column.ensures ∙ ap (or_fault (BadConstraint number)) c.in-Some.is
+    formed ∙ pattern_so number item name k c.in_ok-column.field-0 c.in_ok-refuse_pattern.ensures
+    c.in_ok-column.ensures ∙ ap (or_fault (BadConstraint number)) c.in-Some.is
 
 pub returns-in-None : goal.returns-in-None
 returns-in-None c =
@@ -87,9 +101,11 @@ returns-in-None c =
     let names = map (λ (x : Column). x.name) c.args.before.now in
     let item = c.args.item.now in
     let name = c.in_ok-name.name.now in
-    let new : is_among names name ≡ false = list_any-map (λ (x : Column). x.name) (λ t. bytes_eq t name) c.args.before.now ∙ sym c.if-is_taken.ensures in
+    let new : is_among names name ≡ false =
+    list_any-map (λ (x : Column). x.name) (λ t. bytes_eq t name) c.args.before.now ∙ sym c.if-is_taken.ensures in
     let named = new_so number names item name c.in_ok-name.ensures new in
     let k = c.in_ok-kind.kind in
     let kinded = named ∙ kind_so number item name k c.in_ok-kind.ensures in
     let formed = kinded ∙ format_so number item name k c.in_ok-refuse_format.ensures in
-    formed ∙ pattern_so number item name k c.in_ok-column.field-0 c.in_ok-refuse_pattern.ensures c.in_ok-column.ensures ∙ ap (or_fault (BadConstraint number)) c.in-None.is
+    formed ∙ pattern_so number item name k c.in_ok-column.field-0 c.in_ok-refuse_pattern.ensures
+    c.in_ok-column.ensures ∙ ap (or_fault (BadConstraint number)) c.in-None.is

@@ -17,7 +17,8 @@ returns-in_err-column c =
     let told = rw c.as_slice.ensures.value at c.in_err-column.ensures in
     gives_err (λ v. v.items) c.from_residual.result (columns_reading 1 [] items) fault c.from_residual.ensures.1
     (refused fault (column_reading (place + 1) (map (λ (x : Column). x.name) before) item) (columns_reading 1 [] items)
-    (λ e. c.loop-place.invariant.read ∙ columns_on-fault before items place item fault c.loop-place.invariant.count lt c.index-items-place.is e) told)
+    (λ e. c.loop-place.invariant.read ∙ columns_on-fault before items place item fault c.loop-place.invariant.count lt
+    c.index-items-place.is e) told)
 
 pub loop-place-preserved : goal.loop-place-preserved
 loop-place-preserved c =
@@ -29,8 +30,11 @@ loop-place-preserved c =
     let lt : place < length items = omega arith in
     let read = rw c.as_slice.ensures.value at c.in_ok-column.ensures in
     let done : is_ok c.push.result ≡ true = c.if-is_err.ensures.negation in
-    let pushed : c.push.new.self.items ≡ before ++ column ∷ [] = c.push.ensures.items ∙ ap (λ b. if b then before ++ column ∷ [] else before) done in
+    let pushed : c.push.new.self.items ≡ before ++ column ∷ [] =
+    c.push.ensures.items ∙ ap (λ b. if b then before ++ column ∷ [] else before) done in
     record {
       count = omega (arith, ap length pushed, length-append before (column ∷ []), c.loop-place.invariant.count);
-      read = rw pushed (c.loop-place.invariant.read ∙ columns_on-next before items place item column c.loop-place.invariant.count lt c.index-items-place.is read);
+      read = rw pushed
+          (c.loop-place.invariant.read ∙ columns_on-next before items place item column c.loop-place.invariant.count
+          lt c.index-items-place.is read);
     }

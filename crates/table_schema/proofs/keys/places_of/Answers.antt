@@ -17,6 +17,8 @@ loop-name-preserved c =
     let found : place_of c.args.columns.now c.name-item.result ≡ Some c.in-Some.place = cc (c.in-Some.ensures) in
     let new : list_any (λ p. p == c.in-Some.place) c.loop-name.places.items ≡ false = cc in
     let lt : c.loop-name.name-index < length c.args.names.now = omega arith in
-    let next = places_on-next c.args.columns.now c.loop-name.places.items c.args.names.now c.loop-name.name-index c.name-item.result c.in-Some.place lt c.name-item.is found new in
-    let pushed : c.push.new.self.items ≡ c.loop-name.places.items ++ c.in-Some.place ∷ [] = c.in_ok-push.ensures.items in
+    let next = places_on-next c.args.columns.now c.loop-name.places.items c.args.names.now c.loop-name.name-index
+    c.name-item.result c.in-Some.place lt c.name-item.is found new in
+    let pushed : c.push.new.self.items ≡ c.loop-name.places.items ++ c.in-Some.place ∷ [] =
+    c.in_ok-push.ensures.items in
     rw pushed (c.loop-name.invariant ∙ next)

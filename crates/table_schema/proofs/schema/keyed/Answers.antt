@@ -17,19 +17,31 @@ fields_of-requires c = columns_few c.args.value.now c.args.columns.items c.requi
 pub invariant_of-result : goal.invariant_of-result
 invariant_of-result c =
     let shared : arc_value c.in_ok-missing-2.missing ≡ c.in-Some.missing = c.in_ok-missing-2.ensures.ok in
-    let missing_so : missing_in c.args.value.now ≡ Some (arc_value c.in_ok-missing-2.missing) = sym c.in_ok-missing.ensures ∙ c.in-Some.is ∙ ap Some (sym shared) in
-    let key_so : key_in c.args.columns.items c.args.value.now ≡ Some c.in-Some-2.key = sym (rw c.as_slice.ensures.value at c.in_ok-key.ensures) ∙ c.in-Some-2.is in
-    let foreign_so : foreigns_in c.args.columns.items c.in-Some-2.key c.args.value.now ≡ Some c.in-Some-3.foreign = sym (rw (c.as_slice-2.ensures.value, c.as_slice-3.ensures) at c.in_ok-foreign.ensures) ∙ c.in-Some-3.is in
-    let fields_so : c.in_ok-fields.fields ≡ fields_from (arc_value c.in_ok-missing-2.missing) c.in-Some-2.key 0 c.args.columns.items = rw c.as_slice-4.ensures at c.in_ok-fields.ensures in
-    let whole = keyed_shown c.args.columns.items c.args.value.now c.in_ok-fields.fields (arc_value c.in_ok-missing-2.missing) c.in-Some-2.key c.in-Some-3.foreign missing_so key_so foreign_so fields_so in
+    let missing_so : missing_in c.args.value.now ≡ Some (arc_value c.in_ok-missing-2.missing) =
+    sym c.in_ok-missing.ensures ∙ c.in-Some.is ∙ ap Some (sym shared) in
+    let key_so : key_in c.args.columns.items c.args.value.now ≡ Some c.in-Some-2.key =
+    sym (rw c.as_slice.ensures.value at c.in_ok-key.ensures) ∙ c.in-Some-2.is in
+    let foreign_so : foreigns_in c.args.columns.items c.in-Some-2.key c.args.value.now ≡ Some c.in-Some-3.foreign =
+    sym (rw (c.as_slice-2.ensures.value, c.as_slice-3.ensures) at c.in_ok-foreign.ensures) ∙ c.in-Some-3.is in
+    let fields_so : c.in_ok-fields.fields ≡ fields_from (arc_value c.in_ok-missing-2.missing) c.in-Some-2.key 0
+    c.args.columns.items = rw c.as_slice-4.ensures at c.in_ok-fields.ensures in
+    let whole = keyed_shown c.args.columns.items c.args.value.now c.in_ok-fields.fields
+    (arc_value c.in_ok-missing-2.missing) c.in-Some-2.key c.in-Some-3.foreign missing_so key_so foreign_so
+    fields_so in
     keyed_back c.args.columns.items c.args.value.now _ c.requires whole
 
 pub returns : goal.returns
 returns c =
     let shared : arc_value c.in_ok-missing-2.missing ≡ c.in-Some.missing = c.in_ok-missing-2.ensures.ok in
-    let missing_so : missing_in c.args.value.now ≡ Some (arc_value c.in_ok-missing-2.missing) = sym c.in_ok-missing.ensures ∙ c.in-Some.is ∙ ap Some (sym shared) in
-    let key_so : key_in c.args.columns.items c.args.value.now ≡ Some c.in-Some-2.key = sym (rw c.as_slice.ensures.value at c.in_ok-key.ensures) ∙ c.in-Some-2.is in
-    let foreign_so : foreigns_in c.args.columns.items c.in-Some-2.key c.args.value.now ≡ Some c.in-Some-3.foreign = sym (rw (c.as_slice-2.ensures.value, c.as_slice-3.ensures) at c.in_ok-foreign.ensures) ∙ c.in-Some-3.is in
-    let fields_so : c.in_ok-fields.fields ≡ fields_from (arc_value c.in_ok-missing-2.missing) c.in-Some-2.key 0 c.args.columns.items = rw c.as_slice-4.ensures at c.in_ok-fields.ensures in
-    let whole = keyed_shown c.args.columns.items c.args.value.now c.in_ok-fields.fields (arc_value c.in_ok-missing-2.missing) c.in-Some-2.key c.in-Some-3.foreign missing_so key_so foreign_so fields_so in
+    let missing_so : missing_in c.args.value.now ≡ Some (arc_value c.in_ok-missing-2.missing) =
+    sym c.in_ok-missing.ensures ∙ c.in-Some.is ∙ ap Some (sym shared) in
+    let key_so : key_in c.args.columns.items c.args.value.now ≡ Some c.in-Some-2.key =
+    sym (rw c.as_slice.ensures.value at c.in_ok-key.ensures) ∙ c.in-Some-2.is in
+    let foreign_so : foreigns_in c.args.columns.items c.in-Some-2.key c.args.value.now ≡ Some c.in-Some-3.foreign =
+    sym (rw (c.as_slice-2.ensures.value, c.as_slice-3.ensures) at c.in_ok-foreign.ensures) ∙ c.in-Some-3.is in
+    let fields_so : c.in_ok-fields.fields ≡ fields_from (arc_value c.in_ok-missing-2.missing) c.in-Some-2.key 0
+    c.args.columns.items = rw c.as_slice-4.ensures at c.in_ok-fields.ensures in
+    let whole = keyed_shown c.args.columns.items c.args.value.now c.in_ok-fields.fields
+    (arc_value c.in_ok-missing-2.missing) c.in-Some-2.key c.in-Some-3.foreign missing_so key_so foreign_so
+    fields_so in
     sym whole

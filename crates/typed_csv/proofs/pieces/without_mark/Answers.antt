@@ -1,4 +1,5 @@
-use Rattle.std.proofs.Common.{◌≡◌, ◌∙◌, sym, refl, ℕ, List, [], ◌∷◌, Bool, true, false, take, drop, eqb, true≢false, if◌then◌else◌, arith}
+use Rattle.std.proofs.Common.{◌≡◌, ◌∙◌, sym, refl, ℕ, List, [], ◌∷◌, Bool, true, false, take, drop, eqb, true≢false}
+use Rattle.std.proofs.Common.{if◌then◌else◌, arith}
 use lib.Pointwise.{pointwise}
 use Rattle.csv.specs.Reading.{is_bom, strip_bom}
 use Rattle.typed_csv.proofs.pieces.without_mark.Goals as goal

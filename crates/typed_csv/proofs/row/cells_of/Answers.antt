@@ -27,16 +27,24 @@ loop-field-preserved c =
     let texts = fields_of c.args.row.now in
     let field = c.in-Some.field.now in
     let column = c.in-Some.column.now in
-    let more = Zip-more c.loop-field.field-iterator c.next.new.self c.next.result (c.in-Some.field, c.in-Some.column) c.in-Some.is c.next.ensures.steps in
-    let is : c.in_ok-cell.cell ≡ cell_or_bad field (rank_of width column) (text_in texts column) = c.in_ok-cell.ensures.read ∙ (rw c.rank_of-rank.ensures (rw c.text_in.ensures refl)) in
+    let more = Zip-more c.loop-field.field-iterator c.next.new.self c.next.result (c.in-Some.field, c.in-Some.column)
+    c.in-Some.is c.next.ensures.steps in
+    let is : c.in_ok-cell.cell ≡ cell_or_bad field (rank_of width column) (text_in texts column) =
+    c.in_ok-cell.ensures.read ∙ (rw c.rank_of-rank.ensures (rw c.text_in.ensures refl)) in
     record {
-      read = c.loop-field.invariant.read ∙ cells-next width texts _ _ _ _ field column c.loop-field.read c.in_ok-cell.cell more.0 more.1 is ∙ ap (λ r. behind r (cells_reading width texts (iter_rest (zip_first c.next.new.self)) (iter_rest (zip_second c.next.new.self)))) (sym c.in_ok-read.ensures);
-      value = rw c.in_ok-read.ensures (values-next c.loop-field.read c.in_ok-cell.cell c.loop-field.invariant.value c.in_ok-cell.ensures.value);
+      read = c.loop-field.invariant.read ∙ cells-next width texts _ _ _ _ field column c.loop-field.read
+          c.in_ok-cell.cell more.0 more.1 is
+          ∙ ap (λ r. behind r
+          (cells_reading width texts (iter_rest (zip_first c.next.new.self))
+          (iter_rest (zip_second c.next.new.self)))) (sym c.in_ok-read.ensures);
+      value = rw c.in_ok-read.ensures
+          (values-next c.loop-field.read c.in_ok-cell.cell c.loop-field.invariant.value c.in_ok-cell.ensures.value);
     }
 
 pub returns-clause-read : goal.returns-clause-read
 returns-clause-read c =
-    let done = either_empty_from_Zip c.loop-field.field-iterator c.next.new.self c.next.result c.in-None.is c.next.ensures.steps in
+    let done = either_empty_from_Zip c.loop-field.field-iterator c.next.new.self c.next.result c.in-None.is
+    c.next.ensures.steps in
     sym (c.loop-field.invariant.read ∙ cells-end _ _ _ _ c.loop-field.read done)
 
 pub returns-clause-value : goal.returns-clause-value

@@ -11,6 +11,8 @@ use Rattle.typed_csv.proofs.row.cells_of.Given as goal
 abbrev pub invariant-loop-field : goal.invariant-loop-field
 invariant-loop-field l = record {
   read : cells_reading l.layout.width (fields_of l.row) l.fields l.layout.columns
-      ≡ behind l.read (cells_reading l.layout.width (fields_of l.row) (iter_rest (zip_first l.field-iterator)) (iter_rest (zip_second l.field-iterator)));
+      ≡ behind l.read
+      (cells_reading l.layout.width (fields_of l.row) (iter_rest (zip_first l.field-iterator))
+      (iter_rest (zip_second l.field-iterator)));
   value : IfOk l.read (λ cells. All IsValue cells);
 }

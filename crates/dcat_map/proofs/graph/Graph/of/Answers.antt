@@ -18,5 +18,7 @@ unfolding graph_of
 returns c =
     let sorted = c.sort_unstable.new.self.items in
     let moved : IsPermutation c.args.triples.now sorted =
-    subst (λ xs. IsPermutation xs sorted) (c.in_ok-statements.ensures ∙ c.as_slice.ensures) c.sort_unstable.ensures.permutation in
-    dedup_is _ _ _ c.dedup.ensures.filtered ∙ ascending_set-dedup triple_cmp triple_cmp_total same_triple c.args.triples.now sorted moved c.sort_unstable.ensures.sorted
+    subst (λ xs. IsPermutation xs sorted) (c.in_ok-statements.ensures ∙ c.as_slice.ensures)
+    c.sort_unstable.ensures.permutation in
+    dedup_is _ _ _ c.dedup.ensures.filtered ∙ ascending_set-dedup triple_cmp triple_cmp_total same_triple
+    c.args.triples.now sorted moved c.sort_unstable.ensures.sorted

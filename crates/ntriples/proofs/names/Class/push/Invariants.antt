@@ -9,7 +9,9 @@ use Rattle.ntriples.proofs.names.Class.push.Given as goal
 
 abbrev pub invariant-loop-character : goal.invariant-loop-character
 invariant-loop-character l =
-    shadow (Utf8 l.rest) × (onto (string_bytes l.value) (run l.self (chars l.rest)) ≡ onto (string_bytes l.fn.value) (run l.self (chars l.text)))
+    shadow (Utf8 l.rest)
+    × (onto (string_bytes l.value) (run l.self (chars l.rest))
+    ≡ onto (string_bytes l.fn.value) (run l.self (chars l.text)))
 
 abbrev pub decreases-loop-character : goal.decreases-loop-character
 decreases-loop-character l = length (chars l.rest)

@@ -8,4 +8,5 @@ returns c =
     let first = c.in_ok-text.ensures.items in
     let second = c.in_ok-push.ensures.items in
     let third = c.in_ok-extend_from_slice.ensures.items in
-    left-start _ _ _ c.args.bytes.now a.state a.source (rw (c.new-2.ensures.inner, c.new-2.ensures.position, third) (rw second (rw first refl)))
+    left-start _ _ _ c.args.bytes.now a.state a.source
+    (rw (c.new-2.ensures.inner, c.new-2.ensures.position, third) (rw second (rw first refl)))

@@ -10,7 +10,8 @@ returns-clause-row g c = (fields_of c.next.new.row, grind (arith, common_steps))
 
 pub returns-in_err-cells-clause-cause : goal.returns-in_err-cells-clause-cause
 returns-in_err-cells-clause-cause g c =
-    row_refused c.args.self.now (fields_of c.next.new.row) c.in_err-cells.field-0.0 c.from_residual-in_err-cells.result _
+    row_refused c.args.self.now (fields_of c.next.new.row) c.in_err-cells.field-0.0
+    c.from_residual-in_err-cells.result _
     (search rules) c.in_err-cells.ensures.read (grind (arith, common_steps))
 
 pub returns-in-NotText-clause-cause : goal.returns-in-NotText-clause-cause

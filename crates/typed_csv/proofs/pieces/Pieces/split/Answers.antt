@@ -17,10 +17,13 @@ invariant_of-self c =
     IsScanned-all c.in_ok-rest.rest.items c.len-self-inside.result c.args.place c.self.inside.is_fresh
     (c.len-self-inside.ensures ∙ c.in_ok-rest.ensures.len ∙ ap length (sym c.in_ok-rest.ensures.items))
     (ap (λ (k : Kept). k.is_fresh) c.self.view_is ∙ c.requires.fresh)
-    (c.requires.place ∙ place_after-left c.args.self.now.held c.args.end c.requires.ends ∙ ap (place_after RecordStart) (sym (rest c)))
+    (c.requires.place ∙ place_after-left c.args.self.now.held c.args.end c.requires.ends
+    ∙ ap (place_after RecordStart) (sym (rest c)))
     (ap (has_start RecordStart) (rest c) ∙ c.requires.last)
 
 pub returns-clause-records : goal.returns-clause-records
 returns-clause-records c =
-    records_with-split c.args.self.now _ c.args.end c.requires.ready c.requires.fresh (ap (λ (k : Kept). k.is_fresh) c.self.view_is ∙ c.requires.fresh) c.requires.ends
-    (c.in_ok-new.ensures ∙ ap (records default_config) (c.split_at.ensures.front ∙ ap (take c.args.end) (held c))) (rest c)
+    records_with-split c.args.self.now _ c.args.end c.requires.ready c.requires.fresh
+    (ap (λ (k : Kept). k.is_fresh) c.self.view_is ∙ c.requires.fresh) c.requires.ends
+    (c.in_ok-new.ensures ∙ ap (records default_config) (c.split_at.ensures.front ∙ ap (take c.args.end) (held c)))
+    (rest c)
