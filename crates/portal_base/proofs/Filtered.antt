@@ -1,9 +1,9 @@
 -- What is kept of a list in order by a test, and how it changes with the list.
-use Rattle.std.proofs.Common.{◌≡◌, Bool, true, false, not, cond, ◌||◌, List, [], ◌∷◌, Option, Some, None, refl}
+use Rattle.std.proofs.Common.{◌≡◌, Bool, true, false, not, cond, ◌||◌, ◌&&◌, List, [], ◌∷◌, Option, Some, None, refl}
 use Rattle.std.proofs.Common.{ap, ◌∙◌, sym, inl, inr}
-use Rattle.std.specs.Prelude.{filter}
+use Rattle.std.specs.Prelude.{filter, is_some}
 use Rattle.std.specs.Cmp.{IsTotalOrder}
-use Rattle.std.specs.List.{find, list_any}
+use Rattle.std.specs.List.{find, list_any, list_all}
 use Rattle.std.specs.Option.{option_and_then}
 use Rattle.std.specs.Ordering.{is_lt, is_eq}
 use Rattle.std.specs.declared.cmp.Ordering.{Ordering}
@@ -44,6 +44,23 @@ filter-all {X} p (x ∷ xs) all =
     ap (λ b. cond b (x ∷ filter p xs) (filter p xs)) (all x (inl refl))
     ∙ ap (λ l. x ∷ l) (filter-all p xs (λ z m. all z (inr m)))
 
+-- A test that all pass is passed by each.
+pub list_all-IsIn : {X : Type 0} (p : X → Bool) (xs : List X) → list_all p xs ≡ true → (x : X) → IsIn x xs → p x ≡ true
+list_all-IsIn p [] all x m = absurd m
+list_all-IsIn {X} p (y ∷ ys) all x m = by (p y) refl all m (λ rest n. list_all-IsIn p ys rest x n)
+  where
+    by : (b : Bool) → p y ≡ b → (b && list_all p ys) ≡ true → IsIn x (y ∷ ys)
+        → (list_all p ys ≡ true → IsIn x ys → p x ≡ true) → p x ≡ true
+    by true is both (inl e) further = ap p e ∙ is
+    by true is both (inr n) further = further both n
+    by false is both n further = absurd (cc)
+
+pub IsIn-list_all : {X : Type 0} (p : X → Bool) (xs : List X) → ((x : X) → IsIn x xs → p x ≡ true)
+    → list_all p xs ≡ true
+IsIn-list_all p [] each = refl
+IsIn-list_all p (y ∷ ys) each =
+    ap (λ b. b && list_all p ys) (each y (inl refl)) ∙ IsIn-list_all p ys (λ x m. each x (inr m))
+
 -- Two tests keep the same in either order.
 pub filter-filter : {X : Type 0} (p q : X → Bool) (xs : List X) → filter p (filter q xs) ≡ filter q (filter p xs)
 filter-filter p q [] = refl
@@ -81,6 +98,19 @@ find-list_any test [] h = refl
 find-list_any {X} test (x ∷ xs) h =
     let P : Bool → Type 0 = λ b. (b || list_any test xs) ≡ false → cond b (Some x) (find test xs) ≡ None in
     (elim (test x) as P [ true ↦ λ e. absurd (cc) | false ↦ λ e. find-list_any test xs e ]) h
+
+-- Two tests that agree find alike.
+pub find-same : {X : Type 0} (p q : X → Bool) → ((x : X) → p x ≡ q x) → (xs : List X) → find p xs ≡ find q xs
+find-same p q e [] = refl
+find-same p q e (x ∷ xs) =
+    ap (λ b. cond b (Some x) (find p xs)) (e x) ∙ ap (λ o. cond (q x) (Some x) o) (find-same p q e xs)
+
+-- Something is found just where something passes.
+pub is_some-find_any : {X : Type 0} (test : X → Bool) (xs : List X) → is_some (find test xs) ≡ list_any test xs
+is_some-find_any test [] = refl
+is_some-find_any {X} test (x ∷ xs) =
+    let P : Bool → Type 0 = λ b. is_some (cond b (Some x) (find test xs)) ≡ (b || list_any test xs) in
+    elim (test x) as P [ true ↦ refl | false ↦ is_some-find_any test xs ]
 
 -- A test that passes nothing of what is left out finds what it found.
 pub find-filter : {X : Type 0} (test p : X → Bool) (xs : List X) → ((x : X) → p x ≡ false → test x ≡ false)

@@ -4,6 +4,7 @@ pub mod FaultLemmas
 pub mod Filtered
 pub mod FormLemmas
 mod IdExamples
+pub mod IdForms
 mod KindExamples
 pub mod KindLaws
 pub mod KindLemmas

@@ -1,15 +1,19 @@
 -- What stands in a list in order after an item was placed in it by its key, or dropped from it.
-use Rattle.std.proofs.Common.{◌≡◌, ℕ, suc, ◌+◌, ◌<◌, Bool, true, false, not, cond, List, [], ◌∷◌, length, get_or, set}
+use Rattle.std.proofs.Common.{◌≡◌, ℕ, suc, ◌+◌, ◌<◌, Bool, true, false, not, cond, ◌&&◌, List, [], ◌∷◌}
+use Rattle.std.proofs.Common.{length, get_or, set}
 use Rattle.std.proofs.Common.{Some, None, refl, sym, ap, subst, ◌∙◌, ◌⊎◌, inl, inr, arith}
-use Rattle.std.specs.Prelude.{filter, insert}
-use Rattle.std.specs.List.{Contains, prefix_len}
+use Rattle.std.specs.Prelude.{filter, insert, slice_get}
+use Rattle.std.specs.List.{All, Contains, prefix_len}
 use Rattle.std.specs.Cmp.{IsTotalOrder}
+use Rattle.std.proofs.lemmas.List.Elements.{All-contains, All-filter, Contains-get_or}
+use Rattle.std.proofs.lemmas.Option.{slice_get-get_or}
 use Rattle.std.specs.Ordering.{is_eq, is_lt, ordering_reverse}
 use Rattle.std.specs.declared.cmp.Ordering.{Ordering}
 use Rattle.std.specs.declared.cmp.Ordering.TheVariants.{Less, Equal, Greater}
-use Rattle.portal_base.specs.Ordered.{IsBelowAll, IsAscending, inserted, found, removed, dropped, placed, IsKey}
+use Rattle.portal_base.specs.Ordered.{IsBelowAll, IsAscending, inserted, ascending, are_apart, found}
+use Rattle.portal_base.specs.Ordered.{removed, dropped, placed, IsKey}
 use Rattle.portal_base.proofs.Inserted.{IsAscending-inserted, list_any-same, find-inserted_found, find-inserted_other}
-use Rattle.portal_base.proofs.Inserted.{insert-prefix_len}
+use Rattle.portal_base.proofs.Inserted.{insert-prefix_len, list_any-find}
 use Rattle.portal_base.proofs.Removed.{is_eq_true, none_above, inserted_front, add_one_left}
 use Rattle.portal_base.proofs.Unique.{IsIn, IsIn-Contains, Contains-IsIn, IsIn-inserted, inserted-IsIn}
 use Rattle.portal_base.proofs.Filtered.{IsIn-filter, filter-IsIn, filter-filter, list_any-left_out, find-list_any}
@@ -230,6 +234,20 @@ found-above {X} cmp o x (y ∷ ys) below =
     let above : cmp y x ≡ Greater = o.antisymm y x ∙ ap ordering_reverse below.0 in
     ap (λ r. cond (is_eq r) (Some y) (found (λ z. cmp z x) ys)) above ∙ found-above cmp o x ys below.1
 
+-- Of a list in order no two items are alike, and put in order it is the same.
+pub are_apart-IsAscending : {X : Type 0} (cmp : X → X → Ordering) (o : IsTotalOrder cmp) (xs : List X)
+    → IsAscending cmp xs → are_apart cmp xs ≡ true
+are_apart-IsAscending cmp o [] up = refl
+are_apart-IsAscending cmp o (x ∷ xs) up =
+    ap (λ b. not b && are_apart cmp xs) (list_any-find (λ y. is_eq (cmp y x)) xs (found-above cmp o x xs up.0))
+    ∙ are_apart-IsAscending cmp o xs up.1
+
+pub ascending-same : {X : Type 0} (cmp : X → X → Ordering) (o : IsTotalOrder cmp) (xs : List X) → IsAscending cmp xs
+    → ascending cmp xs ≡ xs
+ascending-same cmp o [] up = refl
+ascending-same cmp o (x ∷ xs) up =
+    ap (inserted cmp x) (ascending-same cmp o xs up.1) ∙ inserted_front cmp o x xs up.0
+
 -- Where the item behind those below x is like it, that one is found, and x is placed there.
 pub placed-like : {X : Type 0} (cmp : X → X → Ordering) (o : IsTotalOrder cmp) (x d : X) (xs : List X)
     → IsAscending cmp xs → below_count cmp x xs < length xs → cmp (get_or xs (below_count cmp x xs) d) x ≡ Equal
@@ -292,18 +310,41 @@ found-unlike {X} cmp o x d (y ∷ ys) up unlike =
 pub placed_at : {X : Type 0} (cmp : X → X → Ordering) (o : IsTotalOrder cmp) (x : X) (xs : List X)
     → IsAscending cmp xs → (place : ℕ) → place ≡ below_count cmp x xs → place < length xs
     → (there : X) → there ≡ get_or xs place there → is_eq (cmp there x) ≡ true
-    → (set xs place x ≡ placed cmp x xs) × (Some there ≡ found (λ y. cmp y x) xs)
+    → (found (λ y. cmp y x) xs ≡ slice_get xs place) × (placed cmp x xs ≡ set xs place x)
 placed_at {X} cmp o x xs up place is within there read like =
     let here : below_count cmp x xs < length xs = subst (λ n. n < length xs) is within in
     let stands : there ≡ get_or xs (below_count cmp x xs) there = read ∙ ap (λ n. get_or xs n there) is in
     let both = placed-like cmp o x there xs up here (ap (λ y. cmp y x) (sym stands) ∙ is_eq_true (cmp there x) like) in
-    (ap (λ n. set xs n x) is ∙ sym both.0, ap Some stands ∙ sym both.1)
+    let got : slice_get xs place ≡ Some (get_or xs (below_count cmp x xs) there) =
+    ap (slice_get xs) is ∙ slice_get-get_or xs (below_count cmp x xs) there here in
+    (both.1 ∙ sym got, both.0 ∙ ap (λ n. set xs n x) (sym is))
 
 pub inserted_at : {X : Type 0} (cmp : X → X → Ordering) (o : IsTotalOrder cmp) (x : X) (xs : List X)
     → IsAscending cmp xs → (place : ℕ) → place ≡ below_count cmp x xs
     → (place < length xs → is_eq (cmp (get_or xs place x) x) ≡ false)
-    → (insert xs place x ≡ placed cmp x xs) × (None ≡ found (λ y. cmp y x) xs)
+    → (found (λ y. cmp y x) xs ≡ None) × (placed cmp x xs ≡ insert xs place x)
 inserted_at {X} cmp o x xs up place is unlike =
     let none : found (λ y. cmp y x) xs ≡ None =
     found-unlike cmp o x x xs up (subst (λ n. n < length xs → is_eq (cmp (get_or xs n x) x) ≡ false) is unlike) in
-    (ap (λ n. insert xs n x) is ∙ insert-prefix_len cmp x xs ∙ sym (placed-none cmp x xs none), sym none)
+    (none, placed-none cmp x xs none ∙ sym (insert-prefix_len cmp x xs) ∙ ap (λ n. insert xs n x) (sym is))
+
+-- ---- what holds of each
+
+-- What holds of each item that stands in a list holds by its places.
+pub All-each : {X : Type 0} (P : X → Type 0) (xs : List X) → ((x : X) → IsIn x xs → P x) → All P xs
+All-each P xs each = λ k d lt. each (get_or xs k d) (IsIn-Contains (get_or xs k d) xs (Contains-get_or xs k d lt))
+
+pub All-IsIn : {X : Type 0} (P : X → Type 0) (xs : List X) → All P xs → (x : X) → IsIn x xs → P x
+All-IsIn P xs all x m = All-contains P xs x all (Contains-IsIn x xs m)
+
+pub All-dropped : {X : Type 0} (P : X → Type 0) (at : X → Ordering) (xs : List X) → All P xs → All P (dropped at xs)
+All-dropped P at xs all = All-filter (λ x. not (is_eq (at x))) P xs all
+
+-- What holds of the item and of what stood there holds of all.
+pub All-placed : {X : Type 0} (P : X → Type 0) (cmp : X → X → Ordering) (x : X) (xs : List X) → P x → All P xs
+    → All P (placed cmp x xs)
+All-placed {X} P cmp x xs here all = All-each P (placed cmp x xs) (λ z m. by z (IsIn-placed cmp x z xs m))
+  where
+    by : (z : X) → (z ≡ x) ⊎ (IsIn z xs × (is_eq (cmp z x) ≡ false)) → P z
+    by z (inl e) = subst P (sym e) here
+    by z (inr n) = All-IsIn P xs all z n.0

@@ -20,5 +20,6 @@ pub mod outside;
 pub mod seq;
 pub mod split;
 pub mod std_adapters;
+pub mod steps;
 pub mod text;
 pub mod value_laws;

@@ -1,9 +1,9 @@
 //! Lists in ascending order by a key of their items, in which no key stands twice.
 //!
-//! A change is prepared by `reserve`, which alone takes memory, and made by `put`. Places and items are found by a
-//! scan from the front, which asks nothing of the list's order.
-ghost use Rattle.std.specs.Prelude.{◌≡◌, ◌<◌, ◌≤◌, IsTrue, IfErr, IfSome, OnOk, OnErr, length, position, vec_len};
-ghost use Rattle.std.specs.Prelude.{vec_capacity};
+//! A change is prepared by `reserve`, which alone takes memory, and made by `put` or `replace_or_put`. Places and
+//! items are found by a scan from the front, which asks nothing of the list's order.
+ghost use Rattle.std.specs.Prelude.{◌≡◌, ◌<◌, ◌≤◌, IsTrue, IfErr, IfSome, OnOk, OnErr, MatchResult, None, length};
+ghost use Rattle.std.specs.Prelude.{position, vec_len, vec_capacity, slice_get, slice_set, insert};
 ghost use Rattle.std.specs.List.{list_any, prefix_len};
 ghost use Rattle.std.specs.Option.{option_copied};
 ghost use Rattle.std.specs.Ordering.{is_lt, is_eq};
@@ -107,21 +107,41 @@ pub fn insert<T: Ordered>(items: &mut Vec<T>, item: T) -> Result<(), AllocFailed
     items.insert(place, item)
 }
 
-/// Puts an item in place of the one that is like it, which is handed back, or at its place where none is. There is
-/// room for one more. It takes no memory and can't fail.
+/// Puts an item in place of the one that is like it, which is handed back, or at its place where none is, for which
+/// there is room. It takes no memory and can't fail.
 pub fn replace_or_put<T: Ordered>(items: &mut Vec<T>, item: T) -> Option<T>
     requires ascending { IsAscending T.order items.old.items }
-    requires room { vec_len items.old < vec_capacity items.old }
+    requires room { found (λ other. T.order other item) items.old.items ≡ None →
+        vec_len items.old < vec_capacity items.old }
     ensures replaced { result ≡ found (λ other. T.order other item) items.old.items }
     ensures items { items.new.items ≡ placed T.order item items.old.items }
     ensures ascending { IsAscending T.order items.new.items }
 {
-    let there = place_of(items.as_slice(), &item);
-    if there < items.len() && items[there].compare(&item).is_eq() {
-        Some(mem::replace(&mut items[there], item))
+    match place_in(items.as_slice(), &item) {
+        Ok(there) => Some(mem::replace(&mut items[there], item)),
+        Err(free) => {
+            items.insert(free, item).unwrap();
+            None
+        }
+    }
+}
+
+/// Where the item that is like this one stands, or the place where this one belongs.
+fn place_in<T: Ordered>(items: &[T], item: &T) -> Result<usize, usize>
+    requires { IsAscending T.order items.now }
+    ensures within { MatchResult result (λ place. place < length items.now) (λ place. place ≤ length items.now) }
+    ensures found { MatchResult result
+        (λ place. found (λ other. T.order other item.now) items.now ≡ slice_get items.now place)
+        (λ _. found (λ other. T.order other item.now) items.now ≡ None) }
+    ensures placed { MatchResult result
+        (λ place. placed T.order item.now items.now ≡ slice_set items.now place item.now)
+        (λ place. placed T.order item.now items.now ≡ insert items.now place item.now) }
+{
+    let place = place_of(items, item);
+    if place < items.len() && items[place].compare(item).is_eq() {
+        Ok(place)
     } else {
-        items.insert(there, item).unwrap();
-        None
+        Err(place)
     }
 }
 

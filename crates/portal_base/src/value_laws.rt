@@ -1,13 +1,19 @@
 //! Laws of ids and moments: functions with an empty body, whose contracts are the laws.
-ghost use Rattle.std.specs.Prelude.{◌≡◌, ℕ, ℤ, List, Some};
+ghost use Rattle.std.specs.Prelude.{◌≡◌, ℕ, ℤ, List, Some, false};
 ghost use Rattle.portal_base.specs.Id.{id_text};
 ghost use Rattle.portal_base.specs.Moment.{IsMoment};
 ghost use Rattle.portal_base.specs.MomentReading.{moment_reading};
 ghost use Rattle.portal_base.specs.MomentText.{IsMomentText, moment_text};
+ghost use Rattle.portal_base.specs.Name.{is_name};
 
 /// Two numbers that have one id are one number.
 pub fn ids_tell_numbers_apart(first: u128, second: u128)
     ensures { id_text first ≡ id_text second → first ≡ second }
+{}
+
+/// No id is a name, however long names may be.
+pub fn an_id_is_no_name()
+    ensures { (number longest : ℕ) → is_name (id_text number) longest ≡ false }
 {}
 
 /// A moment has no more than one text.
