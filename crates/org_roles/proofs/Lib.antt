@@ -1,2 +1,4 @@
+pub mod ChangeLemmas
 mod Examples
 pub mod PeopleLemmas
+pub mod RestoreLemmas

@@ -1,26 +1,24 @@
 -- What the look-ups among the people find, and how their orders decide.
-use Rattle.std.proofs.Common.{◌≡◌, ◌≢◌, ℕ, Bool, true, false, ◌&&◌, not, List, [], ◌∷◌, Option, Some, None, refl, sym}
+use Rattle.std.proofs.Common.{◌≡◌, ◌≢◌, ℕ, Bool, true, false, ◌&&◌, not, List, [], ◌∷◌, refl, sym}
 use Rattle.std.proofs.Common.{ap, ◌∙◌, ◌⊎◌, inl, inr, subst}
 use Rattle.std.specs.declared.cmp.Ordering.{Ordering}
 use Rattle.std.specs.declared.cmp.Ordering.TheVariants.{Less, Equal, Greater}
 use Rattle.std.specs.Ordering.{nat_cmp, is_eq, ordering_then}
 use Rattle.std.specs.Cmp.Lexicographic.{slice_cmp}
 use Rattle.std.specs.List.{list_any}
-use Rattle.std.specs.Option.{option_map}
 use Rattle.std.specs.Str.{bytes_eq}
 use Rattle.std.proofs.lemmas.Map.Text.{is_eq-slice_cmp}
 use Rattle.std.proofs.lemmas.Slice.Eq.{bytes_eq-Decides}
 use Rattle.org_roles.specs.declared.entry.User.{User}
 use Rattle.org_roles.specs.declared.entry.Org.{Org}
 use Rattle.org_roles.specs.declared.entry.Membership.{Membership}
-use Rattle.portal_base.specs.Ordered.{IsAscending, inserted, ascending, are_apart}
+use Rattle.portal_base.specs.Ordered.{IsAscending, ascending, are_apart}
 use Rattle.org_roles.specs.Distinct.{have_distinct_names, have_distinct_org_names, have_distinct_pairs}
 pub use Rattle.org_roles.specs.Order.{user_cmp_total, org_cmp_total, membership_cmp_total}
 use Rattle.org_roles.specs.Order.{user_cmp, org_cmp, membership_cmp}
-use Rattle.org_roles.specs.Peopled.{Peopled, IsPeopled, org_in, role_in}
+use Rattle.org_roles.specs.Peopled.{IsPeopled}
 use Rattle.portal_base.proofs.Removed.{AreApart-are_apart}
-use Rattle.portal_base.proofs.Inserted.{list_any-find, list_any-same, IsAscending-ascending, IsAscending-inserted}
-use Rattle.portal_base.proofs.Inserted.{find-inserted_found, find-inserted_other}
+use Rattle.portal_base.proofs.Inserted.{list_any-same, IsAscending-ascending}
 
 is_eq-ordering_then : (r s : Ordering) → is_eq (ordering_then r s) ≡ (is_eq r && is_eq s)
 is_eq-ordering_then Less s = refl
@@ -64,106 +62,24 @@ are_apart-roles =
     are_apart-distinct membership_cmp (λ n m. bytes_eq n.org m.org && bytes_eq n.user m.user) have_distinct_pairs
     (λ m n. is_eq-membership_cmp n m) refl (λ m ms. refl)
 
-none_from_map : {A B : Type 0} (f : A → B) (o : Option A) → option_map f o ≡ None → o ≡ None
-none_from_map f None h = refl
-none_from_map f (Some x) h = absurd (cc)
-
--- No membership is that of a pair that has no role.
-pub list_any-role : (p : Peopled) (org user : List ℕ) → role_in p org user ≡ None
-    → list_any (λ m. bytes_eq m.org org && bytes_eq m.user user) p.roles ≡ false
-list_any-role p org user none = list_any-find _ p.roles (none_from_map _ _ none)
-
 -- a name equals itself
-equal : (a : List ℕ) → bytes_eq a a ≡ true
+pub equal : (a : List ℕ) → bytes_eq a a ≡ true
 equal a = (bytes_eq-Decides a a).1 refl
 
 -- Different names are told apart.
-unequal : (a b : List ℕ) → a ≢ b → bytes_eq a b ≡ false
+pub unequal : (a b : List ℕ) → a ≢ b → bytes_eq a b ≡ false
 unequal a b n =
     let P : Bool → Type 0 = λ t. bytes_eq a b ≡ t → t ≡ false in
     (elim (bytes_eq a b) as P [ true ↦ λ e. absurd (n ((bytes_eq-Decides a b).0 e)) | false ↦ λ e. refl ]) refl
 
 -- two names, not both those of the membership
-differ : (a b c d : List ℕ) → (a ≢ c) ⊎ (b ≢ d) → (bytes_eq c a && bytes_eq d b) ≡ false
+pub differ : (a b c d : List ℕ) → (a ≢ c) ⊎ (b ≢ d) → (bytes_eq c a && bytes_eq d b) ≡ false
 differ a b c d (inl n) = ap (λ t. t && bytes_eq d b) (unequal c a (λ e. n (sym e)))
 differ a b c d (inr n) = ap (λ t. bytes_eq c a && t) (unequal d b (λ e. n (sym e))) ∙ and_false (bytes_eq c a)
   where
     and_false : (t : Bool) → (t && false) ≡ false
     and_false true = refl
     and_false false = refl
-
--- The pair has the role that was added.
-pub role_in-add_role : (p : Peopled) (m : Membership) → role_in p m.org m.user ≡ None
-    → role_in (record p { roles = inserted membership_cmp m p.roles }) m.org m.user ≡ Some m.role
-role_in-add_role p m none =
-    ap (option_map (λ n. n.role))
-    (find-inserted_found membership_cmp (λ n. bytes_eq n.org m.org && bytes_eq n.user m.user) m p.roles
-    (ap (λ t. t && bytes_eq m.user m.user) (equal m.org) ∙ equal m.user) (list_any-role p m.org m.user none))
-
--- Every other pair keeps its role.
-pub role_in-add_role_other : (p : Peopled) (m : Membership) (org user : List ℕ) → (org ≢ m.org) ⊎ (user ≢ m.user)
-    → role_in (record p { roles = inserted membership_cmp m p.roles }) org user ≡ role_in p org user
-role_in-add_role_other p m org user n =
-    ap (option_map (λ n. n.role))
-    (find-inserted_other membership_cmp (λ n. bytes_eq n.org org && bytes_eq n.user user) m p.roles
-    (differ org user m.org m.user n))
-
--- The organization that was added is found.
-pub org_in-add_org : (p : Peopled) (o : Org) → org_in p o.name ≡ None
-    → org_in (record p { orgs = inserted org_cmp o p.orgs }) o.name ≡ Some o
-org_in-add_org p o none =
-    find-inserted_found org_cmp (λ q. bytes_eq q.name o.name) o p.orgs (equal o.name) (list_any-find _ p.orgs none)
-
--- Every other name finds what it found.
-pub org_in-add_org_other : (p : Peopled) (o : Org) (name : List ℕ) → name ≢ o.name
-    → org_in (record p { orgs = inserted org_cmp o p.orgs }) name ≡ org_in p name
-org_in-add_org_other p o name n =
-    find-inserted_other org_cmp (λ q. bytes_eq q.name name) o p.orgs (unequal o.name name (λ e. n (sym e)))
-
--- What the value is once an organization stands at its place.
-pub after_add_org : (us : List User) (os os' : List Org) (ms : List Membership) (p : Peopled) (o : Org)
-    → record { users = us; orgs = os; roles = ms } ≡ p → os' ≡ inserted org_cmp o os
-    → record { users = us; orgs = os'; roles = ms } ≡ record p { orgs = inserted org_cmp o p.orgs }
-after_add_org us os os' ms p o v e =
-    let f : Peopled → Peopled = λ q. record q { orgs = inserted org_cmp o q.orgs } in
-    let g : List Org → Peopled = λ l. record { users = us; orgs = l; roles = ms } in
-    ap g e ∙ ap f v
-
--- It is still in order.
-pub IsPeopled-add_org : (us : List User) (os os' : List Org) (ms : List Membership) (p : Peopled) (o : Org)
-    → record { users = us; orgs = os; roles = ms } ≡ p → os' ≡ inserted org_cmp o os → org_in p o.name ≡ None
-    → IsPeopled (record { users = us; orgs = os; roles = ms })
-    → IsPeopled (record { users = us; orgs = os'; roles = ms })
-IsPeopled-add_org us os os' ms p o v e none was =
-    let here : org_in (record { users = us; orgs = os; roles = ms }) o.name ≡ None =
-    ap (λ q. org_in q o.name) v ∙ none in
-    let up : IsAscending org_cmp (inserted org_cmp o os) =
-    IsAscending-inserted org_cmp org_cmp_total o os was.orgs
-    (list_any-same _ _ (λ q. is_eq-slice_cmp q.name o.name) os ∙ list_any-find _ os here) in
-    record { users = was.users; orgs = subst (IsAscending org_cmp) (sym e) up; roles = was.roles }
-
--- What the value is once a membership stands at its place.
-pub after_add_role : (us : List User) (os : List Org) (ms ms' : List Membership) (p : Peopled) (m : Membership)
-    → record { users = us; orgs = os; roles = ms } ≡ p → ms' ≡ inserted membership_cmp m ms
-    → record { users = us; orgs = os; roles = ms' } ≡ record p { roles = inserted membership_cmp m p.roles }
-after_add_role us os ms ms' p m v e =
-    let f : Peopled → Peopled = λ q. record q { roles = inserted membership_cmp m q.roles } in
-    let g : List Membership → Peopled = λ l. record { users = us; orgs = os; roles = l } in
-    ap g e ∙ ap f v
-
--- It is still in order.
-pub IsPeopled-add_role : (us : List User) (os : List Org) (ms ms' : List Membership) (p : Peopled) (m : Membership)
-    → record { users = us; orgs = os; roles = ms } ≡ p → ms' ≡ inserted membership_cmp m ms
-    → role_in p m.org m.user ≡ None → IsPeopled (record { users = us; orgs = os; roles = ms })
-    → IsPeopled (record { users = us; orgs = os; roles = ms' })
-IsPeopled-add_role us os ms ms' p m v e none was =
-    let here : role_in (record { users = us; orgs = os; roles = ms }) m.org m.user ≡ None =
-    ap (λ q. role_in q m.org m.user) v ∙ none in
-    let up : IsAscending membership_cmp (inserted membership_cmp m ms) =
-    IsAscending-inserted membership_cmp membership_cmp_total m ms was.roles
-    (list_any-same _ _ (λ q. is_eq-membership_cmp q m) ms
-    ∙ list_any-role (record { users = us; orgs = os; roles = ms }) m.org m.user here) in
-    record { users = was.users; orgs = was.orgs; roles = subst (IsAscending membership_cmp) (sym e) up }
 
 -- Lists in which nothing stands twice are in order once each is put in its order.
 pub IsPeopled-ascending : (us us' : List User) (os os' : List Org) (ms ms' : List Membership)

@@ -1,5 +1,5 @@
 -- The orders of users, organizations and memberships: by their names' bytes.
-use Rattle.std.specs.Prelude.{List}
+use Rattle.std.specs.Prelude.{ℕ, List}
 use Rattle.std.specs.declared.cmp.Ordering.{Ordering}
 use Rattle.std.specs.Ordering.{nat_cmp, ordering_then}
 use Rattle.std.specs.Cmp.{IsTotalOrder}
@@ -8,7 +8,8 @@ use Rattle.std.proofs.lemmas.Cmp.{on_total, then_total, nat_list_cmp_total}
 use Rattle.org_roles.specs.declared.entry.User.{User}
 use Rattle.org_roles.specs.declared.entry.Org.{Org}
 use Rattle.org_roles.specs.declared.entry.Membership.{Membership}
-use Rattle.portal_base.specs.Ordered.{ascending}
+use Rattle.portal_base.specs.Ordered.{ascending, IsKey, IsKey-field}
+use Rattle.org_roles.specs.declared.role.Role.TheVariants.{Member}
 
 -- by name
 abbrev pub user_cmp : User → User → Ordering
@@ -21,6 +22,18 @@ org_cmp o p = slice_cmp nat_cmp o.name p.name
 -- by organization, then by user
 abbrev pub membership_cmp : Membership → Membership → Ordering
 membership_cmp m n = ordering_then (slice_cmp nat_cmp m.org n.org) (slice_cmp nat_cmp m.user n.user)
+
+-- how an organization stands to a name
+abbrev pub org_at : List ℕ → Org → Ordering
+org_at name o = slice_cmp nat_cmp o.name name
+
+-- how a membership stands to an organization's name
+abbrev pub membership_in_org_at : List ℕ → Membership → Ordering
+membership_in_org_at org m = slice_cmp nat_cmp m.org org
+
+-- how a membership stands to a pair of organization and user
+abbrev pub pair_at : List ℕ → List ℕ → Membership → Ordering
+pair_at org user m = ordering_then (slice_cmp nat_cmp m.org org) (slice_cmp nat_cmp m.user user)
 
 -- the users by name
 abbrev pub users_ascending : List User → List User
@@ -36,3 +49,11 @@ org_cmp_total = on_total (λ o. o.name) nat_list_cmp_total
 pub membership_cmp_total : IsTotalOrder membership_cmp
 membership_cmp_total =
     then_total (on_total (λ m. m.org) nat_list_cmp_total) (on_total (λ m. m.user) nat_list_cmp_total)
+
+-- An organization is looked up by its name, and a membership by its pair.
+pub IsKey-org_at : (name : List ℕ) → IsKey org_cmp (org_at name)
+IsKey-org_at name = IsKey-field (λ o. o.name) nat_list_cmp_total name
+
+pub IsKey-pair_at : (org user : List ℕ) → IsKey membership_cmp (pair_at org user)
+IsKey-pair_at org user =
+    IsKey-field (λ m. m) membership_cmp_total (record { org = org; user = user; role = Member })

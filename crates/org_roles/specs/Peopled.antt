@@ -1,6 +1,6 @@
 -- The people of a portal: its users, its organizations and who has which role where.
-use Rattle.std.specs.Prelude.{ℕ, Bool, false, ◌&&◌, List, Option}
-use Rattle.std.specs.List.{list_any, find}
+use Rattle.std.specs.Prelude.{ℕ, Bool, false, ◌&&◌, IsTrue, List, Option, is_some}
+use Rattle.std.specs.List.{list_any, find, All}
 use Rattle.std.specs.Option.{option_map}
 use Rattle.std.specs.Str.{bytes_eq}
 use Rattle.portal_base.specs.declared.caller.Caller.{Caller}
@@ -25,6 +25,16 @@ pub record IsPeopled (p : Peopled) : Type 0 where
   pub orgs : IsAscending org_cmp p.orgs
   pub roles : IsAscending membership_cmp p.roles
 
+-- for what there is room: one more organization, one more role
+pub record Room : Type 0 where
+  pub org : Bool
+  pub role : Bool
+
+-- the people, and for what there is room
+pub record Roomed : Type 0 where
+  pub people : Peopled
+  pub room : Room
+
 -- whether there is a user of that name
 abbrev pub is_user_in : Peopled → List ℕ → Bool
 is_user_in p name = is_name_among p.users name
@@ -32,6 +42,10 @@ is_user_in p name = is_name_among p.users name
 -- the organization of that name
 abbrev pub org_in : Peopled → List ℕ → Option Org
 org_in p name = find (λ o. bytes_eq o.name name) p.orgs
+
+-- each role is in an organization that stands
+abbrev pub AreHoused : Peopled → Type 0
+AreHoused p = All (λ m. IsTrue (is_some (org_in p m.org))) p.roles
 
 -- the membership of that user in that organization
 abbrev pub membership_in : Peopled → List ℕ → List ℕ → Option Membership

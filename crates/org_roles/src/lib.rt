@@ -3,6 +3,8 @@
 
 pub mod change;
 pub mod entry;
+mod key;
+pub mod laws;
 mod order;
 pub mod people;
 pub mod role;

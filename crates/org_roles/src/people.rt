@@ -1,25 +1,29 @@
 //! Users, organizations and roles as one value, with look-ups by name.
-ghost use Rattle.std.specs.Prelude.{◌≡◌, ◌&&◌, ◌≢◌, ◌⊎◌, ℕ, List, [], Some, None, IsTrue, OnOk, OnErr};
+ghost use Rattle.std.specs.Prelude.{◌≡◌, ◌&&◌, [], IsTrue};
 ghost use Rattle.std.specs.List.{list_any};
 ghost use Rattle.std.specs.Option.{option_copied};
 ghost use Rattle.std.specs.Str.{bytes_eq};
-ghost use Rattle.portal_base.specs.Ordered.{inserted, ascending, are_apart};
+ghost use Rattle.portal_base.specs.Ordered.{ascending, are_apart};
 ghost use Rattle.org_roles.specs.Distinct.{is_name_among, have_distinct_names, have_distinct_org_names};
 ghost use Rattle.org_roles.specs.Distinct.{have_distinct_pairs};
 ghost use Rattle.org_roles.specs.Order.{user_cmp, org_cmp, membership_cmp, users_ascending};
 ghost use Rattle.org_roles.specs.Peopled.{is_user_in, org_in, role_in, is_sysadmin_in};
 
+pub mod prepared;
+pub mod restored;
+
 use crate::entry::{Membership, Org, User};
 use crate::role::Role;
 use portal_base::caller::Caller;
-use portal_base::ordered::{Ordered, are_apart, insert, sort};
+use portal_base::ordered::{Ordered, are_apart, sort};
 use portal_base::seq::Seq;
 use portal_base::text::Text;
-use std::alloc::{AllocError, Global};
+use std::alloc::Global;
 use std::marker::Model;
 
-/// The users, organizations and roles of a portal. A contract sees three lists: the users and the organizations,
-/// each by name, and the roles by organization and user, none twice.
+/// The users, organizations and roles of a portal. A contract sees three lists, `people`: the users and the
+/// organizations, each by name, and the roles by organization and user, none twice. Beside them it sees in `room`
+/// whether one more organization and one more role fit without memory.
 #[derive(Drop)]
 pub struct People {
     users: Vec<User>,
@@ -28,11 +32,18 @@ pub struct People {
 }
 
 impl Model for People {
-    ghost use Rattle.org_roles.specs.Peopled.{Peopled, IsPeopled};
+    ghost use Rattle.std.specs.Prelude.{nat_lt, vec_len, vec_capacity};
+    ghost use Rattle.org_roles.specs.Peopled.{Roomed, IsPeopled};
 
-    ghost Value = { Peopled };
+    ghost Value = { Roomed };
 
-    ghost view = { λ p. record { users = p.users.items; orgs = p.orgs.items; roles = p.roles.items } };
+    ghost view = { λ p. record {
+      people = record { users = p.users.items; orgs = p.orgs.items; roles = p.roles.items };
+      room = record {
+        org = nat_lt (vec_len p.orgs) (vec_capacity p.orgs);
+        role = nat_lt (vec_len p.roles) (vec_capacity p.roles);
+      };
+    } };
 
     ghost invariant = { λ p. IsPeopled (record { users = p.users.items; orgs = p.orgs.items; roles = p.roles.items }) };
 }
@@ -41,9 +52,9 @@ impl People {
     /// These users, with no organization and no role yet. Takes no memory.
     pub fn new(alloc: Global, users: Seq<User>) -> People
         requires { IsTrue (have_distinct_names users) }
-        ensures users { result.users ≡ users_ascending users }
-        ensures no_org { result.orgs ≡ [] }
-        ensures no_role { result.roles ≡ [] }
+        ensures users { result.people.users ≡ users_ascending users }
+        ensures no_org { result.people.orgs ≡ [] }
+        ensures no_role { result.people.roles ≡ [] }
     {
         People::of_lists(users, Seq::new(alloc), Seq::new(alloc))
     }
@@ -53,9 +64,9 @@ impl People {
         requires users { IsTrue (have_distinct_names users) }
         requires orgs { IsTrue (have_distinct_org_names orgs) }
         requires roles { IsTrue (have_distinct_pairs roles) }
-        ensures users { result.users ≡ ascending user_cmp users }
-        ensures orgs { result.orgs ≡ ascending org_cmp orgs }
-        ensures roles { result.roles ≡ ascending membership_cmp roles }
+        ensures users { result.people.users ≡ ascending user_cmp users }
+        ensures orgs { result.people.orgs ≡ ascending org_cmp orgs }
+        ensures roles { result.people.roles ≡ ascending membership_cmp roles }
     {
         People {
             users: sorted(users),
@@ -66,35 +77,35 @@ impl People {
 
     /// The users, by name.
     pub fn users(&self) -> &[User]
-        ensures { result.now ≡ self.now.users }
+        ensures { result.now ≡ self.now.people.users }
     {
         self.users.as_slice()
     }
 
     /// The organizations, by name.
     pub fn orgs(&self) -> &[Org]
-        ensures { result.now ≡ self.now.orgs }
+        ensures { result.now ≡ self.now.people.orgs }
     {
         self.orgs.as_slice()
     }
 
     /// The roles, by organization and user.
     pub fn memberships(&self) -> &[Membership]
-        ensures { result.now ≡ self.now.roles }
+        ensures { result.now ≡ self.now.people.roles }
     {
         self.roles.as_slice()
     }
 
     /// Whether there is a user of that name.
     pub fn has_user(&self, name: &str) -> bool
-        ensures { result ≡ is_user_in self.now name.now }
+        ensures { result ≡ is_user_in self.now.people name.now }
     {
         name_stands_among(&self.users, name)
     }
 
     /// Whether the caller is a user who is a sysadmin.
     pub fn is_sysadmin(&self, caller: &Caller) -> bool
-        ensures { result ≡ is_sysadmin_in self.now caller.now }
+        ensures { result ≡ is_sysadmin_in self.now.people caller.now }
     {
         match caller {
             Caller::Anonymous => false,
@@ -104,53 +115,19 @@ impl People {
 
     /// The organization of that name.
     pub fn org(&self, name: &Text) -> Option<&Org>
-        ensures { option_copied result ≡ org_in self.now name.now }
+        ensures { option_copied result ≡ org_in self.now.people name.now }
     {
         self.orgs.iter().find(|org| org.name == *name)
     }
 
     /// The role of the user in the organization.
     pub fn role_of(&self, org: &Text, user: &Text) -> Option<Role>
-        ensures { result ≡ role_in self.now org.now user.now }
+        ensures { result ≡ role_in self.now.people org.now user.now }
     {
         self.roles
             .iter()
             .find(|membership| membership.org == *org && membership.user == *user)
             .map(|membership| membership.role)
-    }
-
-    /// Adds an organization. For want of memory nothing changes.
-    pub fn add_org(&mut self, org: Org) -> Result<(), AllocError>
-        requires { org_in self.old org.name ≡ None }
-        ensures ok { OnOk result
-            (self.new ≡ record self.old { orgs = inserted org_cmp org self.old.orgs }) }
-        ensures err { OnErr result (self.new ≡ self.old) }
-
-        // It is found by its name, and every other name finds what it found.
-        ensures found { OnOk result (org_in self.new org.name ≡ Some org) }
-        ensures others { OnOk result ((name : List ℕ) → name ≢ org.name →
-            org_in self.new name ≡ org_in self.old name) }
-    {
-        insert(&mut self.orgs, org)?;
-        Ok(())
-    }
-
-    /// Gives a user a role. For want of memory nothing changes.
-    pub fn add_role(&mut self, membership: Membership) -> Result<(), AllocError>
-        requires { role_in self.old membership.org membership.user ≡ None }
-        ensures ok { OnOk result
-            (self.new ≡ record self.old { roles = inserted membership_cmp membership self.old.roles }) }
-        ensures err { OnErr result (self.new ≡ self.old) }
-
-        // The user has this role, and every other pair keeps what it had.
-        ensures found { OnOk result
-            (role_in self.new membership.org membership.user ≡ Some membership.role) }
-        ensures others { OnOk result ((org user : List ℕ) →
-            (org ≢ membership.org) ⊎ (user ≢ membership.user) →
-            role_in self.new org user ≡ role_in self.old org user) }
-    {
-        insert(&mut self.roles, membership)?;
-        Ok(())
     }
 }
 
