@@ -6,3 +6,5 @@
 mod package;
 #[cfg(test)]
 mod people;
+#[cfg(test)]
+mod shelf;

@@ -1,4 +1,5 @@
 //! A portal of five users and one organization.
+use org_roles::change::{OrgChange, OrgFault};
 use org_roles::entry::{Membership, Org, User};
 use org_roles::people::{People, names_are_distinct, org_names_are_distinct, pairs_are_distinct};
 use org_roles::role::{Role, rights_of};
@@ -50,11 +51,12 @@ const ROLES: [(&str, Role); 3] = [
     ("bob", Role::Member),
 ];
 
-/// The roles in the order in which they are given.
-fn city_roles(alloc: Global) -> Result<Seq<Membership>, AllocError> {
+/// The roles in the order in which they are given, in the organization of that name.
+fn roles_in(alloc: Global, org: &str) -> Result<Seq<(Text, Text, Role)>, AllocError> {
     let mut roles = Vec::new(alloc);
     for (user, role) in ROLES {
-        roles.push(membership(alloc, user, role)?)?;
+        let org = Text::from_str(alloc, org)?;
+        roles.push((org, Text::from_str(alloc, user)?, role))?;
     }
     Ok(Seq::from(roles))
 }
@@ -72,18 +74,33 @@ fn lake_and_city(alloc: Global) -> Result<Seq<Org>, Fail> {
     Ok(Seq::from(orgs))
 }
 
+/// Prepares the change and makes it.
+fn change(people: &mut People, change: OrgChange) -> Result<(), OrgFault> {
+    let prepared = people.prepare(change)?;
+    people.commit(prepared);
+    Ok(())
+}
+
+/// The change that gives a user a role in `city`.
+fn set(alloc: Global, user: &str, role: Role) -> Result<OrgChange, AllocError> {
+    let city = Text::from_str(alloc, "city")?;
+    Ok(OrgChange::SetRole(city, Text::from_str(alloc, user)?, role))
+}
+
+/// The change that takes a user's role in that organization away.
+fn drop_role(alloc: Global, org: &str, user: &str) -> Result<OrgChange, AllocError> {
+    let org = Text::from_str(alloc, org)?;
+    Ok(OrgChange::DropRole(org, Text::from_str(alloc, user)?))
+}
+
 /// The worked users, with one organization and three roles in it.
 fn worked(rt: &impl Abort, alloc: Global) -> Result<People, Fail> {
     let users = users(alloc)?;
     assert!(rt; names_are_distinct(users.as_slice()));
     let mut people = People::new(alloc, users);
-    let city = city(alloc)?;
-    assert!(rt; people.org(&city.name).is_none());
-    people.add_org(city)?;
+    change(&mut people, OrgChange::Create(city(alloc)?))?;
     for (user, role) in ROLES {
-        let membership = membership(alloc, user, role)?;
-        assert!(rt; people.role_of(&membership.org, &membership.user).is_none());
-        people.add_role(membership)?;
+        change(&mut people, set(alloc, user, role)?)?;
     }
     Ok(people)
 }
@@ -169,42 +186,93 @@ fn tells_equal_names(rt: HostRuntime) -> Result<(), Fail> {
 }
 
 #[test]
-fn orders_given_lists(rt: HostRuntime) -> Result<(), Fail> {
+fn changes_what_stands(rt: HostRuntime) -> Result<(), Fail> {
+    let alloc = rt.alloc();
+    let mut people = worked(&rt, alloc)?;
+    let name = Text::from_str(alloc, "city")?;
+    let town = Org {
+        title: Text::from_str(alloc, "Town")?,
+        ..city(alloc)?
+    };
+    change(&mut people, OrgChange::Patch(town))?;
+    assert_eq!(rt; people.org(&name).ok_or("city")?.title.as_str(), "Town");
+    change(&mut people, set(alloc, "bob", Role::Admin)?)?;
+    change(&mut people, drop_role(alloc, "city", "ann")?)?;
+    assert_eq!(rt; people.memberships().len(), 2);
+    let bob = Text::from_str(alloc, "bob")?;
+    assert_eq!(rt; people.role_of(&name, &bob), Some(Role::Admin));
+    change(&mut people, OrgChange::Remove(name))?;
+    assert!(rt; people.orgs().is_empty());
+    assert!(rt; people.memberships().is_empty());
+    assert_eq!(rt; people.users().len(), 5);
+    Ok(())
+}
+
+#[test]
+fn refuses_by_the_first_fault(rt: HostRuntime) -> Result<(), Fail> {
+    let alloc = rt.alloc();
+    let mut people = worked(&rt, alloc)?;
+    let lake = Org {
+        name: Text::from_str(alloc, "lake")?,
+        ..city(alloc)?
+    };
+    for (refused, fault) in [
+        (OrgChange::Create(city(alloc)?), OrgFault::OrgNameInUse),
+        (OrgChange::Patch(lake), OrgFault::UnknownOrg),
+        (
+            OrgChange::Remove(Text::from_str(alloc, "lake")?),
+            OrgFault::UnknownOrg,
+        ),
+        (set(alloc, "eve", Role::Member)?, OrgFault::UnknownUser),
+        (drop_role(alloc, "lake", "eve")?, OrgFault::UnknownOrg),
+        (drop_role(alloc, "city", "eve")?, OrgFault::UnknownUser),
+        (drop_role(alloc, "city", "dan")?, OrgFault::NoRole),
+    ] {
+        assert_eq!(rt; change(&mut people, refused), Err(fault));
+    }
+    assert_eq!(rt; people.memberships().len(), 3);
+    Ok(())
+}
+
+#[test]
+fn restores_lists_in_order(rt: HostRuntime) -> Result<(), Fail> {
     let alloc = rt.alloc();
     let users = users(alloc)?;
-    let orgs = lake_and_city(alloc)?;
-    let roles = city_roles(alloc)?;
     assert!(rt; names_are_distinct(users.as_slice()));
-    assert!(rt; org_names_are_distinct(orgs.as_slice()));
-    assert!(rt; pairs_are_distinct(roles.as_slice()));
-    let people = People::of_lists(users, orgs, roles);
-    for (place, name) in [(0, "ann"), (4, "root")] {
-        assert_eq!(rt;
-            people.users().get(place).ok_or("a user")?.name.as_str(),
-            name
-        );
-    }
-    for (place, name) in [(0, "city"), (1, "lake")] {
-        assert_eq!(rt;
-            people
-                .orgs()
-                .get(place)
-                .ok_or("an organization")?
-                .name
-                .as_str(),
-            name
-        );
-    }
-    for (place, name) in [(0, "ann"), (1, "bob"), (2, "cyn")] {
-        assert_eq!(rt;
-            people
-                .memberships()
-                .get(place)
-                .ok_or("a role")?
-                .user
-                .as_str(),
-            name
-        );
+    let people = People::restore(
+        alloc,
+        users,
+        lake_and_city(alloc)?,
+        roles_in(alloc, "city")?,
+    )?
+    .ok_or("people")?;
+    let mut names = people.users().iter().map(|user| user.name.as_str());
+    assert!(rt; names.next() == Some("ann"));
+    let mut orgs = people.orgs().iter().map(|org| org.name.as_str());
+    assert!(rt; orgs.next() == Some("city"));
+    assert!(rt; orgs.next() == Some("lake"));
+    let mut roles = people.memberships().iter().map(|role| role.user.as_str());
+    assert!(rt; roles.next() == Some("ann"));
+    Ok(())
+}
+
+#[test]
+fn restores_no_lists_that_do_not_fit(rt: HostRuntime) -> Result<(), Fail> {
+    let alloc = rt.alloc();
+    let mut twice = lake_and_city(alloc)?;
+    assert!(rt; twice.push(city(alloc)?).is_ok());
+    let mut pair = roles_in(alloc, "city")?;
+    let city = Text::from_str(alloc, "city")?;
+    let ann = Text::from_str(alloc, "ann")?;
+    assert!(rt; pair.push((city, ann, Role::Admin)).is_ok());
+    for (orgs, roles) in [
+        (twice, roles_in(alloc, "city")?),
+        (lake_and_city(alloc)?, roles_in(alloc, "town")?),
+        (lake_and_city(alloc)?, pair),
+    ] {
+        let users = users(alloc)?;
+        assert!(rt; names_are_distinct(users.as_slice()));
+        assert!(rt; People::restore(alloc, users, orgs, roles)?.is_none());
     }
     Ok(())
 }

@@ -76,6 +76,14 @@ text_set-IsIn z (text ∷ texts) m = by (added-IsIn z text (text_set texts) m) (
     by (inl e) go = inl e
     by (inr n) go = inr (go n)
 
+-- Of texts that are the same but for order and repeats the set is the same.
+pub text_set-same : (xs ys : List (List ℕ)) → ((z : List ℕ) → IsIn z xs → IsIn z ys)
+    → ((z : List ℕ) → IsIn z ys → IsIn z xs) → text_set xs ≡ text_set ys
+text_set-same xs ys to from =
+    unique (slice_cmp nat_cmp) nat_list_cmp_total (text_set xs) (text_set ys) (IsAscending-text_set xs)
+    (IsAscending-text_set ys) (λ z m. IsIn-text_set z ys (to z (text_set-IsIn z xs m)))
+    (λ z m. IsIn-text_set z xs (from z (text_set-IsIn z ys m)))
+
 -- ---- what sorting and dropping repeats leave
 
 IsBelowAll-from : (text : List ℕ) (texts : List (List ℕ)) → AllByRecursion (λ t. slice_cmp nat_cmp text t ≡ Less) texts

@@ -1,11 +1,11 @@
 -- What is told of a dataset's body, and the dataset that is built of a body of which nothing is told. The keys are
--- those of
--- CKAN 2.10's `package_create`, `package_update` and `package_patch`; rules, bounds and messages are the portal's own.
+-- those of CKAN 2.10's `package_create`, `package_update` and `package_patch`; rules, bounds and messages are the
+-- portal's own.
 use Rattle.std.specs.Prelude.{◌≡◌, ◌≢◌, ⊤, pos, List, [], ◌∷◌, codes, Bool, true, false, Option, Some, None}
 use Rattle.portal_base.specs.declared.json_value.Json.{Json}
 use Rattle.portal_base.specs.Faults.{Fault, all_noted}
 use Rattle.packages.specs.Package.{fresh_package}
-use Rattle.packages.specs.Resources.{told_of_resources, resources_or, next_or}
+use Rattle.packages.specs.Resources.{Rule, told_of_resources, resources_or, next_or}
 use Rattle.packages.specs.Tags.{told_of_tags, tags_or}
 use Rattle.packages.specs.Texts.{private_or, state_or, text_or, text_told, title_or}
 use Rattle.packages.specs.Texts.{told_of_name, told_of_organization, told_of_private, told_of_state}
@@ -15,12 +15,9 @@ use Rattle.packages.specs.declared.package.Package.{Package}
 
 -- ---- what is told
 
--- The faulty keys, by key. `old` is the dataset that the body changes. That its organization is there isn't asked
--- here, nor
--- whether tables refer to one of a resource that goes.
-abbrev pub told_of : Json → Option Package → List Fault
-told_of body old =
-    all_noted (
+-- The keys of a dataset's body, each with what is told of it. `old` is the dataset that the body changes.
+abbrev pub body_rules : Json → Option Package → List Rule
+body_rules body old =
     (codes "author", text_told 2000 (codes "author") body)
     ∷ (codes "license_id", text_told 2000 (codes "license_id") body)
     ∷ (codes "maintainer", text_told 2000 (codes "maintainer") body)
@@ -35,7 +32,11 @@ told_of body old =
     ∷ (codes "url", text_told 2000 (codes "url") body)
     ∷ (codes "version", text_told 2000 (codes "version") body)
     ∷ []
-    ) []
+
+-- The faulty keys, by key. That the organization is there isn't asked here, nor whether tables refer to one of a
+-- resource that goes.
+abbrev pub told_of : Json → Option Package → List Fault
+told_of body old = all_noted (body_rules body old) []
 
 -- ---- what is built
 
@@ -56,8 +57,7 @@ named body =
     fresh_package [] name name (text_or [] (codes "owner_org") body) [] (pos 0)
 
 -- What stands where a body says nothing: the defaults for a new dataset and for one that is replaced whole, and else
--- what
--- stood there.
+-- what stood there.
 abbrev pub start_of : Json → Option Package → Bool → Package
 start_of body None whole = named body
 start_of body (Some old) true = emptied old

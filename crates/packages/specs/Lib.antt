@@ -1,9 +1,13 @@
 pub mod Body
+pub mod Index
+pub mod Kept
 pub mod Named
 pub mod Numbered
 pub mod Order
 pub mod Package
+pub mod Placing
 pub mod Resources
+pub mod Shelf
 pub mod Tag
 pub mod Tags
 pub mod Texts

@@ -1,6 +1,5 @@
--- The resources that bodies give, and what is told of them. The keys are those of CKAN 2.10's `resource_create`;
--- bounds and
--- messages are the portal's own.
+-- The resources that bodies give, and what is told of them. The keys are those of CKAN 2.10's `resource_create`; bounds
+-- and messages are the portal's own.
 use Rattle.std.specs.Prelude.{ℕ, ◌+◌, nat_le, List, [], ◌∷◌, ◌++◌, length, codes, Bool, false, not, if◌then◌else◌}
 use Rattle.std.specs.Prelude.{decimal}
 use Rattle.std.specs.Prelude.{Option, Some, None, is_some, option_map, option_and_then, unwrap_or, find}

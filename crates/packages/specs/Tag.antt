@@ -1,6 +1,5 @@
 -- Which texts are tags: 2 to 100 characters, each a letter, a mark or a number by its general category (Unicode,
--- section
--- 4.5), or a space, `-`, `_` or `.`.
+-- section 4.5), or a space, `-`, `_` or `.`.
 use Rattle.std.specs.Prelude.{ℕ, ◌==◌, nat_le, Bool, true, false, ◌&&◌, ◌||◌, List, length}
 use Rattle.std.specs.List.{list_all}
 use Rattle.std.specs.Str.{chars}

@@ -39,10 +39,8 @@ impl From<AllocError> for BuildFault {
 }
 
 /// The dataset that a body says: a new one, or `old` changed. `whole` says that absent keys take their defaults, and
-/// not
-/// the values of `old`. Whether the organization is there isn't asked, nor whether tables refer to one of a resource
-/// that
-/// goes.
+/// not the values of `old`. Whether the organization is there isn't asked, nor whether tables refer to one of a
+/// resource that goes.
 pub fn build(
     alloc: Global,
     body: &Json,
@@ -73,7 +71,7 @@ pub fn unless_told(faults: Faults) -> Result<(), BuildFault>
 // ---- what is told
 
 /// What is told of a dataset's body, by key.
-fn told(alloc: Global, body: &Json, old: Option<&Package>) -> Result<Faults, AllocError>
+pub fn told(alloc: Global, body: &Json, old: Option<&Package>) -> Result<Faults, AllocError>
     ensures { IfOk result (λ faults. faults ≡ told_of body.now (option_copied old.entry)) }
 {
     let mut faults = Faults::new(alloc);
@@ -103,8 +101,9 @@ fn told(alloc: Global, body: &Json, old: Option<&Package>) -> Result<Faults, All
 
 // ---- what is built
 
-/// The dataset that a body says of which nothing is told.
-fn built(
+/// The dataset that a body says of which nothing is told. A key of which something is told counts as absent, or gives
+/// what can be read of it.
+pub fn built(
     alloc: Global,
     body: &Json,
     old: Option<&Package>,

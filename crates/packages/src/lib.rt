@@ -2,12 +2,16 @@
 #![tactic(auto)]
 
 pub mod build;
+mod index;
+pub mod laws;
 pub mod named;
 mod order;
 pub mod package;
 mod resource_list;
 pub mod resources;
+pub mod shelf;
 pub mod tag;
 mod tags;
 pub mod texts;
 mod told;
+pub mod walk;

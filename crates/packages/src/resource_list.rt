@@ -259,7 +259,8 @@ fn push_resource(
 ) -> Result<(), AllocError>
     ensures resources { OnOk result (numbering.new.resources.items
         ≡ numbering.old.resources.items ++ numbered (option_copied old.entry) numbering.old.next (item.now ∷ [])) }
-    ensures next { OnOk result (numbering.new.next ≡ next_behind (option_copied old.entry) numbering.old.next item.now) }
+    ensures next { OnOk result (numbering.new.next
+        ≡ next_behind (option_copied old.entry) numbering.old.next item.now) }
 {
     let number = match kept_number(alloc, old, item)? {
         Some(number) => number,

@@ -86,7 +86,7 @@ fn push_name(alloc: Global, names: &mut Vec<Text>, item: &Json) -> Result<(), Al
 }
 
 /// Leaves each text once, in ascending order. It takes no memory.
-fn make_set(texts: &mut Vec<Text>)
+pub(crate) fn make_set(texts: &mut Vec<Text>)
     ensures set { texts.new.items ≡ text_set texts.old.items }
     ensures count { vec_len texts.new ≤ vec_len texts.old }
 {

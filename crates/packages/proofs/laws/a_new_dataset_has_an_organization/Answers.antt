@@ -1,0 +1,5 @@
+use Rattle.packages.proofs.Built.{new_organization_at}
+use Rattle.packages.proofs.laws.a_new_dataset_has_an_organization.Goals as goal
+
+pub returns : goal.returns
+returns c = λ body whole quiet. new_organization_at body whole quiet

@@ -1,0 +1,253 @@
+//! The shelf: datasets by number, found by their ids and names.
+//!
+//! A number stays its dataset's until the dataset is removed, and may be another's afterwards. A change is prepared by
+//! `prepare`, which alone takes memory, and made by `put`, `replace` or `remove`.
+ghost use Rattle.std.specs.Prelude.{◌≡◌, ◌+◌, ◌<◌, ◌^◌, [], None, Some, ℕ, IsTrue, false, IsOk, IsSome, IfSome, IfNone};
+ghost use Rattle.std.specs.Prelude.{IfOk, OnErr, filter, find, is_some, length, map};
+ghost use Rattle.std.specs.List.{list_any};
+ghost use Rattle.std.specs.Option.{option_copied, option_map};
+ghost use Rattle.portal_base.specs.Ordered.{placed, dropped};
+ghost use Rattle.packages.specs.Named.{is_named};
+ghost use Rattle.packages.specs.Order.{dataset_cmp};
+ghost use Rattle.packages.specs.Shelf.{standing_at, number_in, with_package, without_number, with_room, datasets_of};
+ghost use Rattle.packages.specs.Shelf.{IsShelved};
+ghost use Rattle.packages.specs.Tags.{text_set};
+ghost use Rattle.packages.specs.Index.{digest_of, number_under, IsCandidate};
+ghost use Rattle.packages.specs.Kept.{is_named_at};
+ghost use Rattle.slab.specs.Slab.{get};
+
+use crate::index::{Index, digest_of};
+use crate::named::is_named;
+use crate::package::Package;
+use crate::walk;
+use crate::walk::Test;
+use portal_base::steps::Steps;
+use portal_base::text::Text;
+use slab::Slab;
+use std::alloc::{AllocError, Global};
+use std::marker::Model;
+use std::mem;
+use std::sync::ledger::Ledger;
+
+/// Datasets, each under a number below 2^32. A contract sees the list of them by number, and the number at which the
+/// next one is put, where there is room for it.
+#[derive(Drop)]
+pub struct Shelf {
+    datasets: Slab<Package>,
+    index: Index,
+    /// Whether there is room for one dataset more.
+    is_prepared: bool,
+}
+
+impl Model for Shelf {
+    ghost use Rattle.packages.specs.Shelf.{Shelved};
+    ghost use Rattle.packages.specs.Kept.{shelved_of, IsKept};
+
+    ghost Value = { Shelved };
+
+    ghost view = { λ s. shelved_of s.datasets s.is_prepared };
+
+    ghost invariant = { λ s. IsKept s.datasets s.index s.is_prepared };
+}
+
+impl Shelf {
+    /// A shelf without a dataset, which takes no memory.
+    pub fn new(alloc: Global) -> Shelf
+        ensures none { result.entries ≡ [] }
+        ensures room { result.room ≡ None }
+    {
+        Shelf {
+            datasets: Slab::new(alloc),
+            index: Index::new(alloc),
+            is_prepared: false,
+        }
+    }
+
+    /// Makes room for one dataset, and tells the number at which it will be put, where none stands. For want of memory
+    /// nothing changes; a shelf without a number below 2^32 that is free has none either.
+    pub fn prepare(&mut self) -> Result<u32, AllocError>
+        ensures room { IfOk result (λ number. self.new ≡ with_room (Some number) self.old) }
+        ensures free { IfOk result (λ number. standing_at number self.new ≡ None) }
+        ensures again { IsSome self.old.room → IsOk result }
+        ensures same { OnErr result (self.new ≡ self.old) }
+        ensures shelved { IsShelved self.new }
+    {
+        let number = free_number(&self.datasets)?;
+        if !self.is_prepared {
+            self.datasets.reserve(1)?;
+            self.index.reserve()?;
+            self.is_prepared = true;
+        }
+        Ok(number)
+    }
+
+    /// Puts a dataset at the number for which there is room. It takes no memory and can't fail.
+    pub fn put(&mut self, package: Package) -> u32
+        requires room { IsSome self.old.room }
+        requires id { number_in «package».id self.old ≡ None }
+        requires name { number_in «package».name self.old ≡ None }
+        ensures number { self.old.room ≡ Some result }
+        ensures put { self.new ≡ with_room None (with_package result «package» self.old) }
+        ensures datasets { datasets_of self.new ≡ placed dataset_cmp «package» (datasets_of self.old) }
+        ensures shelved { IsShelved self.new }
+    {
+        let number = self.datasets.vacant_key() as u32;
+        let id = digest_of(package.id.as_str());
+        let name = digest_of(package.name.as_str());
+        self.index.enter(id, number);
+        self.index.enter(name, number);
+        self.datasets.insert_reserved(package);
+        self.is_prepared = false;
+        number
+    }
+
+    /// Puts a dataset in place of the one at the number, which has its id and its name, and hands that one back. It
+    /// takes no memory and can't fail.
+    pub fn replace(&mut self, number: u32, package: Package) -> Package
+        requires id { option_map (λ d. d.id) (standing_at number self.old) ≡ Some «package».id }
+        requires name { option_map (λ d. d.name) (standing_at number self.old) ≡ Some «package».name }
+        ensures replaced { standing_at number self.old ≡ Some result }
+        ensures put { self.new ≡ with_package number «package» self.old }
+        ensures datasets { datasets_of self.new ≡ placed dataset_cmp «package» (datasets_of self.old) }
+        ensures shelved { IsShelved self.new }
+    {
+        match self.datasets.get_mut(number as usize) {
+            Some(there) => mem::replace(there, package),
+            None => unreachable!(),
+        }
+    }
+
+    /// Takes out the dataset at the number. Room that was prepared stays, and the next dataset is put at this number.
+    /// It takes no memory and can't fail.
+    pub fn remove(&mut self, number: u32) -> Package
+        requires { IsSome (standing_at number self.old) }
+        ensures removed { standing_at number self.old ≡ Some result }
+        ensures rest { self.new ≡
+            with_room (option_map (λ _. number) self.old.room) (without_number number self.old) }
+        ensures datasets { datasets_of self.new ≡ dropped (λ d. dataset_cmp d result) (datasets_of self.old) }
+        ensures shelved { IsShelved self.new }
+    {
+        let package = self.datasets.remove(number as usize);
+        self.index.leave(digest_of(package.id.as_str()), number);
+        self.index.leave(digest_of(package.name.as_str()), number);
+        self.index.forget(number);
+        package
+    }
+
+    /// The number of the dataset whose id or name this is.
+    pub fn number_of(&self, name_or_id: &str) -> Option<u32>
+        ensures number { result ≡ number_in name_or_id.now self.now }
+        ensures stands { IfSome result (λ number. IsSome (standing_at number self.now)) }
+        ensures shelved { IsShelved self.now }
+    {
+        look_up(&self.datasets, &self.index, name_or_id)
+    }
+
+    /// Whether a dataset has this id or this name.
+    pub fn is_in_use(&self, name_or_id: &str) -> bool
+        ensures { result ≡ is_some (number_in name_or_id.now self.now) }
+    {
+        self.number_of(name_or_id).is_some()
+    }
+
+    /// The dataset at the number, which is one step.
+    pub fn look<L: Ledger>(&self, number: u32, steps: &mut Steps<L>) -> &Package
+        requires { IsSome (standing_at number self.now) }
+        ensures dataset { standing_at number self.now ≡ Some result.now }
+        ensures step { steps.new ≡ steps.old + 1 }
+    {
+        steps.tick();
+        self.package_at(number).unwrap()
+    }
+
+    /// The dataset at the number. It counts no step.
+    pub fn package_at(&self, number: u32) -> Option<&Package>
+        ensures { option_copied result ≡ standing_at number self.now }
+    {
+        self.datasets.get(number as usize)
+    }
+
+    /// How many datasets there are.
+    pub fn len(&self) -> usize
+        ensures { result ≡ length self.now.entries }
+    {
+        self.datasets.len()
+    }
+
+    /// How many datasets pass the test.
+    pub fn count_of<T: Test>(&self, test: &T) -> usize
+        ensures { result ≡ length (filter (T.test test.now) (datasets_of self.now)) }
+    {
+        walk::count_of(&self.datasets, test)
+    }
+
+    /// Whether a dataset passes the test.
+    #[tactic(auto, using(crate::proofs::DatasetLemmas::any_of_listed))]
+    pub fn has<T: Test>(&self, test: &T) -> bool
+        ensures { result ≡ list_any (T.test test.now) (datasets_of self.now) }
+    {
+        walk::has(&self.datasets, test)
+    }
+
+    /// The names of the datasets that pass the test, in ascending order.
+    pub fn names_of<T: Test>(&self, alloc: Global, test: &T) -> Result<Vec<Text>, AllocError>
+        ensures { IfOk result (λ names. names.items
+            ≡ text_set (map (λ d. d.name) (filter (T.test test.now) (datasets_of self.now)))) }
+    {
+        walk::names_of(alloc, &self.datasets, test)
+    }
+}
+
+/// The number at which the next dataset is put.
+fn free_number(datasets: &Slab<Package>) -> Result<u32, AllocError>
+    ensures number { IfOk result (λ number. datasets.now.vacant_key ≡ number) }
+    ensures free { IfOk result (λ number. get datasets.now number ≡ None) }
+    ensures below { IfOk result (λ number. number < 2 ^ 32) }
+    ensures ok { datasets.now.vacant_key < 2 ^ 32 → IsOk result }
+{
+    u32::try_from(datasets.vacant_key()).map_err(|_| AllocError)
+}
+
+/// The number of the dataset whose id or name this is.
+fn look_up(datasets: &Slab<Package>, index: &Index, key: &str) -> Option<u32>
+    ensures named { IfSome result (λ n. IsTrue (is_named_at n key.now datasets.now)) }
+    ensures none { IfNone result ((n : ℕ) → IsCandidate index.now (digest_of key.now) n →
+        is_named_at n key.now datasets.now ≡ false) }
+{
+    match first_under(datasets, index, key) {
+        Some(number) => Some(number),
+        None => first_named(datasets, index.crowded(), key),
+    }
+}
+
+/// The number under the key's digest, where a dataset of that id or name stands there.
+fn first_under(datasets: &Slab<Package>, index: &Index, key: &str) -> Option<u32>
+    ensures named { IfSome result (λ n. IsTrue (is_named_at n key.now datasets.now)) }
+    ensures none { IfNone result ((n : ℕ) → number_under index.now (digest_of key.now) ≡ Some n →
+        is_named_at n key.now datasets.now ≡ false) }
+{
+    match index.number_under(digest_of(key)) {
+        Some(number) if is_named_at(datasets, number, key) => Some(number),
+        _ => None,
+    }
+}
+
+/// The first of the numbers at which a dataset of that id or name stands.
+fn first_named(datasets: &Slab<Package>, numbers: &[u32], key: &str) -> Option<u32>
+    ensures { result ≡ find (λ n. is_named_at n key.now datasets.now) numbers.now }
+{
+    numbers
+        .iter()
+        .copied()
+        .find(|number| is_named_at(datasets, *number, key))
+}
+
+/// Whether a dataset of that id or name stands at the number.
+fn is_named_at(datasets: &Slab<Package>, number: u32, key: &str) -> bool
+    ensures { result ≡ is_named_at number key.now datasets.now }
+{
+    match datasets.get(number as usize) {
+        Some(dataset) => is_named(dataset, key),
+        None => false,
+    }
+}
