@@ -1,7 +1,7 @@
 -- The order in which an answer's refusals are tried: the key that names the thing, the thing among what the caller
 -- sees, the right to it, the rules, and with them the quota of accepted bytes.
-use Rattle.std.specs.Prelude.{ℕ, List, [], ◌∷◌, codes, Bool, true, false, Option, Some, None, Result, Ok, Err, cond}
-use Rattle.std.specs.Prelude.{option_and_then}
+use Rattle.std.specs.Prelude.{ℕ, List, [], ◌∷◌, codes, Bool, true, false, Option, Some, None, Result, Ok, Err}
+use Rattle.std.specs.Prelude.{⊤}
 use Rattle.portal_base.specs.declared.json_value.Json.{Json}
 use Rattle.portal_base.specs.declared.kinds.KindFault.{KindFault}
 use Rattle.portal_base.specs.Faults.{Fault, noted_if}
@@ -86,3 +86,15 @@ quota_told UsedUp = Some (codes "Quota of accepted bytes is used up")
 -- The rules of a change, with one more: the quota.
 abbrev pub ruled : {C : Type 0} → Quota → List Fault → Answer C → Answer C
 ruled quota faults answer = unless (denial_of (noted_if (codes "body") (quota_told quota) faults)) answer
+
+-- ---- what is accepted
+
+-- Where the answer accepts a change, that change is such. What is shown or refused accepts none.
+abbrev pub AcceptsOnly : {C : Type 0} → (C → Type 0) → Answer C → Type 0
+AcceptsOnly P (Shown json) = ⊤
+AcceptsOnly P (Refused denial) = ⊤
+AcceptsOnly P (Accepted json change) = P change
+
+-- no change is accepted
+abbrev pub AcceptsNothing : {C : Type 0} → Answer C → Type 0
+AcceptsNothing answer = AcceptsOnly (λ change. ⊥) answer
