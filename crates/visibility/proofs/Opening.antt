@@ -1,6 +1,6 @@
 -- What of the datasets everybody sees, and what who administers an organization sees of its datasets.
 use Rattle.std.proofs.Common.{◌≡◌, ℕ, Bool, true, false, not, ◌&&◌, ◌||◌, cond, List, [], ◌∷◌, Option, Some, None}
-use Rattle.std.proofs.Common.{refl, sym, ap, ◌∙◌, length}
+use Rattle.std.proofs.Common.{refl, sym, ap, ◌∙◌, length, map}
 use Rattle.std.specs.Prelude.{filter, IsTrue}
 use Rattle.std.specs.List.{list_any, list_all}
 use Rattle.std.specs.Str.{bytes_eq}
@@ -10,12 +10,13 @@ use Rattle.org_roles.specs.Peopled.{Peopled, is_sysadmin_in}
 use Rattle.org_roles.specs.Rights.{rights_for}
 use Rattle.org_roles.specs.declared.role.Role.{Role}
 use Rattle.org_roles.specs.declared.role.Role.TheVariants.{Member, Editor, Admin}
+use Rattle.packages.specs.Tags.{text_set}
 use Rattle.packages.specs.declared.package.Package.{Package}
 use Rattle.packages.specs.declared.package.State.{State}
 use Rattle.packages.specs.declared.package.State.TheVariants.{Draft, Active, Deleted}
 use Rattle.visibility.specs.Visibility.{caller_role, is_harvested, is_maker, is_open, is_active, is_open_if_harvested}
 use Rattle.visibility.specs.Visibility.{may_edit_in, sees_in, sees_state_in, sees_private_in}
-use Rattle.visibility.specs.View.{administers, people_seen, datasets_seen, count_of_open, has_datasets}
+use Rattle.visibility.specs.View.{administers, people_seen, datasets_seen, count_of_open, has_datasets, open_names}
 use Rattle.visibility.proofs.Viewing.{filter-kept, administers_seen}
 
 or_true : (a b : Bool) → b ≡ true → (a || b) ≡ true
@@ -47,6 +48,13 @@ count_of_open_seen caller people org datasets =
     (filter-kept (λ (d : Package). bytes_eq d.owner_org org && is_open d) (sees_in people caller)
     (λ d. open_kept (bytes_eq d.owner_org org) (is_open d) (sees_in people caller d) (open_is_seen people caller d))
     datasets)
+
+pub open_names_seen : (caller : Caller) (people : Peopled) (datasets : List Package)
+    → open_names (datasets_seen caller people datasets) ≡ open_names datasets
+open_names_seen caller people datasets =
+    ap (λ (free : List Package). text_set (map (λ (d : Package). d.name) free))
+    (filter-kept is_open (sees_in people caller)
+    (λ d. open_kept true (is_open d) (sees_in people caller d) (open_is_seen people caller d)) datasets)
 
 -- ---- who administers an organization
 

@@ -7,15 +7,18 @@ use Rattle.std.specs.Option.{option_map}
 use Rattle.std.specs.Str.{bytes_eq}
 use Rattle.std.proofs.lemmas.Slice.Eq.{bytes_eq-Decides}
 use Rattle.std.proofs.lemmas.List.Elements.{filter_agree}
+use Rattle.std.proofs.lemmas.Map.Views.{any-filter_same}
 use Rattle.portal_base.specs.declared.caller.Caller.{Caller}
 use Rattle.portal_base.specs.declared.caller.Caller.TheVariants.{Anonymous, Named}
 use Rattle.org_roles.specs.Distinct.{is_name_among}
 use Rattle.org_roles.specs.Peopled.{Peopled, is_sysadmin_in, is_user_in, role_in}
+use Rattle.org_roles.specs.Rights.{rights_for}
 use Rattle.org_roles.specs.declared.entry.Membership.{Membership}
 use Rattle.org_roles.specs.declared.entry.User.{User}
 use Rattle.packages.specs.declared.package.Package.{Package}
 use Rattle.visibility.specs.Visibility.{caller_role, sees_in, may_edit_in}
 use Rattle.visibility.specs.View.{is_called, user_seen, administers, is_role_seen, people_seen, datasets_seen}
+use Rattle.visibility.specs.View.{is_editing_role, edits_somewhere}
 use Rattle.visibility.proofs.VisibilityLemmas.{sees_in-own, may_edit_in-own}
 
 -- ---- lists
@@ -119,6 +122,19 @@ caller_role_seen (Named user) people org =
 pub administers_seen : (caller : Caller) (people : Peopled) (org : List ℕ)
     → administers (people_seen caller people) caller org ≡ administers people caller org
 administers_seen caller people org = rw (is_sysadmin_in_seen caller people, caller_role_seen caller people org) refl
+
+-- the caller's own roles are all seen
+pub edits_somewhere_seen : (caller : Caller) (people : Peopled)
+    → edits_somewhere (people_seen caller people) caller ≡ edits_somewhere people caller
+edits_somewhere_seen caller people =
+    any-filter_same (is_editing_role caller) (is_role_seen people caller) true
+    (λ m own. by (administers people caller m.org) (is_called caller m.user) (rights_for (Some m.role)).edit own)
+    people.roles
+  where
+    by : (a k e : Bool) → (k && e) ≡ true → (a || k) ≡ true
+    by true k e own = refl
+    by false true e own = refl
+    by false false e own = own
 
 pub sees_in_seen : (caller : Caller) (people : Peopled) (dataset : Package)
     → sees_in (people_seen caller people) caller dataset ≡ sees_in people caller dataset

@@ -1,6 +1,7 @@
 -- A call, with what its caller sees of the people and of the datasets: all that its answer is a function of.
 use Rattle.std.specs.Prelude.{List}
 use Rattle.org_roles.specs.Peopled.{Peopled}
+use Rattle.packages.specs.Shelf.{datasets_of}
 use Rattle.packages.specs.declared.package.Package.{Package}
 use Rattle.portal_calls.specs.declared.answer.Quota.{Quota}
 use Rattle.portal_calls.specs.declared.call.Call.{Call}
@@ -25,4 +26,4 @@ seen_of call quota people datasets = record {
 
 -- what is seen where the call is asked
 abbrev pub seen_by : Asked → Seen
-seen_by asked = seen_of asked.call.now asked.quota asked.people.now asked.datasets.now
+seen_by asked = seen_of asked.call.now asked.quota asked.people.now.people (datasets_of asked.shelf.now)

@@ -1,5 +1,5 @@
 -- What a caller may see of the people and of the datasets.
-use Rattle.std.specs.Prelude.{ℕ, List, map, filter, length, Bool, false, ◌&&◌, ◌||◌}
+use Rattle.std.specs.Prelude.{ℕ, List, map, filter, length, Bool, false, ◌&&◌, ◌||◌, Some}
 use Rattle.std.specs.List.{list_any}
 use Rattle.std.specs.Str.{bytes_eq}
 use Rattle.portal_base.specs.declared.caller.Caller.{Caller}
@@ -8,6 +8,7 @@ use Rattle.org_roles.specs.Peopled.{Peopled, is_sysadmin_in}
 use Rattle.org_roles.specs.Rights.{rights_for}
 use Rattle.org_roles.specs.declared.entry.Membership.{Membership}
 use Rattle.org_roles.specs.declared.entry.User.{User}
+use Rattle.packages.specs.Tags.{text_set}
 use Rattle.packages.specs.declared.package.Package.{Package}
 use Rattle.visibility.specs.Visibility.{caller_role, is_open, sees_in}
 
@@ -23,6 +24,14 @@ user_seen caller user = record { name = user.name; sysadmin = user.sysadmin && i
 -- a sysadmin administers every organization, and so does an admin of it
 abbrev pub administers : Peopled → Caller → List ℕ → Bool
 administers people caller org = is_sysadmin_in people caller || (rights_for (caller_role people caller org)).administer
+
+-- the role is the caller's own, as editor or admin
+abbrev pub is_editing_role : Caller → Membership → Bool
+is_editing_role caller role = is_called caller role.user && (rights_for (Some role.role)).edit
+
+-- the caller is editor or admin of some organization
+abbrev pub edits_somewhere : Peopled → Caller → Bool
+edits_somewhere people caller = list_any (is_editing_role caller) people.roles
 
 -- roles of organizations that the caller administers, and elsewhere the caller's own
 abbrev pub is_role_seen : Peopled → Caller → Membership → Bool
@@ -47,3 +56,7 @@ count_of_open org datasets = length (filter (λ d. bytes_eq d.owner_org org && i
 -- some dataset is the organization's, in whatever state
 abbrev pub has_datasets : List ℕ → List Package → Bool
 has_datasets org datasets = list_any (λ d. bytes_eq d.owner_org org) datasets
+
+-- the names of the datasets that are open to all, each once, in order
+abbrev pub open_names : List Package → List (List ℕ)
+open_names datasets = text_set (map (λ d. d.name) (filter is_open datasets))

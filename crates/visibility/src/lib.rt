@@ -4,4 +4,5 @@
 pub mod asked;
 pub mod class;
 pub mod laws;
+mod questions;
 pub mod sight;

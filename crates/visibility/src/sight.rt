@@ -2,8 +2,9 @@
 ghost use Rattle.std.specs.Prelude.{◌≡◌};
 ghost use Rattle.visibility.specs.Visibility.{caller_role, is_harvested, is_maker, is_open, may_edit_in, sees_in};
 ghost use Rattle.visibility.specs.Visibility.{sees_private_in};
-ghost use Rattle.visibility.specs.View.{administers};
+ghost use Rattle.visibility.specs.View.{administers, edits_somewhere, is_called, is_editing_role};
 
+use org_roles::entry::Membership;
 use org_roles::people::People;
 use org_roles::role::{Role, rights_of};
 use packages::package::{Package, State};
@@ -12,7 +13,7 @@ use portal_base::text::Text;
 
 /// The caller's role in the organization. Nobody has one.
 pub fn role_of_caller(people: &People, caller: &Caller, org: &Text) -> Option<Role>
-    ensures { result ≡ caller_role people.now caller.now org.now }
+    ensures { result ≡ caller_role people.now.people caller.now org.now }
 {
     match caller {
         Caller::Anonymous => None,
@@ -22,15 +23,42 @@ pub fn role_of_caller(people: &People, caller: &Caller, org: &Text) -> Option<Ro
 
 /// Whether the caller administers the organization: a sysadmin administers each, an admin its own.
 pub fn administers(people: &People, caller: &Caller, org: &Text) -> bool
-    ensures { result ≡ administers people.now caller.now org.now }
+    ensures { result ≡ administers people.now.people caller.now org.now }
 {
     people.is_sysadmin(caller) || rights_of(role_of_caller(people, caller, org)).administer
+}
+
+/// Whether the caller is editor or admin of some organization.
+pub fn edits_somewhere(people: &People, caller: &Caller) -> bool
+    ensures { result ≡ edits_somewhere people.now.people caller.now }
+{
+    people
+        .memberships()
+        .iter()
+        .any(|membership| is_editing_role(caller, membership))
+}
+
+/// Whether the role is the caller's own, as editor or admin.
+fn is_editing_role(caller: &Caller, membership: &Membership) -> bool
+    ensures { result ≡ is_editing_role caller.now membership.now }
+{
+    is_called(caller, &membership.user) && rights_of(Some(membership.role)).edit
+}
+
+/// Whether the caller is the user of that name.
+fn is_called(caller: &Caller, name: &Text) -> bool
+    ensures { result ≡ is_called caller.now name.now }
+{
+    match caller {
+        Caller::Anonymous => false,
+        Caller::Named(user) => *user == *name,
+    }
 }
 
 /// Whether the caller may edit the dataset: it isn't harvested, and the caller is a sysadmin, or an editor or admin of
 /// its organization.
 pub fn may_edit(people: &People, caller: &Caller, package: &Package) -> bool
-    ensures { result ≡ may_edit_in people.now caller.now «package».now }
+    ensures { result ≡ may_edit_in people.now.people caller.now «package».now }
 {
     !is_harvested(package)
         && (people.is_sysadmin(caller)
@@ -41,7 +69,7 @@ pub fn may_edit(people: &People, caller: &Caller, package: &Package) -> bool
 /// and who has a role in its organization one that is private. A draft is seen by who made it and by who may edit it,
 /// and a deleted dataset by who may edit it.
 pub fn sees(people: &People, caller: &Caller, package: &Package) -> bool
-    ensures { result ≡ sees_in people.now caller.now «package».now }
+    ensures { result ≡ sees_in people.now.people caller.now «package».now }
 {
     people.is_sysadmin(caller)
         || match package.state {
@@ -77,7 +105,7 @@ fn is_maker(caller: &Caller, package: &Package) -> bool
 
 /// Whether the caller's role shows the private datasets of this one's organization.
 fn sees_private(people: &People, caller: &Caller, package: &Package) -> bool
-    ensures { result ≡ sees_private_in people.now caller.now «package».now }
+    ensures { result ≡ sees_private_in people.now.people caller.now «package».now }
 {
     rights_of(role_of_caller(people, caller, &package.owner_org)).see_private
 }
