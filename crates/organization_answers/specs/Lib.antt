@@ -1,3 +1,4 @@
 pub mod Answers
 pub mod Dictionary
+pub mod Fit
 pub mod Told

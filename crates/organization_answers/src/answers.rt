@@ -6,6 +6,7 @@ ghost use Rattle.std.specs.Prelude.{◌≡◌, IfOk, IsTrue, false, unwrap_or};
 ghost use Rattle.std.specs.Option.{option_flatten};
 ghost use Rattle.std.specs.Result.{result_map_both};
 ghost use Rattle.std.specs.List.{list_all};
+ghost use Rattle.packages.specs.Shelf.{datasets_of};
 ghost use Rattle.visibility.specs.View.{administers};
 ghost use Rattle.visibility.specs.Visibility.{is_open_if_harvested};
 ghost use Rattle.visibility.specs.Seen.{seen_by};
@@ -109,7 +110,7 @@ pub fn organization_delete(
     alloc: Global,
     asked: &Asked<'_>,
 ) -> Result<Answer<OrgChange>, AllocError>
-    requires { IsTrue (list_all is_open_if_harvested asked.now.datasets.now) }
+    requires { IsTrue (list_all is_open_if_harvested (datasets_of asked.now.shelf.now)) }
     ensures { IfOk result (λ answer. answer ≡ answer_to_organization_delete (seen_by asked.now)) }
 {
     let org = match own_organization(alloc, asked)? {

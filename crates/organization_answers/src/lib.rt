@@ -3,5 +3,6 @@
 
 pub mod answers;
 mod dictionary;
+pub mod laws;
 mod lists;
 mod told;

@@ -5,6 +5,7 @@ ghost use Rattle.portal_base.specs.Faults.{noted_if, told_of_text};
 ghost use Rattle.portal_calls.specs.Answer.{named_by};
 ghost use Rattle.visibility.specs.Seen.{seen_by};
 ghost use Rattle.visibility.specs.View.{administers};
+ghost use Rattle.packages.specs.Shelf.{datasets_of};
 ghost use Rattle.packages.specs.Texts.{name_told};
 ghost use Rattle.organization_answers.specs.Told.{role_named, role_told, user_told, member_told};
 ghost use Rattle.organization_answers.specs.Told.{text_or_none, told_of_creation, created_org, told_of_patch};
@@ -113,7 +114,7 @@ pub fn read_patch(alloc: Global, body: &Json, org: &Org) -> Result<(Faults, Org)
 /// What is told of an organization that is to go.
 pub fn told_of_removal(alloc: Global, asked: &Asked<'_>, org: &Text) -> Result<Faults, AllocError>
     requires own { IsTrue (administers (seen_by asked.now).people asked.now.call.now.caller org.now) }
-    requires harvested { IsTrue (list_all is_open_if_harvested asked.now.datasets.now) }
+    requires harvested { IsTrue (list_all is_open_if_harvested (datasets_of asked.now.shelf.now)) }
     ensures { IfOk result (λ faults. faults ≡ told_of_removal org.now (seen_by asked.now).datasets) }
 {
     let mut faults = Faults::new(alloc);
