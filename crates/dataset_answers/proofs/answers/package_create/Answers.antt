@@ -1,0 +1,9 @@
+use Rattle.std.proofs.Common.{sym, ◌∙◌, refl}
+use Rattle.portal_calls.proofs.Answering.{has_right, no_rule_broken}
+use Rattle.dataset_answers.proofs.answers.package_create.Goals as goal
+
+pub returns : goal.returns
+returns c =
+    has_right _ _ _ _ (sym c.may_create.ensures ∙ c.if-not-may_create.false)
+    (no_rule_broken _ _ _ _ _ _ c.in_ok-faults.ensures c.in_ok-denial.ensures c.in_default.is
+    (rw (c.in_ok-shown.ensures, c.in_ok-dataset.ensures) refl))

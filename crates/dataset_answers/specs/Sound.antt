@@ -1,0 +1,31 @@
+-- The datasets that may stand among the people.
+use Rattle.std.specs.Prelude.{◌≡◌, ℕ, List, true, false, is_some}
+use Rattle.std.specs.Ordering.{nat_cmp}
+use Rattle.std.specs.Cmp.Lexicographic.{slice_cmp}
+use Rattle.portal_base.specs.Id.{id_text}
+use Rattle.portal_base.specs.Name.{is_name}
+use Rattle.portal_base.specs.Ordered.{IsAscending}
+use Rattle.org_roles.specs.Peopled.{Peopled, org_in}
+use Rattle.packages.specs.Numbered.{AreNumbered}
+use Rattle.packages.specs.declared.package.TheConstants.{LONGEST_NAME}
+use Rattle.packages.specs.declared.package.Package.{Package}
+use Rattle.visibility.specs.Visibility.{is_harvested}
+
+-- the text is the id of a number, of which it has the low 128 bits
+abbrev pub IsId : List ℕ → Type 0
+IsId text = (number : ℕ) × (text ≡ id_text number)
+
+-- Whether the organization stands among the people.
+abbrev pub Stands : Peopled → List ℕ → Type 0
+Stands people org = is_some (org_in people org) ≡ true
+
+-- A dataset that may stand among the people: made here and not harvested, with an id and a name of the right form, in
+-- an organization that stands, with tags that ascend by their bytes without repeats. No name has the form of an id, so
+-- no dataset's name is the id of another.
+pub record IsSound (people : Peopled) (dataset : Package) : Type 0 where
+  pub made_here : is_harvested dataset ≡ false
+  pub id : IsId dataset.id
+  pub name : is_name dataset.name LONGEST_NAME ≡ true
+  pub org : Stands people dataset.owner_org
+  pub resources : AreNumbered dataset
+  pub tags : IsAscending (slice_cmp nat_cmp) dataset.tags

@@ -1,0 +1,149 @@
+//! The dictionaries in which replies show things.
+ghost use Rattle.std.specs.Prelude.{◌≡◌, map, IfOk};
+ghost use Rattle.dataset_answers.specs.Dictionary.{state_name, organization_title, organization_dictionary};
+ghost use Rattle.dataset_answers.specs.Dictionary.{tag_dictionary, resource_dictionary, resource_dictionaries};
+ghost use Rattle.dataset_answers.specs.Dictionary.{package_dictionary};
+ghost use Rattle.visibility.specs.Seen.{seen_by};
+
+use packages::named::resource_address;
+use packages::package::{Package, Resource, State};
+use portal_base::dictionary::Value;
+use portal_base::json_value::Json;
+use portal_base::seq::Seq;
+use portal_base::text::Text;
+use std::alloc::{AllocError, Global};
+use visibility::asked::Asked;
+
+fn name_of_state(state: State) -> &'static str
+    ensures { result.now ≡ state_name state }
+{
+    match state {
+        State::Draft => "draft",
+        State::Active => "active",
+        State::Deleted => "deleted",
+    }
+}
+
+fn title_of_organization<'a>(asked: &Asked<'a>, name: &Text) -> &'a str
+    ensures { result.now ≡ organization_title (seen_by asked.now).people name.now }
+{
+    match asked.org(name) {
+        Some(org) => org.title.as_str(),
+        None => "",
+    }
+}
+
+fn organization_json<'a>(
+    alloc: Global,
+    asked: &Asked<'a>,
+    name: &'a Text,
+) -> Result<Json, AllocError>
+    ensures { IfOk result (λ json. json ≡ organization_dictionary (seen_by asked.now).people name.now) }
+{
+    let title = title_of_organization(asked, name);
+    Json::dictionary(
+        alloc,
+        [
+            ("id", Value::Text(name)),
+            ("name", Value::Text(name)),
+            ("title", Value::Str(title)),
+        ],
+    )
+}
+
+fn tag_json(alloc: Global, tag: &Text) -> Result<Json, AllocError>
+    ensures { IfOk result (λ json. json ≡ tag_dictionary tag.now) }
+{
+    Json::dictionary(
+        alloc,
+        [
+            ("display_name", Value::Text(tag)),
+            ("name", Value::Text(tag)),
+        ],
+    )
+}
+
+fn tags_json(alloc: Global, tags: &[Text]) -> Result<Seq<Json>, AllocError>
+    ensures { IfOk result (λ list. list ≡ map tag_dictionary tags.now) }
+{
+    let mut list = Vec::with_capacity(alloc, tags.len())?;
+    for tag in tags {
+        list.push(tag_json(alloc, tag)?)?;
+    }
+    Ok(Seq::from(list))
+}
+
+/// The dictionary of a resource at its position in the dataset of that id.
+pub fn resource_json<'a>(
+    alloc: Global,
+    dataset: &'a Text,
+    position: usize,
+    resource: &'a Resource,
+) -> Result<Json, AllocError>
+    ensures { IfOk result (λ json. json ≡ resource_dictionary dataset.now position resource.now) }
+{
+    let id = resource_address(alloc, dataset, resource.number)?;
+    Json::dictionary(
+        alloc,
+        [
+            ("datastore_active", Value::Truth(false)),
+            ("description", Value::Text(&resource.description)),
+            ("format", Value::Text(&resource.format)),
+            ("id", Value::Json(Json::Text(id))),
+            ("mimetype", Value::Text(&resource.mimetype)),
+            ("name", Value::Text(&resource.name)),
+            ("package_id", Value::Text(dataset)),
+            ("position", Value::Whole(position)),
+            ("url", Value::Text(&resource.url)),
+        ],
+    )
+}
+
+fn resources_json(
+    alloc: Global,
+    dataset: &Text,
+    resources: &[Resource],
+) -> Result<Seq<Json>, AllocError>
+    ensures { IfOk result (λ list. list ≡ resource_dictionaries dataset.now 0 resources.now) }
+{
+    let mut list = Vec::with_capacity(alloc, resources.len())?;
+    for (position, resource) in resources.iter().enumerate() {
+        list.push(resource_json(alloc, dataset, position, resource)?)?;
+    }
+    Ok(Seq::from(list))
+}
+
+/// The dictionary of a dataset. Its keys are those of CKAN 2.10's package dictionary that the portal keeps.
+pub fn package_json(alloc: Global, asked: &Asked<'_>, dataset: &Package) -> Result<Json, AllocError>
+    ensures { IfOk result (λ json. json ≡ package_dictionary (seen_by asked.now).people dataset.now) }
+{
+    let organization = organization_json(alloc, asked, &dataset.owner_org)?;
+    let resources = resources_json(alloc, &dataset.id, dataset.resources.as_slice())?;
+    let tags = tags_json(alloc, dataset.tags.as_slice())?;
+    Json::dictionary(
+        alloc,
+        [
+            ("author", Value::Text(&dataset.author)),
+            ("creator_user_id", Value::Text(&dataset.creator)),
+            ("id", Value::Text(&dataset.id)),
+            ("license_id", Value::Text(&dataset.license_id)),
+            ("maintainer", Value::Text(&dataset.maintainer)),
+            ("metadata_created", Value::Moment(dataset.created)),
+            ("metadata_modified", Value::Moment(dataset.modified)),
+            ("name", Value::Text(&dataset.name)),
+            ("notes", Value::Text(&dataset.notes)),
+            ("num_resources", Value::Whole(dataset.resources.len())),
+            ("num_tags", Value::Whole(dataset.tags.len())),
+            ("organization", Value::Json(organization)),
+            ("owner_org", Value::Text(&dataset.owner_org)),
+            ("private", Value::Truth(dataset.private)),
+            ("resources", Value::List(resources)),
+            ("state", Value::Static(name_of_state(dataset.state))),
+            ("tags", Value::List(tags)),
+            ("title", Value::Text(&dataset.title)),
+            ("type", Value::Static("dataset")),
+            ("url", Value::Text(&dataset.url)),
+            ("version", Value::Text(&dataset.version)),
+        ],
+    )
+}

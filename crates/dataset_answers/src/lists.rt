@@ -1,0 +1,44 @@
+//! Lists that are shown, and the pages of them.
+ghost use Rattle.std.specs.Prelude.{◌≡◌, IfOk, map, min};
+ghost use Rattle.portal_base.specs.declared.json_value.Json as json;
+ghost use Rattle.dataset_answers.specs.Answers.{page_of};
+
+use portal_base::copy::TryClone;
+use portal_base::json_value::Json;
+use portal_base::seq::Seq;
+use portal_base::text::Text;
+use std::alloc::{AllocError, Global};
+
+/// The number, or this one where it is more.
+fn at_most(number: u128, most: usize) -> usize
+    ensures { result ≡ min number most }
+{
+    if number < most as u128 {
+        number as usize
+    } else {
+        most
+    }
+}
+
+/// So many of the names, or all, from a place on.
+#[tactic(auto, using(std::proofs::lemmas::List::drop_min, std::proofs::lemmas::List::take_min))]
+pub fn page_of(limit: Option<u128>, offset: Option<u128>, names: &[Text]) -> &[Text]
+    ensures { result.now ≡ page_of limit offset names.now }
+{
+    let rest = &names[at_most(offset.unwrap_or(0), names.len())..];
+    match limit {
+        Some(limit) => &rest[..at_most(limit, rest.len())],
+        None => rest,
+    }
+}
+
+/// The names as they are shown.
+pub fn names_json(alloc: Global, names: &[Text]) -> Result<Seq<Json>, AllocError>
+    ensures { IfOk result (λ list. list ≡ map json.Text names.now) }
+{
+    let mut list = Vec::with_capacity(alloc, names.len())?;
+    for name in names {
+        list.push(Json::Text(name.try_clone(alloc)?))?;
+    }
+    Ok(Seq::from(list))
+}
