@@ -1,0 +1,421 @@
+-- What a caller sees of a state with a change is what it sees with the change made in what it sees.
+use Rattle.std.proofs.Common.{◌≡◌, ℕ, Bool, true, false, ◌&&◌, ◌||◌, cond, List, [], ◌∷◌, map}
+use Rattle.std.proofs.Common.{refl, sym, ap, ◌∙◌, ◌⊎◌, inl, inr}
+use Rattle.std.specs.Prelude.{filter, find}
+use Rattle.std.specs.List.{list_any}
+use Rattle.std.specs.Option.{option_map}
+use Rattle.std.specs.Str.{bytes_eq}
+use Rattle.std.specs.Cmp.{IsTotalOrder}
+use Rattle.std.specs.declared.cmp.Ordering.{Ordering}
+use Rattle.std.specs.declared.cmp.Ordering.TheVariants.{Equal}
+use Rattle.std.proofs.lemmas.List.Elements.{filter_agree}
+use Rattle.portal_base.specs.declared.caller.Caller.{Caller}
+use Rattle.portal_base.specs.declared.caller.Caller.TheVariants.{Anonymous, Named}
+use Rattle.portal_base.specs.Ordered.{IsAscending, placed, dropped}
+use Rattle.portal_base.proofs.Filtered.{IsAscending-filter}
+use Rattle.portal_base.proofs.Placed.{filter-placed, filter-dropped, filter-dropped_hidden, filter-placed_hidden}
+use Rattle.portal_base.proofs.Unique.{IsIn}
+use Rattle.org_roles.specs.Changed.{changed_people}
+use Rattle.org_roles.specs.Order.{org_cmp, membership_cmp, membership_cmp_total}
+use Rattle.org_roles.specs.Order.{org_at, membership_in_org_at, pair_at}
+use Rattle.org_roles.proofs.ChangeLemmas.{users-changed}
+use Rattle.std.proofs.lemmas.Map.Text.{is_eq-slice_cmp}
+use Rattle.org_roles.specs.Peopled.{Peopled, is_sysadmin_in, role_in}
+use Rattle.org_roles.specs.declared.change.OrgChange.{OrgChange}
+use Rattle.org_roles.specs.declared.change.OrgChange.TheVariants.{Create, Patch, Remove, SetRole, DropRole}
+use Rattle.org_roles.proofs.PeopleLemmas.{is_eq-membership_cmp}
+use Rattle.org_roles.specs.declared.entry.Membership.{Membership}
+use Rattle.org_roles.specs.declared.entry.Org.{Org}
+use Rattle.org_roles.specs.declared.entry.User.{User}
+use Rattle.org_roles.specs.declared.role.Role.TheVariants.{Member}
+use Rattle.std.specs.Ordering.{is_eq}
+use Rattle.std.proofs.lemmas.Slice.Eq.{bytes_eq-Decides}
+use Rattle.packages.specs.Order.{dataset_cmp, dataset_cmp_total}
+use Rattle.packages.specs.declared.package.Package.{Package}
+use Rattle.visibility.specs.View.{is_called, user_seen, administers, is_role_seen, people_seen, datasets_seen}
+use Rattle.visibility.specs.Visibility.{caller_role, sees_in, is_open_if_harvested}
+use Rattle.visibility.proofs.Viewing.{filter_twice, find-kept, called_by_name}
+use Rattle.visibility.proofs.Viewing.{is_sysadmin_in_seen, sees_in_seen, people_seen_twice}
+use Rattle.visibility.proofs.VisibilityLemmas.{sees_in-own}
+use Rattle.visibility.proofs.Opening.{own_is_seen}
+use Rattle.dataset_answers.specs.Changed.{changed_datasets, dataset_at_id}
+use Rattle.dataset_answers.specs.declared.change.DatasetChange.{DatasetChange}
+use Rattle.dataset_answers.specs.declared.change.DatasetChange.TheVariants as dataset
+use Rattle.portal_core.specs.Changed.{changed}
+use Rattle.portal_core.specs.State.{State}
+use Rattle.portal_core.specs.View.{view_of, is_spent_of}
+use Rattle.portal_core.specs.declared.spent.Spent.{Spent}
+use Rattle.portal_core.specs.declared.change.Change.{Change}
+use Rattle.portal_core.specs.declared.change.Change.TheVariants.{People, Datasets}
+
+-- ---- lists
+
+-- what a test keeps that keeps no more than another is kept of what that one keeps
+pub filter-narrower : {X : Type 0} (p q : X → Bool) (xs : List X) → ((x : X) → IsIn x xs → p x ≡ true → q x ≡ true)
+    → filter p (filter q xs) ≡ filter p xs
+filter-narrower p q [] narrower = refl
+filter-narrower {X} p q (x ∷ xs) narrower =
+    by (p x) refl (q x) refl (filter-narrower p q xs (λ z m. narrower z (inr m)))
+  where
+    by : (a : Bool) → p x ≡ a → (b : Bool) → q x ≡ b → filter p (filter q xs) ≡ filter p xs
+        → filter p (cond b (x ∷ filter q xs) (filter q xs)) ≡ cond a (x ∷ filter p xs) (filter p xs)
+    by a is true keeps rest =
+        ap (λ c. cond c (x ∷ filter p (filter q xs)) (filter p (filter q xs))) is ∙ ap (λ l. cond a (x ∷ l) l) rest
+    by true is false keeps rest = let seen : q x ≡ true = narrower x (inl refl) is in absurd (cc)
+    by false is false keeps rest = rest
+
+-- what is kept of a list in which an item was placed hangs on what is kept of the list
+placed-kept : {X : Type 0} (cmp : X → X → Ordering) (o : IsTotalOrder cmp) (p q : X → Bool) (x : X) (xs : List X)
+    → IsAscending cmp xs → filter p (filter q xs) ≡ filter p xs
+    → filter p (placed cmp x (filter q xs)) ≡ filter p (placed cmp x xs)
+placed-kept cmp o p q x xs up same =
+    filter-placed cmp o p x (filter q xs) (IsAscending-filter cmp q xs up)
+    ∙ ap (λ l. cond (p x) (placed cmp x l) (dropped (λ y. cmp y x) l)) same
+    ∙ sym (filter-placed cmp o p x xs up)
+
+dropped-kept : {X : Type 0} (p q : X → Bool) (at : X → Ordering) (xs : List X) → filter p (filter q xs) ≡ filter p xs
+    → filter p (dropped at (filter q xs)) ≡ filter p (dropped at xs)
+dropped-kept p q at xs same =
+    filter-dropped p at (filter q xs) ∙ ap (dropped at) same ∙ sym (filter-dropped p at xs)
+
+-- ---- datasets
+
+datasets-kept : (change : DatasetChange) (p q : Package → Bool) (datasets : List Package)
+    → IsAscending dataset_cmp datasets → filter p (filter q datasets) ≡ filter p datasets
+    → filter p (changed_datasets change (filter q datasets)) ≡ filter p (changed_datasets change datasets)
+datasets-kept (dataset.Create d) p q datasets up same =
+    placed-kept dataset_cmp dataset_cmp_total p q d datasets up same
+datasets-kept (dataset.Replace d) p q datasets up same =
+    placed-kept dataset_cmp dataset_cmp_total p q d datasets up same
+datasets-kept (dataset.Remove id) p q datasets up same = dropped-kept p q (dataset_at_id id) datasets same
+
+-- ---- roles
+
+-- what a test keeps of the changed roles hangs on what it keeps of the roles
+roles-kept : (change : OrgChange) (people : Peopled) (p q : Membership → Bool) → IsAscending membership_cmp people.roles
+    → filter p (filter q people.roles) ≡ filter p people.roles
+    → filter p (changed_people change (record people { roles = filter q people.roles })).roles
+    ≡ filter p (changed_people change people).roles
+roles-kept (Create org) people p q up same = same
+roles-kept (Patch org) people p q up same = same
+roles-kept (Remove name) people p q up same = dropped-kept p q (membership_in_org_at name) people.roles same
+roles-kept (SetRole org user role) people p q up same =
+    placed-kept membership_cmp membership_cmp_total p q (record { org = org; user = user; role = role }) people.roles up
+    same
+roles-kept (DropRole org user) people p q up same = dropped-kept p q (pair_at org user) people.roles same
+
+-- the user's own roles
+abbrev is_own : List ℕ → Membership → Bool
+is_own user m = is_called (Named user) m.user
+
+-- the role of the user in the organization is one of the user's own
+own_found : (org user : List ℕ) (m : Membership)
+    → ((bytes_eq m.org org && bytes_eq m.user user) && is_own user m) ≡ (bytes_eq m.org org && bytes_eq m.user user)
+own_found org user m =
+    by (bytes_eq m.org org) (bytes_eq m.user user) (bytes_eq user m.user) (called_by_name m.user user)
+  where
+    by : (o a b : Bool) → (a && b) ≡ a → ((o && a) && b) ≡ (o && a)
+    by false a b own = refl
+    by true a b own = own
+
+-- people of whom the user's own roles are the same
+own-role : (org user : List ℕ) (p q : Peopled) → filter (is_own user) p.roles ≡ filter (is_own user) q.roles
+    → role_in p org user ≡ role_in q org user
+own-role org user p q same =
+    let test : Membership → Bool = λ m. bytes_eq m.org org && bytes_eq m.user user in
+    ap (option_map (λ (m : Membership). m.role))
+    (sym (find-kept test (is_own user) (own_found org user) p.roles)
+    ∙ ap (find test) same ∙ find-kept test (is_own user) (own_found org user) q.roles)
+
+-- ---- the caller's standing
+
+-- what a caller's standing hangs on is the same
+abbrev pub IsSameStanding : Caller → Peopled → Peopled → Type 0
+IsSameStanding caller p q =
+    (is_sysadmin_in p caller ≡ is_sysadmin_in q caller)
+    × ((org : List ℕ) → caller_role p caller org ≡ caller_role q caller org)
+
+pub is_sysadmin_in-users : (caller : Caller) (p q : Peopled) → p.users ≡ q.users
+    → is_sysadmin_in p caller ≡ is_sysadmin_in q caller
+is_sysadmin_in-users Anonymous p q same = refl
+is_sysadmin_in-users (Named user) p q same =
+    ap (λ (users : List User). list_any (λ u. bytes_eq u.name user && u.sysadmin) users) same
+
+-- the roles after a change hang on the roles alone
+roles-left : (change : OrgChange) (p q : Peopled) → p.roles ≡ q.roles
+    → (changed_people change p).roles ≡ (changed_people change q).roles
+roles-left (Create org) p q same = same
+roles-left (Patch org) p q same = same
+roles-left (Remove name) p q same = ap (dropped (membership_in_org_at name)) same
+roles-left (SetRole org user role) p q same =
+    ap (placed membership_cmp (record { org = org; user = user; role = role })) same
+roles-left (DropRole org user) p q same = ap (dropped (pair_at org user)) same
+
+-- and so do the organizations on the organizations
+orgs-left : (change : OrgChange) (p q : Peopled) → p.orgs ≡ q.orgs
+    → (changed_people change p).orgs ≡ (changed_people change q).orgs
+orgs-left (Create org) p q same = ap (placed org_cmp org) same
+orgs-left (Patch org) p q same = ap (placed org_cmp org) same
+orgs-left (Remove name) p q same = ap (dropped (org_at name)) same
+orgs-left (SetRole org user role) p q same = same
+orgs-left (DropRole org user) p q same = same
+
+or_right : (a b : Bool) → b ≡ true → (a || b) ≡ true
+or_right true b is = refl
+or_right false b is = is
+
+or_left : (a b : Bool) → a ≡ true → (a || b) ≡ true
+or_left a b is = ap (λ c. c || b) is
+
+-- the caller's own roles are seen
+own-kept : (caller : Caller) (people : Peopled)
+    → filter (λ m. is_called caller m.user) (filter (is_role_seen people caller) people.roles)
+    ≡ filter (λ m. is_called caller m.user) people.roles
+own-kept caller people =
+    filter-narrower (λ m. is_called caller m.user) (is_role_seen people caller) people.roles
+    (λ m within own. or_right (administers people caller m.org) (is_called caller m.user) own)
+
+pub caller_role-own : (caller : Caller) (p q : Peopled)
+    → filter (λ m. is_called caller m.user) p.roles ≡ filter (λ m. is_called caller m.user) q.roles
+    → (org : List ℕ) → caller_role p caller org ≡ caller_role q caller org
+caller_role-own Anonymous p q same org = refl
+caller_role-own (Named user) p q same org = own-role org user p q same
+
+-- what a test keeps of the roles after a change of what the caller sees
+seen-roles_kept : (change : OrgChange) (caller : Caller) (people : Peopled) (p : Membership → Bool)
+    → IsAscending membership_cmp people.roles
+    → filter p (filter (is_role_seen people caller) people.roles) ≡ filter p people.roles
+    → filter p (changed_people change (people_seen caller people)).roles ≡ filter p (changed_people change people).roles
+seen-roles_kept change caller people p up same =
+    ap (filter p)
+    (roles-left change (people_seen caller people)
+    (record people { roles = filter (is_role_seen people caller) people.roles }) refl)
+    ∙ roles-kept change people p (is_role_seen people caller) up same
+
+pub changed-standing : (change : OrgChange) (caller : Caller) (people : Peopled)
+    → IsAscending membership_cmp people.roles
+    → IsSameStanding caller (changed_people change (people_seen caller people)) (changed_people change people)
+changed-standing change caller people up = (
+  is_sysadmin_in-users caller (changed_people change (people_seen caller people)) (people_seen caller people)
+      (users-changed change (people_seen caller people))
+      ∙ is_sysadmin_in_seen caller people
+      ∙ is_sysadmin_in-users caller people (changed_people change people) (sym (users-changed change people)),
+  caller_role-own caller (changed_people change (people_seen caller people)) (changed_people change people)
+      (seen-roles_kept change caller people (λ m. is_called caller m.user) up (own-kept caller people)),
+)
+
+-- ---- what a caller of the own organization doesn't gain by a change of its roles
+
+-- A caller changes roles only in an organization that it administers.
+abbrev pub IsOwnChange : Caller → Peopled → OrgChange → Type 0
+IsOwnChange caller people (Create org) = Unit {0}
+IsOwnChange caller people (Patch org) = Unit {0}
+IsOwnChange caller people (Remove name) = administers people caller name ≡ true
+IsOwnChange caller people (SetRole org user role) = administers people caller org ≡ true
+IsOwnChange caller people (DropRole org user) = administers people caller org ≡ true
+
+both : (a b : Bool) → (a && b) ≡ true → (a ≡ true) × (b ≡ true)
+both true b is = (refl, is)
+both false b is = absurd (cc)
+
+-- items like a role are in its organization
+like-org : (m n : Membership) → membership_cmp m n ≡ Equal → bytes_eq m.org n.org ≡ true
+like-org m n like =
+    (both (bytes_eq m.org n.org) (bytes_eq m.user n.user) (sym (is_eq-membership_cmp m n) ∙ ap is_eq like)).0
+
+-- in another organization the role stays
+other-like : (org : List ℕ) (m n : Membership) → bytes_eq n.org org ≡ false → membership_cmp m n ≡ Equal
+    → bytes_eq m.org org ≡ false
+other-like org m n other like =
+    ap (λ (o : List ℕ). bytes_eq o org) ((bytes_eq-Decides m.org n.org).0 (like-org m n like)) ∙ other
+
+-- the role in an organization is found among the roles in it
+in-org : (org user : List ℕ) (m : Membership)
+    → ((bytes_eq m.org org && bytes_eq m.user user) && bytes_eq m.org org)
+    ≡ (bytes_eq m.org org && bytes_eq m.user user)
+in-org org user m = by (bytes_eq m.org org) (bytes_eq m.user user)
+  where
+    by : (a b : Bool) → ((a && b) && a) ≡ (a && b)
+    by false b = refl
+    by true false = refl
+    by true true = refl
+
+org-role : (org user : List ℕ) (p q : Peopled)
+    → filter (λ m. bytes_eq m.org org) p.roles ≡ filter (λ m. bytes_eq m.org org) q.roles
+    → role_in p org user ≡ role_in q org user
+org-role org user p q same =
+    let test : Membership → Bool = λ m. bytes_eq m.org org && bytes_eq m.user user in
+    ap (option_map (λ (m : Membership). m.role))
+    (sym (find-kept test (λ m. bytes_eq m.org org) (in-org org user) p.roles)
+    ∙ ap (find test) same ∙ find-kept test (λ m. bytes_eq m.org org) (in-org org user) q.roles)
+
+org-caller_role : (caller : Caller) (org : List ℕ) (p q : Peopled)
+    → filter (λ m. bytes_eq m.org org) p.roles ≡ filter (λ m. bytes_eq m.org org) q.roles
+    → caller_role p caller org ≡ caller_role q caller org
+org-caller_role Anonymous org p q same = refl
+org-caller_role (Named user) org p q same = org-role org user p q same
+
+-- a role in an organization of that name isn't in another
+removed-other : (name org : List ℕ) → bytes_eq name org ≡ false → (m : Membership)
+    → membership_in_org_at name m ≡ Equal → bytes_eq m.org org ≡ false
+removed-other name org other m here =
+    ap (λ (o : List ℕ). bytes_eq o org)
+    ((bytes_eq-Decides m.org name).0 (sym (is_eq-slice_cmp m.org name) ∙ ap is_eq here)) ∙ other
+
+turned : (a b : List ℕ) → bytes_eq a b ≡ false → bytes_eq b a ≡ false
+turned a b other = by (bytes_eq b a) refl
+  where
+    by : (c : Bool) → bytes_eq b a ≡ c → c ≡ false
+    by false is = refl
+    by true is =
+        let same : bytes_eq a b ≡ true = (bytes_eq-Decides a b).1 (sym ((bytes_eq-Decides b a).0 is)) in
+        absurd (cc)
+
+elsewhere : (change : OrgChange) (caller : Caller) (people : Peopled) → IsAscending membership_cmp people.roles
+    → IsOwnChange caller people change → (org : List ℕ)
+    → (caller_role (changed_people change people) caller org ≡ caller_role people caller org)
+    ⊎ (administers people caller org ≡ true)
+elsewhere (Create new) caller people up own org =
+    inl (org-caller_role caller org (changed_people (Create new) people) people refl)
+elsewhere (Patch new) caller people up own org =
+    inl (org-caller_role caller org (changed_people (Patch new) people) people refl)
+elsewhere (Remove name) caller people up own org = by (bytes_eq org name) refl
+  where
+    by : (b : Bool) → bytes_eq org name ≡ b
+        → (caller_role (changed_people (Remove name) people) caller org ≡ caller_role people caller org)
+        ⊎ (administers people caller org ≡ true)
+    by true is = inr (ap (administers people caller) ((bytes_eq-Decides org name).0 is) ∙ own)
+    by false is =
+        inl (org-caller_role caller org (changed_people (Remove name) people) people
+        (filter-dropped_hidden (λ (m : Membership). bytes_eq m.org org) (membership_in_org_at name) people.roles
+        (λ m within here. removed-other name org (turned org name is) m here)))
+elsewhere (SetRole name user role) caller people up own org = by (bytes_eq org name) refl
+  where
+    by : (b : Bool) → bytes_eq org name ≡ b
+        → (caller_role (changed_people (SetRole name user role) people) caller org ≡ caller_role people caller org)
+        ⊎ (administers people caller org ≡ true)
+    by true is = inr (ap (administers people caller) ((bytes_eq-Decides org name).0 is) ∙ own)
+    by false is =
+        let new : Membership = record { org = name; user = user; role = role } in
+        inl (org-caller_role caller org (changed_people (SetRole name user role) people) people
+        (filter-placed_hidden membership_cmp membership_cmp_total (λ (m : Membership). bytes_eq m.org org) new
+        people.roles up (turned org name is) (λ m within like. other-like org m new (turned org name is) like)))
+elsewhere (DropRole name user) caller people up own org = by (bytes_eq org name) refl
+  where
+    by : (b : Bool) → bytes_eq org name ≡ b
+        → (caller_role (changed_people (DropRole name user) people) caller org ≡ caller_role people caller org)
+        ⊎ (administers people caller org ≡ true)
+    by true is = inr (ap (administers people caller) ((bytes_eq-Decides org name).0 is) ∙ own)
+    by false is =
+        let old : Membership = record { org = name; user = user; role = Member } in
+        inl (org-caller_role caller org (changed_people (DropRole name user) people) people
+        (filter-dropped_hidden (λ (m : Membership). bytes_eq m.org org) (pair_at name user) people.roles
+        (λ m within like. other-like org m old (turned org name is) like)))
+
+-- the caller is a sysadmin after a change exactly where it was one before
+sysadmin-left : (change : OrgChange) (caller : Caller) (people : Peopled)
+    → is_sysadmin_in (changed_people change people) caller ≡ is_sysadmin_in people caller
+sysadmin-left change caller people =
+    is_sysadmin_in-users caller (changed_people change people) people (users-changed change people)
+
+-- no role comes into sight
+role-narrower : (change : OrgChange) (caller : Caller) (people : Peopled) → IsAscending membership_cmp people.roles
+    → IsOwnChange caller people change → (m : Membership)
+    → is_role_seen (changed_people change people) caller m ≡ true → is_role_seen people caller m ≡ true
+role-narrower change caller people up own m now = by (elsewhere change caller people up own m.org)
+  where
+    by : (caller_role (changed_people change people) caller m.org ≡ caller_role people caller m.org)
+        ⊎ (administers people caller m.org ≡ true) → is_role_seen people caller m ≡ true
+    by (inl same) =
+        sym (ap (λ (b : Bool). b || is_called caller m.user)
+        (rw (sysadmin-left change caller people, same) refl)) ∙ now
+    by (inr admin) = or_left (administers people caller m.org) (is_called caller m.user) admin
+
+-- and no dataset
+sight-narrower : (change : OrgChange) (caller : Caller) (people : Peopled) → IsAscending membership_cmp people.roles
+    → IsOwnChange caller people change → (d : Package) → is_open_if_harvested d ≡ true
+    → sees_in (changed_people change people) caller d ≡ true → sees_in people caller d ≡ true
+sight-narrower change caller people up own d harvested now = by (elsewhere change caller people up own d.owner_org)
+  where
+    by : (caller_role (changed_people change people) caller d.owner_org ≡ caller_role people caller d.owner_org)
+        ⊎ (administers people caller d.owner_org ≡ true) → sees_in people caller d ≡ true
+    by (inl same) =
+        sym (sees_in-own (changed_people change people) people caller d (sysadmin-left change caller people) same) ∙ now
+    by (inr admin) = own_is_seen people caller d admin harvested
+
+-- ---- the view
+
+pub is_role_seen-standing : (caller : Caller) (p q : Peopled) → IsSameStanding caller p q → (m : Membership)
+    → is_role_seen p caller m ≡ is_role_seen q caller m
+is_role_seen-standing caller p q same m = rw (same.0, same.1 m.org) refl
+
+pub sees_in-standing : (caller : Caller) (p q : Peopled) → IsSameStanding caller p q → (d : Package)
+    → sees_in p caller d ≡ sees_in q caller d
+sees_in-standing caller p q same d = sees_in-own p q caller d same.0 (same.1 d.owner_org)
+
+abbrev peopled : List User → List Org → List Membership → Peopled
+peopled users orgs roles = record { users = users; orgs = orgs; roles = roles }
+
+same_people : {us vs : List User} {os ps : List Org} {ms ns : List Membership} → us ≡ vs → os ≡ ps → ms ≡ ns
+    → peopled us os ms ≡ peopled vs ps ns
+same_people users orgs roles = rw (users, orgs, roles) refl
+
+people-changed_seen : (change : OrgChange) (caller : Caller) (people : Peopled)
+    → IsAscending membership_cmp people.roles → IsOwnChange caller people change
+    → people_seen caller (changed_people change (people_seen caller people))
+    ≡ people_seen caller (changed_people change people)
+people-changed_seen change caller people up own =
+    let v : Peopled = people_seen caller people in
+    let standing = changed-standing change caller people up in
+    same_people
+    (ap (map (user_seen caller)) (users-changed change v)
+    ∙ ap (λ (p : Peopled). p.users) (people_seen_twice caller people)
+    ∙ sym (ap (map (user_seen caller)) (users-changed change people)))
+    (orgs-left change v people refl)
+    (filter_agree (is_role_seen (changed_people change v) caller) (is_role_seen (changed_people change people) caller)
+    (is_role_seen-standing caller (changed_people change v) (changed_people change people) standing)
+    (changed_people change v).roles
+    ∙ seen-roles_kept change caller people (is_role_seen (changed_people change people) caller) up
+    (filter-narrower (is_role_seen (changed_people change people) caller) (is_role_seen people caller) people.roles
+    (λ m within now. role-narrower change caller people up own m now)))
+
+datasets-changed_seen : (change : OrgChange) (caller : Caller) (people : Peopled) (datasets : List Package)
+    → IsAscending membership_cmp people.roles → IsOwnChange caller people change
+    → ((d : Package) → IsIn d datasets → is_open_if_harvested d ≡ true)
+    → datasets_seen caller (changed_people change (people_seen caller people)) (datasets_seen caller people datasets)
+    ≡ datasets_seen caller (changed_people change people) datasets
+datasets-changed_seen change caller people datasets up own harvested =
+    filter_agree (sees_in (changed_people change (people_seen caller people)) caller)
+    (sees_in (changed_people change people) caller)
+    (sees_in-standing caller (changed_people change (people_seen caller people)) (changed_people change people)
+    (changed-standing change caller people up)) (datasets_seen caller people datasets)
+    ∙ filter-narrower (sees_in (changed_people change people) caller) (sees_in people caller) datasets
+    (λ d within now. sight-narrower change caller people up own d (harvested d within) now)
+
+-- what the caller changes is its own to change
+abbrev pub IsOwn : Caller → State → Change → Type 0
+IsOwn caller state (People change) = IsOwnChange caller state.people change
+IsOwn caller state (Datasets change) = Unit {0}
+
+abbrev stated : Peopled → List Package → List Spent → State
+stated people datasets spent = record { people = people; datasets = datasets; spent = spent }
+
+same_state : {p q : Peopled} {ds es : List Package} {ss ts : List Spent} → p ≡ q → ds ≡ es → ss ≡ ts
+    → stated p ds ss ≡ stated q es ts
+same_state people datasets spent = rw (people, datasets, spent) refl
+
+pub changed-seen : (change : Change) (caller : Caller) (state : State)
+    → IsAscending membership_cmp state.people.roles → IsAscending dataset_cmp state.datasets
+    → ((d : Package) → IsIn d state.datasets → is_open_if_harvested d ≡ true) → IsOwn caller state change
+    → view_of caller (changed change (view_of caller state)) ≡ view_of caller (changed change state)
+changed-seen (People change) caller state roles_up up harvested own =
+    same_state (people-changed_seen change caller state.people roles_up own)
+    (datasets-changed_seen change caller state.people state.datasets roles_up own harvested)
+    (filter_twice (is_spent_of caller) state.spent)
+changed-seen (Datasets change) caller state roles_up up harvested own =
+    same_state (people_seen_twice caller state.people)
+    (filter_agree (sees_in (people_seen caller state.people) caller) (sees_in state.people caller)
+    (sees_in_seen caller state.people) (changed_datasets change (datasets_seen caller state.people state.datasets))
+    ∙ datasets-kept change (sees_in state.people caller) (sees_in state.people caller) state.datasets up
+    (filter_twice (sees_in state.people caller) state.datasets))
+    (filter_twice (is_spent_of caller) state.spent)

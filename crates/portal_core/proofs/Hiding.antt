@@ -1,0 +1,396 @@
+-- What is hidden from a caller leaves what the caller sees.
+use Rattle.std.proofs.Common.{◌≡◌, ◌≢◌, ℕ, Bool, true, false, ◌&&◌, ◌||◌, List, map, Option, Some, None}
+use Rattle.std.proofs.Common.{refl, sym, ap, ◌∙◌, subst, inl, inr, ◌⊎◌, ◌+◌}
+use Rattle.std.specs.Prelude.{filter, find}
+use Rattle.std.specs.Cmp.{IsTotalOrder}
+use Rattle.std.specs.List.{Contains}
+use Rattle.std.specs.Ordering.{is_eq}
+use Rattle.std.specs.Str.{bytes_eq}
+use Rattle.std.specs.declared.cmp.Ordering.{Ordering}
+use Rattle.std.proofs.lemmas.List.Elements.{filter_agree}
+use Rattle.std.proofs.lemmas.Map.Text.{is_eq-slice_cmp}
+use Rattle.std.proofs.lemmas.Slice.Eq.{bytes_eq-Decides}
+use Rattle.portal_base.specs.declared.caller.Caller.{Caller}
+use Rattle.portal_base.specs.declared.caller.Caller.TheVariants.{Anonymous, Named}
+use Rattle.portal_base.specs.declared.json_value.Json.{Json}
+use Rattle.portal_base.specs.Ordered.{IsAscending, placed, dropped}
+use Rattle.portal_base.proofs.Filtered.{IsIn-filter, filter-IsIn, IsAscending-filter}
+use Rattle.portal_base.proofs.Placed.{Contains-placed, placed-Contains_other, Contains-dropped, dropped-Contains}
+use Rattle.portal_base.proofs.Unique.{IsIn-Contains, Contains-IsIn, unique}
+use Rattle.org_roles.specs.Changed.{changed_people}
+use Rattle.org_roles.specs.Order.{user_cmp, org_cmp, membership_cmp, pair_at}
+use Rattle.org_roles.specs.Order.{user_cmp_total, org_cmp_total, membership_cmp_total}
+use Rattle.org_roles.specs.Peopled.{Peopled, IsPeopled, role_in}
+use Rattle.org_roles.specs.declared.change.OrgChange.{OrgChange}
+use Rattle.org_roles.specs.declared.change.OrgChange.TheVariants.{SetRole, DropRole}
+use Rattle.org_roles.specs.declared.entry.Membership.{Membership}
+use Rattle.org_roles.specs.declared.entry.User.{User}
+use Rattle.org_roles.specs.declared.entry.Org.{Org}
+use Rattle.org_roles.specs.declared.role.Role.{Role}
+use Rattle.org_roles.specs.declared.role.Role.TheVariants.{Member}
+use Rattle.org_roles.proofs.ChangeLemmas.{role_in-with_role_other, role_in-without_role_other}
+use Rattle.org_roles.proofs.PeopleLemmas.{is_eq-membership_cmp}
+use Rattle.packages.specs.Order.{dataset_cmp, dataset_cmp_total}
+use Rattle.packages.specs.declared.package.Package.{Package}
+use Rattle.dataset_answers.specs.Changed.{dataset_at_id}
+use Rattle.dataset_answers.specs.declared.change.DatasetChange.TheVariants as dataset
+use Rattle.portal_calls.specs.declared.answer.Answer.{Answer}
+use Rattle.portal_calls.specs.declared.answer.Answer.TheVariants.{Accepted}
+use Rattle.portal_calls.specs.declared.call.Call.{Call}
+use Rattle.visibility.specs.View.{is_called, user_seen, administers, is_role_seen, people_seen}
+use Rattle.visibility.specs.Visibility.{caller_role, sees_in}
+use Rattle.portal_core.specs.Answer.{answer_to}
+use Rattle.portal_core.specs.Changed.{changed, charged, made, claims_of, is_in_use}
+use Rattle.portal_core.specs.Hidden.{IsHiddenChange, IsHiddenBetween, IsHidden, is_kept, is_caller}
+use Rattle.portal_core.specs.Hidden.{IsIdUnseen, IsRoleUnseen}
+use Rattle.portal_core.specs.State.{State, spent_cmp, spent_cmp_total, bytes_of_user}
+use Rattle.portal_core.specs.Step.{settled, settled_unless}
+use Rattle.portal_core.specs.Valid.{IsValid}
+use Rattle.portal_core.specs.View.{view_of, is_spent_of}
+use Rattle.portal_core.specs.declared.change.Change.{Change}
+use Rattle.portal_core.specs.declared.change.Change.TheVariants.{People, Datasets}
+use Rattle.portal_core.specs.declared.change.Claim.{Claim}
+use Rattle.portal_core.specs.declared.event.Event.TheVariants.{Call as a_call}
+use Rattle.portal_core.specs.declared.spent.Spent.{Spent}
+use Rattle.portal_core.proofs.Changing.{IsSameStanding, is_sysadmin_in-users, is_role_seen-standing, sees_in-standing}
+use Rattle.portal_core.proofs.Changing.{caller_role-own}
+
+-- ---- lists
+
+-- Of two lists in order between which the change is hidden the same is kept.
+filter-hidden : {X : Type 0} (cmp : X → X → Ordering) (o : IsTotalOrder cmp) (p q : X → Bool) (xs ys : List X)
+    → ((x : X) → p x ≡ q x)
+    → IsAscending cmp xs → IsAscending cmp ys → IsHiddenChange p q xs ys → filter p xs ≡ filter q ys
+filter-hidden cmp o p q xs ys same up_x up_y hidden =
+    unique cmp o (filter p xs) (filter p ys) (IsAscending-filter cmp p xs up_x) (IsAscending-filter cmp p ys up_y)
+    (λ z m. let was = IsIn-filter p z xs m in
+    filter-IsIn p z ys (IsIn-Contains z ys (hidden.stays z (Contains-IsIn z xs was.0) was.1)) was.1)
+    (λ z m. let now = IsIn-filter p z ys m in
+    filter-IsIn p z xs (IsIn-Contains z xs (hidden.stood z (Contains-IsIn z ys now.0) (sym (same z) ∙ now.1))) now.1)
+    ∙ filter_agree p q same ys
+
+-- where everything is kept a hidden change is none
+same_list : {X : Type 0} (cmp : X → X → Ordering) (o : IsTotalOrder cmp) (xs ys : List X) → IsAscending cmp xs
+    → IsAscending cmp ys
+    → IsHiddenChange is_kept is_kept xs ys → xs ≡ ys
+same_list cmp o xs ys up_x up_y hidden =
+    unique cmp o xs ys up_x up_y
+    (λ z m. IsIn-Contains z ys (hidden.stays z (Contains-IsIn z xs m) refl))
+    (λ z m. IsIn-Contains z xs (hidden.stood z (Contains-IsIn z ys m) refl))
+
+-- no change is hidden
+hidden-none : {X : Type 0} (p q : X → Bool) (xs : List X) → IsHiddenChange p q xs xs
+hidden-none p q xs = record { stays = λ x m k. m; stood = λ x m k. m }
+
+-- an item that isn't kept is placed, where what is like it wasn't kept
+hidden-placed : {X : Type 0} (cmp : X → X → Ordering) (p q : X → Bool) (x : X) (xs : List X) → q x ≡ false
+    → ((z : X) → Contains xs z → is_eq (cmp z x) ≡ true → p z ≡ false) → IsHiddenChange p q xs (placed cmp x xs)
+hidden-placed {X} cmp p q x xs unseen hides = record {
+  stays = λ z m kept. placed-Contains_other cmp x z xs m (apart z m kept (is_eq (cmp z x)) refl);
+  stood = λ z m kept. by z (Contains-placed cmp x z xs m) kept;
+}
+  where
+    apart : (z : X) → Contains xs z → p z ≡ true → (b : Bool) → is_eq (cmp z x) ≡ b → is_eq (cmp z x) ≡ false
+    apart z m kept true is = let not_kept : p z ≡ false = hides z m is in absurd (cc)
+    apart z m kept false is = is
+
+    by : (z : X) → (z ≡ x) ⊎ (Contains xs z × (is_eq (cmp z x) ≡ false)) → q z ≡ true → Contains xs z
+    by z (inl is) kept = let not_kept : q z ≡ false = ap q is ∙ unseen in absurd (cc)
+    by z (inr was) kept = was.0
+
+-- what wasn't kept is dropped
+hidden-dropped : {X : Type 0} (at : X → Ordering) (p q : X → Bool) (xs : List X)
+    → ((z : X) → Contains xs z → is_eq (at z) ≡ true → p z ≡ false) → IsHiddenChange p q xs (dropped at xs)
+hidden-dropped {X} at p q xs hides = record {
+  stays = λ z m kept. dropped-Contains at z xs m (apart z m kept (is_eq (at z)) refl);
+  stood = λ z m kept. (Contains-dropped at z xs m).0;
+}
+  where
+    apart : (z : X) → Contains xs z → p z ≡ true → (b : Bool) → is_eq (at z) ≡ b → is_eq (at z) ≡ false
+    apart z m kept true is = let not_kept : p z ≡ false = hides z m is in absurd (cc)
+    apart z m kept false is = is
+
+-- ---- roles
+
+or_true : (a b : Bool) → b ≡ true → (a || b) ≡ true
+or_true true b is = refl
+or_true false b is = is
+
+-- the caller's own roles are kept, so none of them changes
+own_roles : (caller : Caller) (p q : Peopled)
+    → IsHiddenChange (is_role_seen p caller) (is_role_seen q caller) p.roles q.roles
+    → IsHiddenChange (λ m. is_called caller m.user) (λ m. is_called caller m.user) p.roles q.roles
+own_roles caller p q hidden = record {
+  stays = λ m was own. hidden.stays m was (or_true (administers p caller m.org) (is_called caller m.user) own);
+  stood = λ m now own. hidden.stood m now (or_true (administers q caller m.org) (is_called caller m.user) own);
+}
+
+-- ---- the people
+
+standing : (caller : Caller) (s t : State) → IsPeopled s.people → IsPeopled t.people → IsHiddenBetween caller s t
+    → IsSameStanding caller s.people t.people
+standing caller s t in_s in_t hidden = (
+  is_sysadmin_in-users caller s.people t.people
+      (same_list user_cmp user_cmp_total s.people.users t.people.users in_s.users in_t.users hidden.users),
+  caller_role-own caller s.people t.people
+      (filter-hidden membership_cmp membership_cmp_total (λ m. is_called caller m.user)
+      (λ m. is_called caller m.user) s.people.roles t.people.roles (λ m. refl) in_s.roles in_t.roles
+      (own_roles caller s.people t.people hidden.roles)),
+)
+
+abbrev peopled : List User → List Org → List Membership → Peopled
+peopled users orgs roles = record { users = users; orgs = orgs; roles = roles }
+
+same_people : {us vs : List User} {os ps : List Org} {ms ns : List Membership} → us ≡ vs → os ≡ ps → ms ≡ ns
+    → peopled us os ms ≡ peopled vs ps ns
+same_people users orgs roles = rw (users, orgs, roles) refl
+
+people_seen-hidden : (caller : Caller) (s t : State) → IsPeopled s.people → IsPeopled t.people
+    → IsHiddenBetween caller s t
+    → people_seen caller s.people ≡ people_seen caller t.people
+people_seen-hidden caller s t in_s in_t hidden =
+    let users : s.people.users ≡ t.people.users =
+    same_list user_cmp user_cmp_total s.people.users t.people.users in_s.users in_t.users hidden.users in
+    let orgs : s.people.orgs ≡ t.people.orgs = same_list org_cmp org_cmp_total s.people.orgs t.people.orgs in_s.orgs
+    in_t.orgs hidden.orgs in
+    let roles : filter (is_role_seen s.people caller) s.people.roles
+    ≡ filter (is_role_seen t.people caller) t.people.roles =
+    filter-hidden membership_cmp membership_cmp_total (is_role_seen s.people caller) (is_role_seen t.people caller)
+    s.people.roles t.people.roles
+    (is_role_seen-standing caller s.people t.people (standing caller s t in_s in_t hidden)) in_s.roles in_t.roles
+    hidden.roles in
+    same_people (ap (map (user_seen caller)) users) orgs roles
+
+-- ---- the view
+
+-- a caller sees the same of two valid states between which everything is hidden from it
+pub view_of-hidden : (caller : Caller) (s t : State) → IsValid s → IsValid t → IsHiddenBetween caller s t
+    → view_of caller s ≡ view_of caller t
+view_of-hidden caller s t in_s in_t hidden =
+    let same = standing caller s t in_s.people in_t.people hidden in
+    let datasets : filter (sees_in s.people caller) s.datasets ≡ filter (sees_in t.people caller) t.datasets =
+    filter-hidden dataset_cmp dataset_cmp_total (sees_in s.people caller) (sees_in t.people caller) s.datasets
+    t.datasets (sees_in-standing caller s.people t.people same) in_s.datasets in_t.datasets hidden.datasets in
+    let spent : filter (is_spent_of caller) s.spent ≡ filter (is_spent_of caller) t.spent =
+    filter-hidden spent_cmp spent_cmp_total (is_spent_of caller) (is_spent_of caller) s.spent t.spent (λ e. refl)
+    in_s.spent in_t.spent hidden.spent in
+    rw (people_seen-hidden caller s t in_s.people in_t.people hidden, datasets, spent) refl
+
+-- ---- what is charged
+
+other_user : (caller other : Caller) → is_caller caller other ≡ false → (user : List ℕ) → other ≡ Named user
+    → is_called caller user ≡ false
+other_user Anonymous other others user is = refl
+other_user (Named name) other others user is = sym (ap (is_caller (Named name)) is) ∙ others
+
+charged-hidden : (caller other : Caller) (size : ℕ) (state : State) → is_caller caller other ≡ false
+    → IsHiddenChange (is_spent_of caller) (is_spent_of caller) state.spent (charged other size state).spent
+charged-hidden caller Anonymous size state others = hidden-none (is_spent_of caller) (is_spent_of caller) state.spent
+charged-hidden caller (Named user) size state others =
+    let unseen : is_called caller user ≡ false = other_user caller (Named user) others user refl in
+    let entry : Spent = record { user = user; bytes = bytes_of_user user state.spent + size } in
+    hidden-placed spent_cmp (is_spent_of caller) (is_spent_of caller) entry state.spent unseen
+    (λ z m like. ap (is_called caller) ((bytes_eq-Decides z.user user).0 (sym (is_eq-slice_cmp z.user user) ∙ like))
+    ∙ unseen)
+
+people-charged : (caller : Caller) (size : ℕ) (state : State) → (charged caller size state).people ≡ state.people
+people-charged Anonymous size state = refl
+people-charged (Named user) size state = refl
+
+datasets-charged : (caller : Caller) (size : ℕ) (state : State)
+    → (charged caller size state).datasets ≡ state.datasets
+datasets-charged Anonymous size state = refl
+datasets-charged (Named user) size state = refl
+
+spent-charged : (other : Caller) (size : ℕ) (s t : State) → s.spent ≡ t.spent
+    → (charged other size s).spent ≡ (charged other size t).spent
+spent-charged Anonymous size s t same = same
+spent-charged (Named user) size s t same =
+    ap (λ (own : List Spent). placed spent_cmp (record { user = user; bytes = bytes_of_user user own + size }) own)
+    same
+
+-- nothing changes
+unchanged-hidden : (caller : Caller) (state : State) → IsHiddenBetween caller state state
+unchanged-hidden caller state = record {
+  users = hidden-none is_kept is_kept state.people.users;
+  orgs = hidden-none is_kept is_kept state.people.orgs;
+  roles = hidden-none (is_role_seen state.people caller) (is_role_seen state.people caller) state.people.roles;
+  datasets = hidden-none (sees_in state.people caller) (sees_in state.people caller) state.datasets;
+  spent = hidden-none (is_spent_of caller) (is_spent_of caller) state.spent;
+}
+
+-- what a change hides is hidden where it is charged to another caller
+made-hidden : (caller : Caller) (call : Call) (change : Change) (state : State) → is_caller caller call.caller ≡ false
+    → (changed change state).spent ≡ state.spent → IsHiddenBetween caller state (changed change state)
+    → IsHiddenBetween caller state (made call change state)
+made-hidden caller call change state others left hidden =
+    let now : State = changed change state in
+    let Between : Peopled → List Package → List Spent → Type 0 =
+    λ people datasets spent. IsHiddenBetween caller state
+    (record { people = people; datasets = datasets; spent = spent }) in
+    let spent : IsHiddenChange (is_spent_of caller) (is_spent_of caller) state.spent
+    (charged call.caller call.size now).spent =
+    subst (IsHiddenChange (is_spent_of caller) (is_spent_of caller) state.spent)
+    (spent-charged call.caller call.size state now (sym left))
+    (charged-hidden caller call.caller call.size state others) in
+    let there : Between now.people now.datasets (charged call.caller call.size now).spent = record {
+      users = hidden.users;
+      orgs = hidden.orgs;
+      roles = hidden.roles;
+      datasets = hidden.datasets;
+      spent = spent;
+    } in
+    subst (λ (people : Peopled). Between people (made call change state).datasets (made call change state).spent)
+    (sym (people-charged call.caller call.size now))
+    (subst (λ (datasets : List Package). Between now.people datasets (made call change state).spent)
+    (sym (datasets-charged call.caller call.size now)) there)
+
+-- a call of another caller that accepts a hidden change is hidden
+accepted-hidden : (caller : Caller) (call : Call) (json : Json) (change : Change) (state : State)
+    → is_caller caller call.caller ≡ false → answer_to call (view_of call.caller state) ≡ Accepted json change
+    → IsHiddenBetween caller state (made call change state) → IsHidden caller state (a_call call)
+accepted-hidden caller call json change state others answers hidden = record {
+  others = others;
+  between =
+      subst (λ (a : Answer Change). IsHiddenBetween caller state (settled a call state).state) (sym answers)
+      (by (find (is_in_use state) (claims_of change)));
+}
+  where
+    by : (claim : Option Claim) → IsHiddenBetween caller state (settled_unless claim call json change state).state
+    by None = hidden
+    by (Some c) = unchanged-hidden caller state
+
+-- ---- datasets
+
+placed-hidden : (caller : Caller) (state : State) (d : Package) → sees_in state.people caller d ≡ false
+    → IsIdUnseen caller state d.id
+    → IsHiddenBetween caller state (record state { datasets = placed dataset_cmp d state.datasets })
+placed-hidden caller state d unseen before = record {
+  users = hidden-none is_kept is_kept state.people.users;
+  orgs = hidden-none is_kept is_kept state.people.orgs;
+  roles = hidden-none (is_role_seen state.people caller) (is_role_seen state.people caller) state.people.roles;
+  datasets = hidden-placed dataset_cmp (sees_in state.people caller) (sees_in state.people caller) d state.datasets
+      unseen
+      (λ z m like. before z m ((bytes_eq-Decides z.id d.id).0 (sym (is_eq-slice_cmp z.id d.id) ∙ like)));
+  spent = hidden-none (is_spent_of caller) (is_spent_of caller) state.spent;
+}
+
+pub creation-hidden : (caller : Caller) (state : State) (call : Call) (json : Json) (d : Package)
+    → is_caller caller call.caller ≡ false
+    → answer_to call (view_of call.caller state) ≡ Accepted json (Datasets (dataset.Create d))
+    → sees_in state.people caller d ≡ false → IsIdUnseen caller state d.id → IsHidden caller state (a_call call)
+creation-hidden caller state call json d others answers unseen before =
+    accepted-hidden caller call json (Datasets (dataset.Create d)) state others answers
+    (made-hidden caller call (Datasets (dataset.Create d)) state others refl
+    (placed-hidden caller state d unseen before))
+
+pub replacement-hidden : (caller : Caller) (state : State) (call : Call) (json : Json) (d : Package)
+    → is_caller caller call.caller ≡ false
+    → answer_to call (view_of call.caller state) ≡ Accepted json (Datasets (dataset.Replace d))
+    → sees_in state.people caller d ≡ false → IsIdUnseen caller state d.id → IsHidden caller state (a_call call)
+replacement-hidden caller state call json d others answers unseen before =
+    accepted-hidden caller call json (Datasets (dataset.Replace d)) state others answers
+    (made-hidden caller call (Datasets (dataset.Replace d)) state others refl
+    (placed-hidden caller state d unseen before))
+
+pub removal-hidden : (caller : Caller) (state : State) (call : Call) (json : Json) (id : List ℕ)
+    → is_caller caller call.caller ≡ false
+    → answer_to call (view_of call.caller state) ≡ Accepted json (Datasets (dataset.Remove id))
+    → IsIdUnseen caller state id → IsHidden caller state (a_call call)
+removal-hidden caller state call json id others answers before =
+    accepted-hidden caller call json (Datasets (dataset.Remove id)) state others answers
+    (made-hidden caller call (Datasets (dataset.Remove id)) state others refl
+    (record {
+      users = hidden-none is_kept is_kept state.people.users;
+      orgs = hidden-none is_kept is_kept state.people.orgs;
+      roles = hidden-none (is_role_seen state.people caller) (is_role_seen state.people caller) state.people.roles;
+      datasets = hidden-dropped (dataset_at_id id) (sees_in state.people caller) (sees_in state.people caller)
+          state.datasets
+          (λ z m like. before z m ((bytes_eq-Decides z.id id).0 (sym (is_eq-slice_cmp z.id id) ∙ like)));
+      spent = hidden-none (is_spent_of caller) (is_spent_of caller) state.spent;
+    }))
+
+-- ---- roles of others elsewhere
+
+either : (a b : Bool) → a ≡ false → b ≡ false → (a || b) ≡ false
+either a b is_a is_b = rw (is_a, is_b) refl
+
+-- another user's role is hidden in an organization that the caller doesn't administer
+role_hidden : (caller : Caller) (people : Peopled) (org user : List ℕ) → IsRoleUnseen caller people org user
+    → (m : Membership) → (bytes_eq m.org org && bytes_eq m.user user) ≡ true
+    → is_role_seen people caller m ≡ false
+role_hidden caller people org user unseen m like = by (bytes_eq m.org org) refl (bytes_eq m.user user) refl like
+  where
+    by : (a : Bool) → bytes_eq m.org org ≡ a → (b : Bool) → bytes_eq m.user user ≡ b → (a && b) ≡ true
+        → is_role_seen people caller m ≡ false
+    by true in_org true of_user l =
+        rw ((bytes_eq-Decides m.org org).0 in_org, (bytes_eq-Decides m.user user).0 of_user)
+        (either (administers people caller org) (is_called caller user) unseen.elsewhere unseen.others)
+    by true in_org false of_user l = absurd (cc)
+    by false in_org b of_user l = absurd (cc)
+
+-- roles of another user don't touch the caller's standing
+others_standing : (caller : Caller) (p q : Peopled) (user : List ℕ) → is_called caller user ≡ false
+    → q.users ≡ p.users → ((org name : List ℕ) → name ≢ user → role_in q org name ≡ role_in p org name)
+    → IsSameStanding caller q p
+others_standing caller p q user others users roles =
+    (is_sysadmin_in-users caller q p users, λ org. by caller org others)
+  where
+    by : (c : Caller) (org : List ℕ) → is_called c user ≡ false → caller_role q c org ≡ caller_role p c org
+    by Anonymous org other = refl
+    by (Named name) org other =
+        roles org name (λ is. let same : bytes_eq name user ≡ true = (bytes_eq-Decides name user).1 is in cc)
+
+-- between people who differ in roles that are hidden from a caller whose standing is the same all is hidden
+roles-hidden : (caller : Caller) (state : State) (change : OrgChange)
+    → (changed_people change state.people).users ≡ state.people.users
+    → (changed_people change state.people).orgs ≡ state.people.orgs
+    → IsSameStanding caller (changed_people change state.people) state.people
+    → IsHiddenChange (is_role_seen state.people caller) (is_role_seen state.people caller) state.people.roles
+    (changed_people change state.people).roles
+    → IsHiddenBetween caller state (changed (People change) state)
+roles-hidden caller state change users orgs same roles =
+    let now : Peopled = changed_people change state.people in
+    record {
+      users = subst (IsHiddenChange is_kept is_kept state.people.users) (sym users)
+          (hidden-none is_kept is_kept state.people.users);
+      orgs = subst (IsHiddenChange is_kept is_kept state.people.orgs) (sym orgs)
+          (hidden-none is_kept is_kept state.people.orgs);
+      roles = record {
+        stays = roles.stays;
+        stood = λ m after kept. roles.stood m after (sym (is_role_seen-standing caller now state.people same m) ∙ kept);
+      };
+      datasets = record { stays = λ d m k. m; stood = λ d m k. m };
+      spent = hidden-none (is_spent_of caller) (is_spent_of caller) state.spent;
+    }
+
+pub role-hidden : (caller : Caller) (state : State) (call : Call) (json : Json) (org user : List ℕ) (role : Role)
+    → is_caller caller call.caller ≡ false
+    → answer_to call (view_of call.caller state) ≡ Accepted json (People (SetRole org user role))
+    → IsRoleUnseen caller state.people org user → IsHidden caller state (a_call call)
+role-hidden caller state call json org user role others answers unseen =
+    let m : Membership = record { org = org; user = user; role = role } in
+    accepted-hidden caller call json (People (SetRole org user role)) state others answers
+    (made-hidden caller call (People (SetRole org user role)) state others refl
+    (roles-hidden caller state (SetRole org user role) refl refl
+    (others_standing caller state.people (changed_people (SetRole org user role) state.people) user unseen.others refl
+    (λ other name differs. role_in-with_role_other m state.people other name (inr differs)))
+    (hidden-placed membership_cmp (is_role_seen state.people caller) (is_role_seen state.people caller) m
+    state.people.roles
+    (either (administers state.people caller org) (is_called caller user) unseen.elsewhere unseen.others)
+    (λ z was like. role_hidden caller state.people org user unseen z (sym (is_eq-membership_cmp z m) ∙ like)))))
+
+pub former-role-hidden : (caller : Caller) (state : State) (call : Call) (json : Json) (org user : List ℕ)
+    → is_caller caller call.caller ≡ false
+    → answer_to call (view_of call.caller state) ≡ Accepted json (People (DropRole org user))
+    → IsRoleUnseen caller state.people org user → IsHidden caller state (a_call call)
+former-role-hidden caller state call json org user others answers unseen =
+    let m : Membership = record { org = org; user = user; role = Member } in
+    accepted-hidden caller call json (People (DropRole org user)) state others answers
+    (made-hidden caller call (People (DropRole org user)) state others refl
+    (roles-hidden caller state (DropRole org user) refl refl
+    (others_standing caller state.people (changed_people (DropRole org user) state.people) user unseen.others refl
+    (λ other name differs. role_in-without_role_other state.people org user other name (inr differs)))
+    (hidden-dropped (pair_at org user) (is_role_seen state.people caller) (is_role_seen state.people caller)
+    state.people.roles
+    (λ z was like. role_hidden caller state.people org user unseen z (sym (is_eq-membership_cmp z m) ∙ like)))))

@@ -1,0 +1,206 @@
+-- Equal views are answered alike, and what is accepted leaves equal views.
+use Rattle.std.proofs.Common.{◌≡◌, ℕ, true, false, ◌&&◌, List, refl, sym, ap, ◌∙◌, subst, ◌+◌, Option, cond}
+use Rattle.std.specs.Prelude.{filter, unwrap_or, nat_le}
+use Rattle.std.specs.Option.{option_map}
+use Rattle.std.specs.Str.{bytes_eq}
+use Rattle.std.proofs.lemmas.Slice.Eq.{bytes_eq-Decides}
+use Rattle.portal_base.specs.declared.caller.Caller.{Caller}
+use Rattle.portal_base.specs.declared.caller.Caller.TheVariants.{Anonymous, Named}
+use Rattle.portal_base.specs.Ordered.{IsAscending, placed, dropped}
+use Rattle.portal_base.proofs.Filtered.{list_all-IsIn}
+use Rattle.portal_base.proofs.Placed.{filter-placed}
+use Rattle.org_roles.specs.declared.change.OrgChange.{OrgChange}
+use Rattle.org_roles.specs.declared.change.OrgChange.TheVariants.{Create, Patch, Remove, SetRole, DropRole}
+use Rattle.organization_answers.specs.Fit.{IsFitOrg}
+use Rattle.portal_calls.specs.Answer.{AcceptsOnly}
+use Rattle.portal_calls.specs.declared.answer.Answer.{Answer}
+use Rattle.portal_calls.specs.declared.answer.Answer.TheVariants.{Shown, Refused, Accepted}
+use Rattle.portal_calls.specs.declared.call.Call.{Call}
+use Rattle.visibility.specs.Visibility.{is_open_if_harvested}
+use Rattle.visibility.proofs.Viewing.{find-kept, called_by_name}
+use Rattle.portal_core.specs.Answer.{asked_of, answer_to, quota_of, quota_if}
+use Rattle.portal_core.specs.Changed.{changed, charged, made}
+use Rattle.portal_core.specs.Fit.{IsFit}
+use Rattle.portal_core.specs.Isolation.{tells_of_use}
+use Rattle.portal_core.specs.State.{State, spent_cmp, spent_cmp_total, bytes_of, bytes_of_user}
+use Rattle.portal_core.specs.Step.{Outcome, settled, call_step}
+use Rattle.portal_core.specs.Valid.{IsValid}
+use Rattle.portal_core.specs.View.{view_of, is_spent_of}
+use Rattle.portal_core.specs.declared.change.Change.{Change}
+use Rattle.portal_core.specs.declared.change.Change.TheVariants.{People, Datasets}
+use Rattle.portal_core.specs.declared.spent.Spent.{Spent}
+use Rattle.portal_core.specs.declared.spent.TheConstants.{QUOTA}
+use Rattle.portal_core.proofs.Answering.{answer_fit}
+use Rattle.portal_core.proofs.Changing.{IsOwn, IsOwnChange, changed-seen}
+use Rattle.portal_core.proofs.Fitting.{fit_in_state}
+use Rattle.portal_core.proofs.Keeping.{harvested_open}
+use Rattle.portal_core.proofs.Settling.{quiet-unused, accepted-unused, settled_unused}
+
+-- ---- replies
+
+pub settled_alike : (answer : Answer Change) (call : Call) (s t : State)
+    → tells_of_use (settled answer call s).reply ≡ false → tells_of_use (settled answer call t).reply ≡ false
+    → (settled answer call s).reply ≡ (settled answer call t).reply
+settled_alike (Shown json) call s t first second = refl
+settled_alike (Refused denial) call s t first second = refl
+settled_alike (Accepted json change) call s t first second =
+    rw (
+      settled_unused json change call s (quiet-unused json change call s first),
+      settled_unused json change call t (quiet-unused json change call t second),
+    ) refl
+
+pub replies_alike : (s t : State) (call : Call) → view_of call.caller s ≡ view_of call.caller t
+    → tells_of_use (call_step s call).reply ≡ false → tells_of_use (call_step t call).reply ≡ false
+    → (call_step s call).reply ≡ (call_step t call).reply
+replies_alike s t call same first second =
+    let onto : answer_to call (view_of call.caller s) ≡ answer_to call (view_of call.caller t) =
+    ap (answer_to call) same in
+    let first_there : tells_of_use (settled (answer_to call (view_of call.caller t)) call s).reply ≡ false =
+    subst (λ (a : Answer Change). tells_of_use (settled a call s).reply ≡ false) onto first in
+    ap (λ (a : Answer Change). (settled a call s).reply) onto
+    ∙ settled_alike (answer_to call (view_of call.caller t)) call s t first_there second
+
+-- ---- what is charged
+
+own_user : (user : List ℕ) (s : Spent)
+    → (bytes_eq s.user user && is_spent_of (Named user) s) ≡ bytes_eq s.user user
+own_user user s = called_by_name s.user user
+
+-- the caller sees what it was charged
+bytes-seen : (user : List ℕ) (spent : List Spent)
+    → bytes_of_user user (filter (is_spent_of (Named user)) spent) ≡ bytes_of_user user spent
+bytes-seen user spent =
+    ap (λ (o : Option Spent). unwrap_or (option_map (λ (s : Spent). s.bytes) o) 0)
+    (find-kept (λ (s : Spent). bytes_eq s.user user) (is_spent_of (Named user)) (own_user user) spent)
+
+-- so the caller's quota is seen
+pub quota_seen : (call : Call) (spent : List Spent)
+    → quota_of call (filter (is_spent_of call.caller) spent) ≡ quota_of call spent
+quota_seen call spent = ap (λ (n : ℕ). quota_if (nat_le (n + call.size) QUOTA)) (by call.caller)
+  where
+    by : (caller : Caller) → bytes_of caller (filter (is_spent_of caller) spent) ≡ bytes_of caller spent
+    by Anonymous = refl
+    by (Named user) = bytes-seen user spent
+
+-- the entry of the user with so many bytes more than in the list
+abbrev entry : List ℕ → ℕ → List Spent → Spent
+entry user size spent = record { user = user; bytes = bytes_of_user user spent + size }
+
+-- what the caller sees of what was charged
+charged-seen : (user : List ℕ) (size : ℕ) (spent : List Spent) → IsAscending spent_cmp spent
+    → filter (is_spent_of (Named user)) (placed spent_cmp (entry user size spent) spent)
+    ≡ placed spent_cmp (entry user size (filter (is_spent_of (Named user)) spent))
+    (filter (is_spent_of (Named user)) spent)
+charged-seen user size spent up =
+    let own : List Spent = filter (is_spent_of (Named user)) spent in
+    let mine : bytes_eq user user ≡ true = (bytes_eq-Decides user user).1 refl in
+    filter-placed spent_cmp spent_cmp_total (is_spent_of (Named user)) (entry user size spent) spent up
+    ∙ ap (λ b. cond b (placed spent_cmp (entry user size spent) own)
+    (dropped (λ (s : Spent). spent_cmp s (entry user size spent)) own)) mine
+    ∙ ap (λ (n : ℕ). placed spent_cmp (record { user = user; bytes = n + size }) own) (sym (bytes-seen user spent))
+
+charged_alike : (caller : Caller) (size : ℕ) (s t : State) → IsAscending spent_cmp s.spent
+    → IsAscending spent_cmp t.spent → view_of caller s ≡ view_of caller t
+    → view_of caller (charged caller size s) ≡ view_of caller (charged caller size t)
+charged_alike Anonymous size s t up_s up_t same = same
+charged_alike (Named user) size s t up_s up_t same =
+    let people = ap (λ (v : State). v.people) same in
+    let datasets = ap (λ (v : State). v.datasets) same in
+    let spent : filter (is_spent_of (Named user)) s.spent ≡ filter (is_spent_of (Named user)) t.spent =
+    ap (λ (v : State). v.spent) same in
+    let now : filter (is_spent_of (Named user)) (placed spent_cmp (entry user size s.spent) s.spent)
+    ≡ filter (is_spent_of (Named user)) (placed spent_cmp (entry user size t.spent) t.spent) =
+    charged-seen user size s.spent up_s
+    ∙ ap (λ (own : List Spent). placed spent_cmp (entry user size own) own) spent
+    ∙ sym (charged-seen user size t.spent up_t) in
+    rw (people, datasets, now) refl
+
+-- ---- what is changed
+
+-- what is fit is the caller's own to make
+own-people : (change : OrgChange) (call : Call) (state : State) → IsFitOrg (asked_of call state) change
+    → IsOwnChange call.caller state.people change
+own-people (Create org) call state fit = tt
+own-people (Patch org) call state fit = tt
+own-people (Remove name) call state fit = fit.own.administered
+own-people (SetRole org user role) call state fit = fit.own.administered
+own-people (DropRole org user) call state fit = fit.fit.own.administered
+
+own : (change : Change) (call : Call) (state : State) → IsFit (asked_of call state) change
+    → IsOwn call.caller state change
+own (People change) call state fit = own-people change call state fit
+own (Datasets change) call state fit = tt
+
+-- a change leaves what was charged
+spent-left : (change : Change) (state : State) → (changed change state).spent ≡ state.spent
+spent-left (People change) state = refl
+spent-left (Datasets change) state = refl
+
+-- the caller sees of the changed state what it sees of its view with the change made in it
+changed-there : (change : Change) (call : Call) (state : State) → IsValid state
+    → IsFit (asked_of call (view_of call.caller state)) change
+    → view_of call.caller (changed change (view_of call.caller state)) ≡ view_of call.caller (changed change state)
+changed-there change call state valid fit =
+    changed-seen change call.caller state valid.people.roles valid.datasets
+    (λ d within. list_all-IsIn is_open_if_harvested state.datasets (harvested_open state valid) d within)
+    (own change call state (fit_in_state change call state (harvested_open state valid) fit))
+
+made_alike : (change : Change) (call : Call) (s t : State) → IsValid s → IsValid t
+    → view_of call.caller s ≡ view_of call.caller t → IsFit (asked_of call (view_of call.caller t)) change
+    → view_of call.caller (made call change s) ≡ view_of call.caller (made call change t)
+made_alike change call s t in_s in_t same fit =
+    let fit_s : IsFit (asked_of call (view_of call.caller s)) change =
+    subst (λ (v : State). IsFit (asked_of call v) change) (sym same) fit in
+    charged_alike call.caller call.size (changed change s) (changed change t)
+    (subst (IsAscending spent_cmp) (sym (spent-left change s)) in_s.spent)
+    (subst (IsAscending spent_cmp) (sym (spent-left change t)) in_t.spent)
+    (sym (changed-there change call s in_s fit_s)
+    ∙ ap (λ (v : State). view_of call.caller (changed change v)) same
+    ∙ changed-there change call t in_t fit)
+
+-- ---- views
+
+-- what one answer leaves in states of which the caller sees the same, where neither tells of a name or an id in use
+quiet_views : (answer : Answer Change) (call : Call) (s t : State) → IsValid s → IsValid t
+    → view_of call.caller s ≡ view_of call.caller t
+    → AcceptsOnly (IsFit (asked_of call (view_of call.caller t))) answer
+    → tells_of_use (settled answer call s).reply ≡ false → tells_of_use (settled answer call t).reply ≡ false
+    → view_of call.caller (settled answer call s).state ≡ view_of call.caller (settled answer call t).state
+quiet_views (Shown json) call s t in_s in_t same fit first second = same
+quiet_views (Refused denial) call s t in_s in_t same fit first second = same
+quiet_views (Accepted json change) call s t in_s in_t same fit first second =
+    ap (λ (o : Outcome). view_of call.caller o.state)
+    (settled_unused json change call s (quiet-unused json change call s first))
+    ∙ made_alike change call s t in_s in_t same fit
+    ∙ sym (ap (λ (o : Outcome). view_of call.caller o.state)
+    (settled_unused json change call t (quiet-unused json change call t second)))
+
+pub quiet_views_alike : (s t : State) (call : Call) → IsValid s → IsValid t
+    → view_of call.caller s ≡ view_of call.caller t
+    → tells_of_use (call_step s call).reply ≡ false → tells_of_use (call_step t call).reply ≡ false
+    → view_of call.caller (call_step s call).state ≡ view_of call.caller (call_step t call).state
+quiet_views_alike s t call in_s in_t same first second =
+    let onto : answer_to call (view_of call.caller s) ≡ answer_to call (view_of call.caller t) =
+    ap (answer_to call) same in
+    let first_there : tells_of_use (settled (answer_to call (view_of call.caller t)) call s).reply ≡ false =
+    subst (λ (a : Answer Change). tells_of_use (settled a call s).reply ≡ false) onto first in
+    ap (λ (a : Answer Change). view_of call.caller (settled a call s).state) onto
+    ∙ quiet_views (answer_to call (view_of call.caller t)) call s t in_s in_t same
+    (answer_fit call (view_of call.caller t)) first_there second
+
+-- what is accepted tells of no name or id in use
+accepted-quiet : (answer : Answer Change) (call : Call) (state : State)
+    → (settled answer call state).is_accepted ≡ true → tells_of_use (settled answer call state).reply ≡ false
+accepted-quiet (Shown json) call state is = refl
+accepted-quiet (Refused denial) call state is = absurd (cc)
+accepted-quiet (Accepted json change) call state is =
+    rw (settled_unused json change call state (accepted-unused json change call state is)) refl
+
+pub views_alike : (s t : State) (call : Call) → IsValid s → IsValid t
+    → view_of call.caller s ≡ view_of call.caller t
+    → (call_step s call).is_accepted ≡ true → (call_step t call).is_accepted ≡ true
+    → view_of call.caller (call_step s call).state ≡ view_of call.caller (call_step t call).state
+views_alike s t call in_s in_t same first second =
+    quiet_views_alike s t call in_s in_t same
+    (accepted-quiet (answer_to call (view_of call.caller s)) call s first)
+    (accepted-quiet (answer_to call (view_of call.caller t)) call t second)

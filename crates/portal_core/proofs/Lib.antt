@@ -1,0 +1,10 @@
+pub mod Answering
+pub mod Changing
+pub mod Fitting
+pub mod Hiding
+pub mod Histories
+pub mod Isolating
+pub mod Keeping
+pub mod Settling
+pub mod Shelving
+pub mod Viewing

@@ -1,0 +1,142 @@
+-- What an answer comes to in a state.
+use Rattle.std.proofs.Common.{◌≡◌, ◌≢◌, true, false, List, [], ◌∷◌, ◌++◌, Option, Some, None, refl, ap}
+use Rattle.std.specs.Prelude.{find}
+use Rattle.portal_base.specs.declared.json_value.Json.{Json}
+use Rattle.portal_calls.specs.Answer.{AcceptsOnly}
+use Rattle.portal_calls.specs.declared.answer.Answer.{Answer}
+use Rattle.portal_calls.specs.declared.answer.Answer.TheVariants.{Shown, Refused, Accepted}
+use Rattle.portal_calls.specs.declared.answer.Denial.{Denial}
+use Rattle.portal_calls.specs.declared.answer.Denial.TheVariants.{NotFound, NotAuthorized, Validation}
+use Rattle.portal_calls.specs.declared.call.Call.{Call}
+use Rattle.portal_core.specs.Answer.{asked_of, answer_to}
+use Rattle.portal_core.specs.Changed.{changed, made, claims_of, is_in_use, IsUnused}
+use Rattle.portal_core.specs.Fit.{IsFit}
+use Rattle.portal_core.specs.Isolation.{tells_of_use}
+use Rattle.portal_core.specs.State.{State}
+use Rattle.portal_core.specs.Step.{settled, settled_unless, refusal_of, call_step, step_of, replay}
+use Rattle.portal_core.specs.Valid.{IsValid}
+use Rattle.portal_core.specs.View.{view_of}
+use Rattle.portal_core.specs.declared.change.Change.{Change}
+use Rattle.portal_core.specs.declared.change.Claim.{Claim}
+use Rattle.portal_core.specs.declared.event.Event.{Event}
+use Rattle.portal_core.specs.declared.event.Event.TheVariants.{Call as a_call}
+use Rattle.portal_core.specs.declared.event.Refusal.TheVariants.{OutOfMemory}
+use Rattle.portal_core.specs.declared.event.Reply.TheVariants as reply
+use Rattle.portal_core.proofs.Answering.{answer_fit}
+use Rattle.portal_core.proofs.Fitting.{fit_in_state}
+use Rattle.portal_core.proofs.Keeping.{changed_valid, charged_valid, harvested_open}
+
+-- a refusal tells of no name or id in use
+quiet-refusal : (denial : Denial) → tells_of_use (reply.Refused (refusal_of denial)) ≡ false
+quiet-refusal (NotFound kind) = refl
+quiet-refusal (NotAuthorized right) = refl
+quiet-refusal (Validation faults) = refl
+
+-- ---- what is accepted
+
+-- what tells of nothing in use claims nothing in use
+pub quiet-unused : (json : Json) (change : Change) (call : Call) (state : State)
+    → tells_of_use (settled (Accepted json change) call state).reply ≡ false → IsUnused state change
+quiet-unused json change call state quiet = by (find (is_in_use state) (claims_of change)) quiet
+  where
+    by : (claim : Option Claim) → tells_of_use (settled_unless claim call json change state).reply ≡ false
+        → claim ≡ None
+    by None q = refl
+    by (Some c) q = absurd (cc)
+
+-- and so does what is accepted
+pub accepted-unused : (json : Json) (change : Change) (call : Call) (state : State)
+    → (settled (Accepted json change) call state).is_accepted ≡ true → IsUnused state change
+accepted-unused json change call state made_there = by (find (is_in_use state) (claims_of change)) made_there
+  where
+    by : (claim : Option Claim) → (settled_unless claim call json change state).is_accepted ≡ true → claim ≡ None
+    by None m = refl
+    by (Some c) m = absurd (cc)
+
+-- what claims nothing in use is accepted
+pub settled_unused : (json : Json) (change : Change) (call : Call) (state : State) → IsUnused state change
+    → settled (Accepted json change) call state
+    ≡ (record { reply = reply.Accepted json; is_accepted = true; state = made call change state })
+settled_unused json change call state unused =
+    ap (λ (claim : Option Claim). settled_unless claim call json change state) unused
+
+-- ---- what isn't accepted
+
+settled-same : (answer : Answer Change) (call : Call) (state : State) → (settled answer call state).is_accepted ≡ false
+    → (settled answer call state).state ≡ state
+settled-same (Shown json) call state not_made = refl
+settled-same (Refused denial) call state not_made = refl
+settled-same (Accepted json change) call state not_made = by (find (is_in_use state) (claims_of change)) not_made
+  where
+    by : (claim : Option Claim) → (settled_unless claim call json change state).is_accepted ≡ false
+        → (settled_unless claim call json change state).state ≡ state
+    by None m = absurd (cc)
+    by (Some c) m = refl
+
+pub refused-same : (state : State) (event : Event) → (step_of state event).is_accepted ≡ false
+    → (step_of state event).state ≡ state
+refused-same state (a_call call) not_made =
+    settled-same (answer_to call (view_of call.caller state)) call state not_made
+
+-- ---- what is valid stays so
+
+-- in a valid state what is fit where the caller sees things is fit to be made
+pub fit_in_valid : (change : Change) (call : Call) (state : State) → IsValid state
+    → IsFit (asked_of call (view_of call.caller state)) change → IsFit (asked_of call state) change
+fit_in_valid change call state valid fit = fit_in_state change call state (harvested_open state valid) fit
+
+pub made_valid : (change : Change) (call : Call) (state : State) → IsValid state
+    → IsFit (asked_of call (view_of call.caller state)) change → IsUnused state change
+    → IsValid (made call change state)
+made_valid change call state valid fit unused =
+    charged_valid call.caller call.size (changed change state)
+    (changed_valid change call state valid (fit_in_valid change call state valid fit) unused)
+
+settled-valid : (answer : Answer Change) (call : Call) (state : State) → IsValid state
+    → AcceptsOnly (IsFit (asked_of call (view_of call.caller state))) answer
+    → IsValid (settled answer call state).state
+settled-valid (Shown json) call state valid fit = valid
+settled-valid (Refused denial) call state valid fit = valid
+settled-valid (Accepted json change) call state valid fit = by (find (is_in_use state) (claims_of change)) refl
+  where
+    by : (claim : Option Claim) → find (is_in_use state) (claims_of change) ≡ claim
+        → IsValid (settled_unless claim call json change state).state
+    by (Some c) is = valid
+    by None is = made_valid change call state valid fit is
+
+pub step-valid : (state : State) (event : Event) → IsValid state → IsValid (step_of state event).state
+step-valid state (a_call call) valid =
+    settled-valid (answer_to call (view_of call.caller state)) call state valid
+    (answer_fit call (view_of call.caller state))
+
+pub replay-valid : (state : State) (events : List Event) → IsValid state → IsValid (replay state events)
+replay-valid state [] valid = valid
+replay-valid state (e ∷ events) valid = replay-valid (step_of state e).state events (step-valid state e valid)
+
+-- ---- a replay goes on
+
+pub replay-append : (state : State) (events more : List Event)
+    → replay state (events ++ more) ≡ replay (replay state events) more
+replay-append state [] more = refl
+replay-append state (e ∷ events) more = replay-append (step_of state e).state events more
+
+-- ---- no want of memory
+
+refusal_there : (denial : Denial) → reply.Refused (refusal_of denial) ≢ reply.Refused OutOfMemory
+refusal_there (NotFound kind) = λ is. absurd (cc)
+refusal_there (NotAuthorized right) = λ is. absurd (cc)
+refusal_there (Validation faults) = λ is. absurd (cc)
+
+settled_there : (answer : Answer Change) (call : Call) (state : State)
+    → (settled answer call state).reply ≢ reply.Refused OutOfMemory
+settled_there (Shown json) call state = λ is. absurd (cc)
+settled_there (Refused denial) call state = refusal_there denial
+settled_there (Accepted json change) call state = by (find (is_in_use state) (claims_of change))
+  where
+    by : (claim : Option Claim) → (settled_unless claim call json change state).reply ≢ reply.Refused OutOfMemory
+    by None = λ is. absurd (cc)
+    by (Some c) = λ is. absurd (cc)
+
+-- a step is never refused for want of memory
+pub step_there : (state : State) (call : Call) → (call_step state call).reply ≢ reply.Refused OutOfMemory
+step_there state call = settled_there (answer_to call (view_of call.caller state)) call state

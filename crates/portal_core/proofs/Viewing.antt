@@ -1,0 +1,14 @@
+-- What a caller sees of what it sees.
+use Rattle.std.proofs.Common.{◌≡◌, refl}
+use Rattle.portal_base.specs.declared.caller.Caller.{Caller}
+use Rattle.visibility.proofs.Viewing.{filter_twice, people_seen_twice, datasets_seen_twice}
+use Rattle.portal_core.specs.State.{State}
+use Rattle.portal_core.specs.View.{view_of, is_spent_of}
+
+pub view_of-twice : (caller : Caller) (state : State) → view_of caller (view_of caller state) ≡ view_of caller state
+view_of-twice caller state =
+    rw (
+      people_seen_twice caller state.people,
+      datasets_seen_twice caller state.people state.datasets,
+      filter_twice (is_spent_of caller) state.spent,
+    ) refl

@@ -1,0 +1,79 @@
+-- A change, made in the state: the entries that it sets or drops, each by its key, and the names and ids that it
+-- claims.
+use Rattle.std.specs.Prelude.{◌≡◌, ℕ, List, [], ◌∷◌, ◌+◌, codes, Bool, is_some, Option, Some, None, find}
+use Rattle.portal_base.specs.Ordered.{placed}
+use Rattle.portal_base.specs.declared.caller.Caller.{Caller}
+use Rattle.portal_base.specs.declared.caller.Caller.TheVariants.{Anonymous, Named}
+use Rattle.org_roles.specs.Changed.{changed_people}
+use Rattle.org_roles.specs.Peopled.{org_in}
+use Rattle.org_roles.specs.declared.change.OrgChange.{OrgChange}
+use Rattle.org_roles.specs.declared.change.OrgChange.TheVariants as org
+use Rattle.dataset_answers.specs.Changed.{changed_datasets, has_name, has_id}
+use Rattle.dataset_answers.specs.declared.change.DatasetChange.{DatasetChange}
+use Rattle.dataset_answers.specs.declared.change.DatasetChange.TheVariants as dataset
+use Rattle.portal_calls.specs.declared.call.Call.{Call}
+use Rattle.portal_core.specs.State.{State, spent_cmp, bytes_of_user}
+use Rattle.portal_core.specs.declared.change.Change.{Change}
+use Rattle.portal_core.specs.declared.change.Change.TheVariants.{People, Datasets}
+use Rattle.portal_core.specs.declared.change.Claim.{Claim}
+use Rattle.portal_core.specs.declared.change.Claim.TheVariants.{OrgName, DatasetName, DatasetId}
+use Rattle.portal_core.specs.declared.spent.Spent.{Spent}
+
+-- ---- the change
+
+-- the state with the change made
+abbrev pub changed : Change → State → State
+changed (People change) state = record state { people = changed_people change state.people }
+changed (Datasets change) state = record state { datasets = changed_datasets change state.datasets }
+
+-- what is charged to the caller: its entry with so many bytes more; nobody has none
+abbrev pub charge_of : Caller → ℕ → List Spent → Option Spent
+charge_of Anonymous size spent = None
+charge_of (Named user) size spent = Some (record { user = user; bytes = bytes_of_user user spent + size })
+
+abbrev pub with_charge : Option Spent → State → State
+with_charge None state = state
+with_charge (Some entry) state = record state { spent = placed spent_cmp entry state.spent }
+
+-- the state with so many bytes more accepted from the caller
+abbrev pub charged : Caller → ℕ → State → State
+charged caller size state = with_charge (charge_of caller size state.spent) state
+
+-- the state with the change made, and the call's size charged for it
+abbrev pub made : Call → Change → State → State
+made call change state = charged call.caller call.size (changed change state)
+
+-- ---- what it claims
+
+abbrev pub claims_of_people : OrgChange → List Claim
+claims_of_people (org.Create o) = OrgName o.name ∷ []
+claims_of_people (org.Patch o) = []
+claims_of_people (org.Remove name) = []
+claims_of_people (org.SetRole name user role) = []
+claims_of_people (org.DropRole name user) = []
+
+abbrev pub claims_of_datasets : DatasetChange → List Claim
+claims_of_datasets (dataset.Create d) = DatasetName d.name ∷ DatasetId d.id ∷ []
+claims_of_datasets (dataset.Replace d) = []
+claims_of_datasets (dataset.Remove id) = []
+
+-- the names and ids that a change wants for its own, in the order in which they are told of
+abbrev pub claims_of : Change → List Claim
+claims_of (People change) = claims_of_people change
+claims_of (Datasets change) = claims_of_datasets change
+
+-- something of that kind in the state has the name or the id
+abbrev pub is_in_use : State → Claim → Bool
+is_in_use state (OrgName name) = is_some (org_in state.people name)
+is_in_use state (DatasetName name) = has_name name state.datasets
+is_in_use state (DatasetId id) = has_id id state.datasets
+
+-- the key on which a claim is told of
+abbrev pub key_of : Claim → List ℕ
+key_of (OrgName name) = codes "name"
+key_of (DatasetName name) = codes "name"
+key_of (DatasetId id) = codes "id"
+
+-- nothing that the change claims is in use
+abbrev pub IsUnused : State → Change → Type 0
+IsUnused state change = find (is_in_use state) (claims_of change) ≡ None

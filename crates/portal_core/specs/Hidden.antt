@@ -1,0 +1,65 @@
+-- Which events are hidden from a caller.
+use Rattle.std.specs.Prelude.{◌≡◌, ℕ, Bool, true, false, List}
+use Rattle.std.specs.List.{Contains}
+use Rattle.std.specs.Str.{bytes_eq}
+use Rattle.portal_base.specs.declared.caller.Caller.{Caller}
+use Rattle.portal_base.specs.declared.caller.Caller.TheVariants.{Anonymous, Named}
+use Rattle.org_roles.specs.Peopled.{Peopled}
+use Rattle.packages.specs.declared.package.Package.{Package}
+use Rattle.visibility.specs.View.{administers, is_called, is_role_seen}
+use Rattle.visibility.specs.Visibility.{sees_in}
+use Rattle.portal_core.specs.State.{State}
+use Rattle.portal_core.specs.Step.{step_of}
+use Rattle.portal_core.specs.View.{is_spent_of}
+use Rattle.portal_core.specs.declared.event.Event.{Event}
+use Rattle.portal_core.specs.declared.event.Event.TheVariants.{Call as a_call}
+
+-- the two callers are one
+abbrev pub is_caller : Caller → Caller → Bool
+is_caller Anonymous Anonymous = true
+is_caller Anonymous (Named other) = false
+is_caller (Named user) Anonymous = false
+is_caller (Named user) (Named other) = bytes_eq user other
+
+-- the event is a call of the caller
+abbrev pub is_call_of : Caller → Event → Bool
+is_call_of caller (a_call call) = is_caller caller call.caller
+
+-- What is kept of a list before stands in it after, and what is kept of it after stood in it before. So each item that
+-- was added, changed or removed is kept neither before nor after.
+pub record IsHiddenChange {X : Type 0} (kept_before kept_after : X → Bool) (before after : List X) : Type 0 where
+  pub stays : (x : X) → Contains before x → kept_before x ≡ true → Contains after x
+  pub stood : (x : X) → Contains after x → kept_after x ≡ true → Contains before x
+
+-- a view keeps every user's name and every organization
+abbrev pub is_kept : {X : Type 0} → X → Bool
+is_kept x = true
+
+-- Between the two states each entry that was added, changed or removed is one that the caller's view keeps neither
+-- before nor after.
+pub record IsHiddenBetween (caller : Caller) (before after : State) : Type 0 where
+  pub users : IsHiddenChange is_kept is_kept before.people.users after.people.users
+  pub orgs : IsHiddenChange is_kept is_kept before.people.orgs after.people.orgs
+  pub roles : IsHiddenChange (is_role_seen before.people caller) (is_role_seen after.people caller)
+      before.people.roles after.people.roles
+  pub datasets : IsHiddenChange (sees_in before.people caller) (sees_in after.people caller) before.datasets
+      after.datasets
+  pub spent : IsHiddenChange (is_spent_of caller) (is_spent_of caller) before.spent after.spent
+
+-- The event is hidden from the caller: it is no call of the caller's, and changes only what the caller's view doesn't
+-- keep.
+pub record IsHidden (caller : Caller) (state : State) (event : Event) : Type 0 where
+  pub others : is_call_of caller event ≡ false
+  pub between : IsHiddenBetween caller state (step_of state event).state
+
+-- ---- what a caller doesn't see of a change
+
+-- the caller sees none of the datasets of that id
+abbrev pub IsIdUnseen : Caller → State → List ℕ → Type 0
+IsIdUnseen caller state id =
+    (d : Package) → Contains state.datasets d → d.id ≡ id → sees_in state.people caller d ≡ false
+
+-- the caller neither administers the organization nor is the user
+pub record IsRoleUnseen (caller : Caller) (people : Peopled) (org user : List ℕ) : Type 0 where
+  pub elsewhere : administers people caller org ≡ false
+  pub others : is_called caller user ≡ false

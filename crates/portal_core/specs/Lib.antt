@@ -1,0 +1,12 @@
+pub mod Answer
+pub mod Changed
+pub mod Fit
+pub mod Hidden
+pub mod History
+pub mod Isolation
+pub mod Opened
+pub mod Parts
+pub mod State
+pub mod Step
+pub mod Valid
+pub mod View

@@ -1,0 +1,108 @@
+-- The portal's parts, and changes that are prepared on them.
+use Rattle.std.specs.Prelude.{◌≡◌, ◌<◌, ℕ, ⊤, IsTrue, IsSome, List, Option, Some, None, is_none, vec_len, vec_capacity}
+use Rattle.std.specs.Option.{option_map}
+use Rattle.org_roles.specs.Changed.{IsReady, org_fault}
+use Rattle.packages.specs.Shelf.{Shelved, IsShelved, standing_at, number_in, datasets_of}
+use Rattle.packages.specs.declared.package.Package.{Package}
+use Rattle.dataset_answers.specs.Sound.{IsSound}
+use Rattle.dataset_answers.specs.declared.change.DatasetChange.{DatasetChange}
+use Rattle.dataset_answers.specs.declared.change.DatasetChange.TheVariants as dataset
+use Rattle.portal_core.specs.Changed.{changed, with_charge}
+use Rattle.portal_core.specs.State.{State}
+use Rattle.portal_core.specs.Valid.{IsValid}
+use Rattle.portal_core.specs.declared.change.Change.{Change}
+use Rattle.portal_core.specs.declared.change.Change.TheVariants as made
+use Rattle.portal_core.specs.declared.parts.Parts.{Parts}
+use Rattle.portal_core.specs.declared.parts.Prepared.{Prepared}
+use Rattle.portal_core.specs.declared.parts.PreparedChange.{PreparedChange}
+use Rattle.portal_core.specs.declared.parts.PreparedChange.TheVariants.{People, Put, Replace, Remove}
+use Rattle.portal_core.specs.declared.spent.Spent.{Spent}
+
+-- the state that the parts make up
+abbrev pub state_of : Parts → State
+state_of parts = record {
+  people = parts.people.people;
+  datasets = datasets_of parts.shelf;
+  spent = parts.spent.items;
+}
+
+-- The parts make up a valid state.
+pub record IsWhole (parts : Parts) : Type 0 where
+  pub valid : IsValid (state_of parts)
+  pub shelved : IsShelved parts.shelf
+
+-- a new dataset is sound
+abbrev pub MakesSound : Change → Parts → Type 0
+MakesSound (made.People change) parts = ⊤
+MakesSound (made.Datasets (dataset.Create d)) parts = IsSound parts.people.people d
+MakesSound (made.Datasets (dataset.Replace d)) parts = ⊤
+MakesSound (made.Datasets (dataset.Remove id)) parts = ⊤
+
+-- ---- what can be prepared
+
+-- no dataset has the new one's id or name, as id or as name
+pub record IsFree (shelf : Shelved) (dataset : Package) : Type 0 where
+  pub id : number_in dataset.id shelf ≡ None
+  pub name : number_in dataset.name shelf ≡ None
+
+-- the dataset of that id stands where the id leads
+pub record IsHeld (shelf : Shelved) (id : List ℕ) : Type 0 where
+  pub number : ℕ
+  pub leads : number_in id shelf ≡ Some number
+  pub stands : option_map (λ d. d.id) (standing_at number shelf) ≡ Some id
+
+-- and has that name
+pub record IsHeldAs (shelf : Shelved) (dataset : Package) : Type 0 where
+  pub held : IsHeld shelf dataset.id
+  pub name : option_map (λ d. d.name) (standing_at held.number shelf) ≡ Some dataset.name
+
+-- the shelf can take the change
+abbrev pub IsTakenBy : DatasetChange → Shelved → Type 0
+IsTakenBy (dataset.Create d) shelf = IsFree shelf d
+IsTakenBy (dataset.Replace d) shelf = IsHeldAs shelf d
+IsTakenBy (dataset.Remove id) shelf = IsHeld shelf id
+
+-- the parts refuse the change for nothing
+abbrev pub IsUnrefused : Change → Parts → Type 0
+IsUnrefused (made.People change) parts = IsTrue (is_none (org_fault change parts.people.people))
+IsUnrefused (made.Datasets change) parts = IsTakenBy change parts.shelf
+
+-- ---- what is prepared
+
+-- what the prepared change changes
+abbrev pub change_in : PreparedChange → Change
+change_in (People change) = made.People change
+change_in (Put d) = made.Datasets (dataset.Create d)
+change_in (Replace number d) = made.Datasets (dataset.Replace d)
+change_in (Remove number id) = made.Datasets (dataset.Remove id)
+
+-- the state with the prepared change made and charged
+abbrev pub with_prepared : Prepared → State → State
+with_prepared prepared state = with_charge prepared.charge (changed (change_in prepared.change) state)
+
+-- There is room for the new dataset, and it is free.
+pub record IsPutReady (shelf : Shelved) (dataset : Package) : Type 0 where
+  pub room : IsSome shelf.room
+  pub free : IsFree shelf dataset
+
+-- The dataset at the number has this one's id and name.
+pub record IsReplaceReady (shelf : Shelved) (number : ℕ) (dataset : Package) : Type 0 where
+  pub id : option_map (λ d. d.id) (standing_at number shelf) ≡ Some dataset.id
+  pub name : option_map (λ d. d.name) (standing_at number shelf) ≡ Some dataset.name
+
+-- there is room for the change
+abbrev pub IsChangeReady : PreparedChange → Parts → Type 0
+IsChangeReady (People change) parts = IsReady change parts.people
+IsChangeReady (Put dataset) parts = IsPutReady parts.shelf dataset
+IsChangeReady (Replace number dataset) parts = IsReplaceReady parts.shelf number dataset
+IsChangeReady (Remove number id) parts = option_map (λ d. d.id) (standing_at number parts.shelf) ≡ Some id
+
+-- there is room for what is charged
+abbrev pub IsChargeReady : Option Spent → Parts → Type 0
+IsChargeReady None parts = ⊤
+IsChargeReady (Some entry) parts = vec_len parts.spent < vec_capacity parts.spent
+
+-- A prepared change can be made and charged.
+pub record IsPrepared (prepared : Prepared) (parts : Parts) : Type 0 where
+  pub change : IsChangeReady prepared.change parts
+  pub charge : IsChargeReady prepared.charge parts

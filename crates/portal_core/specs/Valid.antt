@@ -1,0 +1,20 @@
+-- Which states are valid. Every state that a portal comes to is.
+use Rattle.std.specs.Prelude.{◌≡◌, ◌≢◌, []}
+use Rattle.std.specs.List.{All, Contains}
+use Rattle.portal_base.specs.Ordered.{IsAscending}
+use Rattle.org_roles.specs.Peopled.{IsPeopled, AreHoused}
+use Rattle.packages.specs.Order.{dataset_cmp}
+use Rattle.packages.specs.declared.package.Package.{Package}
+use Rattle.dataset_answers.specs.Sound.{IsSound}
+use Rattle.portal_core.specs.State.{State, spent_cmp}
+
+-- Each list strictly ascends by its key, so that no two entries have one. No organization's name is empty, and each
+-- role is one in an organization that stands. No two datasets have one name, and each is sound.
+pub record IsValid (state : State) : Type 0 where
+  pub people : IsPeopled state.people
+  pub orgs : All (λ o. o.name ≢ []) state.people.orgs
+  pub roles : AreHoused state.people
+  pub datasets : IsAscending dataset_cmp state.datasets
+  pub names : (d e : Package) → Contains state.datasets d → Contains state.datasets e → d.name ≡ e.name → d ≡ e
+  pub sound : All (IsSound state.people) state.datasets
+  pub spent : IsAscending spent_cmp state.spent

@@ -1,0 +1,19 @@
+-- What a caller may see of the state.
+use Rattle.std.specs.Prelude.{Bool, filter}
+use Rattle.portal_base.specs.declared.caller.Caller.{Caller}
+use Rattle.visibility.specs.View.{is_called, people_seen, datasets_seen}
+use Rattle.portal_core.specs.State.{State}
+use Rattle.portal_core.specs.declared.spent.Spent.{Spent}
+
+-- what was accepted is the caller's own
+abbrev pub is_spent_of : Caller → Spent → Bool
+is_spent_of caller spent = is_called caller spent.user
+
+-- The state as the caller sees it. The datasets that are seen are seen whole, and of what was accepted the caller's
+-- own.
+abbrev pub view_of : Caller → State → State
+view_of caller state = record {
+  people = people_seen caller state.people;
+  datasets = datasets_seen caller state.people state.datasets;
+  spent = filter (is_spent_of caller) state.spent;
+}

@@ -1,0 +1,284 @@
+//! The portal's parts as one value, and changes of it: all growth is prepared, and then the change is made by a commit
+//! that takes no memory and can't fail.
+ghost use Rattle.std.specs.Prelude.{◌≡◌, IfNone, IfOk, OnErr, OnOk, IsTrue, is_none, find};
+ghost use Rattle.std.specs.Option.{option_map, option_copied};
+ghost use Rattle.portal_base.specs.Ordered.{IsAscending};
+ghost use Rattle.org_roles.specs.Changed.{org_fault, IsReady};
+ghost use Rattle.packages.specs.Shelf.{IsShelved};
+ghost use Rattle.dataset_answers.specs.Sound.{IsSound};
+ghost use Rattle.portal_core.specs.Answer.{asked_of};
+ghost use Rattle.portal_core.specs.Changed.{changed, made, charge_of, with_charge, claims_of, is_in_use, key_of};
+ghost use Rattle.portal_core.specs.Changed.{IsUnused};
+ghost use Rattle.portal_core.specs.Fit.{IsFit};
+ghost use Rattle.portal_core.specs.Parts.{state_of, change_in, with_prepared, IsWhole, MakesSound, IsTakenBy};
+ghost use Rattle.portal_core.specs.Parts.{IsUnrefused};
+ghost use Rattle.portal_core.specs.Parts.{IsPrepared, IsChangeReady, IsChargeReady};
+ghost use Rattle.portal_core.specs.State.{bytes_of, bytes_of_user, spent_cmp};
+
+use crate::change::Change;
+use crate::spent::Spent;
+use dataset_answers::change::DatasetChange;
+use org_roles::change::{OrgChange, OrgFault};
+use org_roles::people::People;
+use org_roles::people::prepared::PreparedOrg;
+use packages::package::Package;
+use packages::shelf::Shelf;
+use portal_base::caller::Caller;
+use portal_base::copy::TryClone;
+use portal_base::ordered::{replace_or_put, reserve};
+use portal_base::text::Text;
+use portal_calls::call::Call;
+use std::alloc::{AllocError, Global};
+
+/// What a portal keeps.
+#[derive(Drop)]
+pub struct Parts {
+    pub people: People,
+    pub shelf: Shelf,
+    pub spent: Vec<Spent>,
+}
+
+/// A change for which there is room.
+#[derive(Drop)]
+pub enum PreparedChange {
+    People(PreparedOrg),
+    /// A new dataset.
+    Put(Package),
+    /// The dataset in place of the one at the number.
+    Replace(u32, Package),
+    /// No dataset at the number, where the one of this id stands.
+    Remove(u32, Text),
+}
+
+/// A change for which there is room, with the entry of what is charged for it.
+#[derive(Drop)]
+pub struct Prepared {
+    pub change: PreparedChange,
+    pub charge: Option<Spent>,
+}
+
+impl Parts {
+    /// How many bytes of the caller's changes were accepted.
+    pub fn bytes_of(&self, caller: &Caller) -> u64
+        ensures { result ≡ bytes_of caller.now self.now.spent.items }
+    {
+        match caller {
+            Caller::Anonymous => 0,
+            Caller::Named(user) => bytes_of_user(&self.spent, user),
+        }
+    }
+
+    /// The key on which it is told that a name or an id that the change claims is in use, if one is.
+    pub fn key_in_use(&self, change: &Change) -> Option<&'static str>
+        requires whole { IsWhole self.now }
+        requires sound { MakesSound change.now self.now }
+        ensures key { option_copied result
+            ≡ option_map key_of (find (is_in_use (state_of self.now)) (claims_of change.now)) }
+        ensures unused { IfNone result (IsUnused (state_of self.now) change.now) }
+    {
+        match change {
+            Change::People(OrgChange::Create(org)) => self
+                .people
+                .org(&org.name)
+                .is_some()
+                .then_some("name"),
+            Change::Datasets(DatasetChange::Create(dataset)) => self.dataset_key_in_use(dataset),
+            _ => None,
+        }
+    }
+
+    /// The same for a new dataset: its name is asked first.
+    #[tactic(auto, using(crate::proofs::Shelving::name_used, crate::proofs::Shelving::id_used))]
+    fn dataset_key_in_use(&self, dataset: &Package) -> Option<&'static str>
+        requires whole { IsWhole self.now }
+        requires sound { IsSound self.now.people.people dataset.now }
+        ensures key { option_copied result ≡ option_map key_of
+            (find (is_in_use (state_of self.now)) (claims_of (Change.Datasets (DatasetChange.Create dataset.now)))) }
+        ensures unused { IfNone result
+            (IsUnused (state_of self.now) (Change.Datasets (DatasetChange.Create dataset.now))) }
+    {
+        if self.shelf.is_in_use(dataset.name.as_str()) {
+            Some("name")
+        } else if self.shelf.is_in_use(dataset.id.as_str()) {
+            Some("id")
+        } else {
+            None
+        }
+    }
+
+    /// Makes a change that is fit and claims nothing that is in use, and charges it. For want of memory nothing
+    /// changes.
+    pub fn make(&mut self, alloc: Global, call: &Call, change: Change) -> Result<(), AllocError>
+        requires whole { IsWhole self.old }
+        requires fit { IsFit (asked_of call.now (state_of self.old)) change }
+        requires unused { IsUnused (state_of self.old) change }
+        ensures made { OnOk result (state_of self.new ≡ made call.now change (state_of self.old)) }
+        ensures kept { OnErr result (state_of self.new ≡ state_of self.old) }
+        ensures shelved { IsShelved self.new.shelf }
+    {
+        let prepared = self.prepare(alloc, call, change)?;
+        self.commit(prepared);
+        Ok(())
+    }
+
+    /// Prepares a change that is fit and claims nothing that is in use, and what is charged for it. The state stays.
+    #[tactic(auto, using(crate::proofs::Shelving::unrefused))]
+    fn prepare(
+        &mut self,
+        alloc: Global,
+        call: &Call,
+        change: Change,
+    ) -> Result<Prepared, AllocError>
+        requires whole { IsWhole self.old }
+        requires fit { IsFit (asked_of call.now (state_of self.old)) change }
+        requires unused { IsUnused (state_of self.old) change }
+        ensures same { state_of self.new ≡ state_of self.old }
+        ensures shelved { IsShelved self.new.shelf }
+        ensures ready { IfOk result (λ prepared. IsPrepared prepared self.new) }
+        ensures change { IfOk result (λ prepared. change_in prepared.change ≡ change) }
+        ensures charge { IfOk result (λ prepared.
+            prepared.charge ≡ charge_of call.now.caller call.now.size self.old.spent.items) }
+    {
+        let charge = self.prepare_charge(alloc, call)?;
+        let change = self.prepare_change(change)?;
+        Ok(Prepared { change, charge })
+    }
+
+    /// Makes room for a change that is refused for nothing.
+    fn prepare_change(&mut self, change: Change) -> Result<PreparedChange, AllocError>
+        requires shelved { IsShelved self.old.shelf }
+        requires unrefused { IsUnrefused change self.old }
+        ensures same { state_of self.new ≡ state_of self.old }
+        ensures shelved { IsShelved self.new.shelf }
+        ensures spent { self.new.spent ≡ self.old.spent }
+        ensures change { IfOk result (λ prepared. change_in prepared ≡ change) }
+        ensures ready { IfOk result (λ prepared. IsChangeReady prepared self.new) }
+    {
+        match change {
+            Change::People(change) => Ok(PreparedChange::People(prepare_people(
+                &mut self.people,
+                change,
+            )?)),
+            Change::Datasets(change) => self.prepare_dataset(change),
+        }
+    }
+
+    /// The same for a change of a dataset, whose number is looked up where it stands.
+    fn prepare_dataset(&mut self, change: DatasetChange) -> Result<PreparedChange, AllocError>
+        requires shelved { IsShelved self.old.shelf }
+        requires taken { IsTakenBy change self.old.shelf }
+        ensures same { state_of self.new ≡ state_of self.old }
+        ensures shelved { IsShelved self.new.shelf }
+        ensures spent { self.new.spent ≡ self.old.spent }
+        ensures change { IfOk result (λ prepared. change_in prepared ≡ Change.Datasets change) }
+        ensures ready { IfOk result (λ prepared. IsChangeReady prepared self.new) }
+    {
+        match change {
+            DatasetChange::Create(dataset) => {
+                self.shelf.prepare()?;
+                Ok(PreparedChange::Put(dataset))
+            }
+            DatasetChange::Replace(dataset) => match self.shelf.number_of(dataset.id.as_str()) {
+                Some(number) => Ok(PreparedChange::Replace(number, dataset)),
+                None => unreachable!(),
+            },
+            DatasetChange::Remove(id) => match self.shelf.number_of(id.as_str()) {
+                Some(number) => Ok(PreparedChange::Remove(number, id)),
+                None => unreachable!(),
+            },
+        }
+    }
+
+    /// The entry that is charged to the call's caller, for which room is made.
+    fn prepare_charge(&mut self, alloc: Global, call: &Call) -> Result<Option<Spent>, AllocError>
+        ensures same { state_of self.new ≡ state_of self.old }
+        ensures people { self.new.people ≡ self.old.people }
+        ensures shelf { self.new.shelf ≡ self.old.shelf }
+        ensures charge { IfOk result (λ charge.
+            charge ≡ charge_of call.now.caller call.now.size self.old.spent.items) }
+        ensures ready { IfOk result (λ charge. IsChargeReady charge self.new) }
+    {
+        match &call.caller {
+            Caller::Anonymous => Ok(None),
+            Caller::Named(user) => {
+                let bytes = bytes_of_user(&self.spent, user)
+                    .checked_add(call.size)
+                    .ok_or(AllocError)?;
+                let user = user.try_clone(alloc)?;
+                reserve(&mut self.spent)?;
+                Ok(Some(Spent { user, bytes }))
+            }
+        }
+    }
+
+    /// Makes a prepared change, and charges it. It takes no memory and can't fail.
+    fn commit(&mut self, prepared: Prepared)
+        requires ready { IsPrepared prepared self.old }
+        requires shelved { IsShelved self.old.shelf }
+        requires ascending { IsAscending spent_cmp self.old.spent.items }
+        ensures state { state_of self.new ≡ with_prepared prepared (state_of self.old) }
+        ensures shelved { IsShelved self.new.shelf }
+    {
+        let Prepared { change, charge } = prepared;
+        self.commit_change(change);
+        self.commit_charge(charge);
+    }
+
+    /// Makes a prepared change.
+    fn commit_change(&mut self, change: PreparedChange)
+        requires ready { IsChangeReady change self.old }
+        requires shelved { IsShelved self.old.shelf }
+        ensures state { state_of self.new ≡ changed (change_in change) (state_of self.old) }
+        ensures shelved { IsShelved self.new.shelf }
+        ensures spent { self.new.spent ≡ self.old.spent }
+    {
+        match change {
+            PreparedChange::People(change) => self.people.commit(change),
+            PreparedChange::Put(dataset) => {
+                self.shelf.put(dataset);
+            }
+            PreparedChange::Replace(number, dataset) => {
+                self.shelf.replace(number, dataset);
+            }
+            PreparedChange::Remove(number, _) => {
+                self.shelf.remove(number);
+            }
+        }
+    }
+
+    /// Charges what was prepared.
+    fn commit_charge(&mut self, charge: Option<Spent>)
+        requires ready { IsChargeReady charge self.old }
+        requires ascending { IsAscending spent_cmp self.old.spent.items }
+        ensures state { state_of self.new ≡ with_charge charge (state_of self.old) }
+        ensures shelf { self.new.shelf ≡ self.old.shelf }
+    {
+        if let Some(entry) = charge {
+            replace_or_put(&mut self.spent, entry);
+        }
+    }
+}
+
+/// How many bytes of the user's changes were accepted.
+fn bytes_of_user(spent: &[Spent], user: &Text) -> u64
+    ensures { result ≡ bytes_of_user user.now spent.now }
+{
+    match spent.iter().find(|entry| entry.user == *user) {
+        Some(entry) => entry.bytes,
+        None => 0,
+    }
+}
+
+/// Prepares a change of the people that is refused for nothing.
+fn prepare_people(people: &mut People, change: OrgChange) -> Result<PreparedOrg, AllocError>
+    requires { IsTrue (is_none (org_fault change people.old.people)) }
+    ensures same { people.new.people ≡ people.old.people }
+    ensures change { IfOk result (λ prepared. prepared ≡ change) }
+    ensures ready { IfOk result (λ prepared. IsReady prepared people.new) }
+{
+    match people.prepare(change) {
+        Ok(prepared) => Ok(prepared),
+        Err(OrgFault::OutOfMemory) => Err(AllocError),
+        Err(_) => unreachable!(),
+    }
+}
