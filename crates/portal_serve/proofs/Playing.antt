@@ -13,7 +13,7 @@ use Rattle.portal_serve.proofs.Working.{DrawsAll-none, DrawsAll-more, begins_no_
 use Rattle.portal_serve.specs.Played.{Works, BeginsLines, StopsLines, TakesTurn, EndsTurn, StopsTurn, EndsAll}
 use Rattle.portal_serve.specs.Played.{Running, unless_empty}
 use Rattle.portal_serve.specs.Script.{script_lines, is_nonempty}
-use Rattle.portal_serve.specs.State.{State}
+use Rattle.portal_core.specs.State.{State}
 use Rattle.portal_serve.specs.Transcript.{AreDrawn, written_for}
 use Rattle.portal_serve.specs.Run.{Begins, DrawsAll, standing, Devices, Outlet, outlet_of, Stops, PlaysAll, PlaysPart}
 use Rattle.portal_serve.specs.Run.{GaveTooMuch, most_input}

@@ -9,14 +9,15 @@ use Rattle.portal_base.proofs.OutsideLemmas.{Takes-none}
 use Rattle.portal_base.specs.declared.caller.Caller.{Caller}
 use Rattle.portal_serve.specs.Played.{Works, WorksLines, BeginsLines, StopsLines, unless_empty}
 use Rattle.portal_serve.specs.Reply.{reply_line, not_built_line}
-use Rattle.portal_serve.specs.Script.{ScriptCall, call_of_line, call_of_reading, known_caller}
+use Rattle.portal_core.specs.Opened.{known_caller}
+use Rattle.portal_serve.specs.Script.{ScriptCall, call_of_line, call_of_reading}
 use Rattle.portal_base.specs.Json.{json_reading}
 use Rattle.portal_serve.specs.declared.script.TheConstants.{LONGEST_LINE}
 use Rattle.std.proofs.lemmas.Bool.{lt-ltb}
 use Rattle.std.proofs.lemmas.Bool.Decides.{nat_tests}
-use Rattle.portal_serve.specs.declared.call.Reply.{Reply}
-use Rattle.portal_serve.specs.State.{State}
-use Rattle.portal_serve.specs.Step.{Outcome, call_step}
+use Rattle.portal_core.specs.declared.event.Reply.{Reply}
+use Rattle.portal_core.specs.State.{State}
+use Rattle.portal_core.specs.Step.{Outcome, call_step}
 use Rattle.portal_serve.specs.Transcript.{Standing, AreDrawn, draws, turn, turn_of, drawn_call, standing_after}
 use Rattle.portal_serve.specs.Transcript.{written_for}
 use Rattle.portal_serve.specs.Run.{Begins, DrawsAll, standing, Outlet}

@@ -5,7 +5,7 @@ use Rattle.portal_lines.specs.Lines.{Reading, TakesLine, FindsEnd}
 use Rattle.portal_base.specs.Outside.{Gives, Takes, IsAtEnd}
 use Rattle.portal_serve.specs.Run.{Begins, Devices, Outlet, outlet_of, DrawsAll, standing}
 use Rattle.portal_serve.specs.Script.{script_lines, is_nonempty}
-use Rattle.portal_serve.specs.State.{State}
+use Rattle.portal_core.specs.State.{State}
 use Rattle.portal_serve.specs.Transcript.{AreDrawn, standing_after, written_for}
 
 -- Lines, worked from a state, drew these moments and numbers, wrote this and left that state.

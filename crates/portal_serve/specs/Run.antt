@@ -3,7 +3,7 @@ use Rattle.std.specs.Prelude.{◌≡◌, ℕ, ℤ, ◌+◌, ◌^◌, ◌<◌, �
 use Rattle.std.specs.Option.{IsSomeAnd}
 use Rattle.portal_base.specs.Outside.{Takes}
 use Rattle.portal_serve.specs.Script.{script_lines}
-use Rattle.portal_serve.specs.State.{State}
+use Rattle.portal_core.specs.State.{State}
 use Rattle.portal_serve.specs.Transcript.{Standing, AreDrawn, written_for}
 
 -- the most bytes that input may give

@@ -7,11 +7,10 @@ use Rattle.portal_base.specs.declared.caller.Caller.{Caller}
 use Rattle.portal_base.specs.declared.caller.Caller.TheVariants.{Anonymous, Named}
 use Rattle.portal_base.specs.declared.json_value.Json.{Json}
 use Rattle.portal_base.specs.declared.json_value.JsonFault.{JsonFault}
-use Rattle.org_roles.specs.Peopled.{Peopled, is_user_in}
-use Rattle.portal_serve.specs.Action.{action_named}
+use Rattle.portal_calls.specs.Action.{action_named}
+use Rattle.portal_calls.specs.declared.action.Action.{Action}
+use Rattle.portal_calls.specs.declared.call.Request.{Request}
 use Rattle.portal_serve.specs.Request.{has_only, is_among, text_of, text_at, only_if, is_built}
-use Rattle.portal_serve.specs.declared.request.Action.{Action}
-use Rattle.portal_serve.specs.declared.request.Request.{Request}
 use Rattle.portal_serve.specs.declared.script.TheConstants.{LONGEST_LINE}
 
 abbrev pub is_nonempty : List ℕ → Bool
@@ -71,8 +70,3 @@ call_of_reading (Err fault) = None
 -- The call that a line asks for, and none where the line is too long or not of a built form.
 abbrev pub call_of_line : List ℕ → Option ScriptCall
 call_of_line line = if nat_lt LONGEST_LINE (length line) then None else call_of_reading (json_reading line)
-
--- a user that isn't known is nobody
-abbrev pub known_caller : Peopled → Caller → Caller
-known_caller people Anonymous = Anonymous
-known_caller people (Named user) = if is_user_in people user then Named user else Anonymous

@@ -5,7 +5,7 @@ use Rattle.org_roles.specs.declared.entry.Org.{Org}
 use Rattle.org_roles.specs.declared.entry.Membership.{Membership}
 use Rattle.org_roles.specs.declared.role.Role.{Role}
 use Rattle.org_roles.specs.declared.role.Role.TheVariants.{Member, Editor, Admin}
-use Rattle.portal_serve.specs.State.{State}
+use Rattle.portal_core.specs.State.{State}
 
 abbrev pub a_user : List ℕ → Bool → User
 a_user name sysadmin = record { name = name; sysadmin = sysadmin }
@@ -27,9 +27,10 @@ stated_org = record { name = codes "city"; title = codes "City"; description = [
 abbrev pub stated_roles : List Membership
 stated_roles = city_role (codes "ann") Editor ∷ city_role (codes "bob") Member ∷ city_role (codes "cyn") Admin ∷ []
 
--- The state before the first line of a script: these people, and no dataset.
+-- The state before the first line of a script: these people, no dataset, and nothing accepted.
 abbrev pub stated_state : State
 stated_state = record {
   people = record { users = stated_users; orgs = stated_org ∷ []; roles = stated_roles };
   datasets = [];
+  spent = [];
 }

@@ -1,10 +1,11 @@
 -- The transcript of a script: what is written for its lines, worked in order from a state.
 use Rattle.std.specs.Prelude.{◌≡◌, ℕ, ℤ, List, [], ◌∷◌, ◌++◌, Bool, length, filter, is_some, Option, Some, None}
 use Rattle.portal_serve.specs.Reply.{reply_line, not_built_line}
-use Rattle.portal_serve.specs.Script.{ScriptCall, call_of_line, known_caller}
-use Rattle.portal_serve.specs.State.{State}
-use Rattle.portal_serve.specs.Step.{Outcome, call_step}
-use Rattle.portal_serve.specs.declared.call.Call.{Call}
+use Rattle.portal_core.specs.Opened.{known_caller}
+use Rattle.portal_serve.specs.Script.{ScriptCall, call_of_line}
+use Rattle.portal_core.specs.State.{State}
+use Rattle.portal_core.specs.Step.{Outcome, call_step}
+use Rattle.portal_calls.specs.declared.call.Call.{Call}
 
 -- A line that asks for a call draws one moment and one number, whatever its reply. No other line draws.
 abbrev pub draws : List ℕ → Bool

@@ -1,12 +1,8 @@
-//! Scripts and what they ask of the portal: calls, replies, and the portal itself.
+//! Scripts: the calls that they ask a portal for, and the transcripts of what it replies.
 #![tactic(auto)]
 
-pub mod call;
-mod decide;
-mod dictionary;
 pub mod laws;
 pub mod play;
-pub mod portal;
 pub mod reply;
 pub mod request;
 mod script;

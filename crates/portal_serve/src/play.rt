@@ -2,6 +2,7 @@
 ghost use Rattle.std.specs.Prelude.{◌≡◌, ◌↔◌, ◌<◌, ◌≤◌, ℕ, List, [], ◌∷◌, true, false, Some, Ok, Err, length, IfOk};
 ghost use Rattle.std.specs.Prelude.{IfErr, OnOk, OnErr};
 ghost use Rattle.portal_base.specs.Outside.{Rose, Takes, TakesPrefix};
+ghost use Rattle.portal_core.specs.Step.{step_of};
 ghost use Rattle.portal_serve.specs.Played.{WorksLines, StopsLines, TakesTurn, EndsTurn, StopsTurn, unless_empty};
 ghost use Rattle.portal_serve.specs.Stopped.{IsOfLine, stop_for, begun_at};
 ghost use Rattle.portal_serve.specs.Run.{outlet, devices};
@@ -11,14 +12,14 @@ ghost use Rattle.portal_serve.specs.Run.{PlaysAll, PlaysPart, GaveTooMuch};
 ghost use Rattle.portal_serve.specs.Script.{call_of_line};
 ghost use Rattle.portal_serve.specs.Stated.{stated_state};
 ghost use Rattle.portal_serve.specs.Seen.{asked};
-ghost use Rattle.portal_serve.specs.Step.{step_of};
 
-use crate::call::{Call, Event, Refusal, Reply};
-use crate::portal::Portal;
 use crate::reply::line_of_reply;
 use crate::script::{LONGEST_LINE, ScriptCall, read_call};
 use crate::stated::stated_portal;
 use portal_base::outside::{Clock, Nonces, Sink, Source};
+use portal_calls::call::Call;
+use portal_core::event::{Event, Refusal, Reply};
+use portal_core::portal::Portal;
 use portal_lines::lines::{LineFault, LineReader, NextLine};
 use portal_lines::write::write_whole;
 use std::alloc::{AllocError, Global};

@@ -1,15 +1,17 @@
 //! Scripts: the call that a line asks for.
 ghost use Rattle.std.specs.Prelude.{◌≡◌, ◌≤◌, length, codes, IfOk, option_map, option_and_then};
 ghost use Rattle.portal_base.specs.Json.{member_of};
+ghost use Rattle.portal_calls.specs.Action.{action_named};
 ghost use Rattle.portal_serve.specs.Script.{caller_of, call_of_json, call_of_line, built_request, asked_for};
 ghost use Rattle.portal_serve.specs.Seen.{asked};
 ghost use Rattle.portal_serve.specs.Request.{text_at};
-ghost use Rattle.portal_serve.specs.Action.{action_named};
 
-use crate::request::{Action, Request, has_only_keys, text_at_key, text_in};
+use crate::request::{has_only_keys, is_built, text_at_key, text_in};
 use portal_base::caller::Caller;
 use portal_base::copy::TryClone;
 use portal_base::json_value::{Json, JsonFault};
+use portal_calls::action::Action;
+use portal_calls::call::Request;
 use std::alloc::{AllocError, Global};
 
 /// The most bytes of a script's line, its end left out.
@@ -78,7 +80,7 @@ fn caller_in(alloc: Global, json: &Json) -> Result<Option<Caller>, AllocError>
 fn built_call(caller: Caller, request: Request) -> Option<ScriptCall>
     ensures { option_map asked result ≡ asked_for caller (built_request request) }
 {
-    if request.is_built() {
+    if is_built(&request) {
         Some(ScriptCall { caller, request })
     } else {
         None

@@ -2,12 +2,12 @@
 ghost use Rattle.std.specs.Prelude.{◌≡◌, [], ◌∷◌, pos, IfOk};
 ghost use Rattle.portal_serve.specs.Stated.{a_user, city_role, stated_users, stated_org, stated_roles, stated_state};
 
-use crate::portal::{Opening, Portal};
 use org_roles::entry::{Membership, Org, User};
 use org_roles::role::Role;
 use portal_base::moment::Moment;
 use portal_base::seq::Seq;
 use portal_base::text::Text;
+use portal_core::portal::{Opening, Portal};
 use std::alloc::{AllocError, Global};
 
 fn user(alloc: Global, name: &str, sysadmin: bool) -> Result<User, AllocError>

@@ -1,9 +1,6 @@
 -- Each arm's error is the one that the dictionary has at that refusal.
 use Rattle.portal_serve.proofs.reply.refusal_json.Goals as goal
 
-pub returns-in-NotBuilt : goal.returns-in-NotBuilt
-returns-in-NotBuilt c = rw c.in-NotBuilt.is (rw c.from_static.ensures at c.error_json.ensures)
-
 pub returns-in-NotFound : goal.returns-in-NotFound
 returns-in-NotFound c = rw c.in-NotFound.is (rw c.name_of_kind.ensures at c.named_error_json.ensures)
 
@@ -12,5 +9,4 @@ returns-in-NotAuthorized c =
     rw c.in-NotAuthorized.is (rw c.name_of_right.ensures at c.named_error_json-in-NotAuthorized.ensures)
 
 pub returns-in-OutOfMemory : goal.returns-in-OutOfMemory
-returns-in-OutOfMemory c =
-    rw c.in-OutOfMemory.is (rw c.from_static-in-OutOfMemory.ensures at c.error_json-in-OutOfMemory.ensures)
+returns-in-OutOfMemory c = rw c.in-OutOfMemory.is (rw c.from_static.ensures at c.error_json.ensures)

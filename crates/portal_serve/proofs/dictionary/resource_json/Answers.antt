@@ -1,4 +1,0 @@
-use Rattle.portal_serve.proofs.dictionary.resource_json.Goals as goal
-
-pub returns : goal.returns
-returns c = rw c.in_ok-id.ensures at c.dictionary.ensures.same

@@ -1,8 +1,0 @@
-use Rattle.std.proofs.Common.{◌≡◌, ◌++◌, drop}
-use Rattle.portal_serve.specs.Dictionary.{resource_dictionaries}
-use Rattle.portal_serve.proofs.dictionary.resources_json.Given as goal
-
--- the dictionaries so far and those of the resources that are left are those of all
-abbrev pub invariant-loop-position : goal.invariant-loop-position
-invariant-loop-position l = l.list.items ++ resource_dictionaries l.dataset l.position (drop l.position l.resources)
-    ≡ resource_dictionaries l.dataset 0 l.resources

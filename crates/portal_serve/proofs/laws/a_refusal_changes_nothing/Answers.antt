@@ -1,6 +1,0 @@
--- By the kinds of answers.
-use Rattle.portal_serve.proofs.Histories.{refused-same}
-use Rattle.portal_serve.proofs.laws.a_refusal_changes_nothing.Goals as goal
-
-pub returns : goal.returns
-returns c = refused-same

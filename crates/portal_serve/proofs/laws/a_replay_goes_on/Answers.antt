@@ -1,6 +1,0 @@
--- By induction over the events.
-use Rattle.portal_serve.proofs.Replaying.{replay-append}
-use Rattle.portal_serve.proofs.laws.a_replay_goes_on.Goals as goal
-
-pub returns : goal.returns
-returns c = replay-append

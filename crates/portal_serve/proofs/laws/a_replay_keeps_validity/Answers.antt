@@ -1,6 +1,0 @@
--- By induction over the events.
-use Rattle.portal_serve.proofs.Keeping.{replay-valid}
-use Rattle.portal_serve.proofs.laws.a_replay_keeps_validity.Goals as goal
-
-pub returns : goal.returns
-returns c = replay-valid

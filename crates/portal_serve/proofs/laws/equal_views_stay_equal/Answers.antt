@@ -1,6 +1,0 @@
--- What is accepted leaves equal views.
-use Rattle.portal_serve.proofs.Isolating.{views_alike}
-use Rattle.portal_serve.proofs.laws.equal_views_stay_equal.Goals as goal
-
-pub returns : goal.returns
-returns c = views_alike
