@@ -43,8 +43,11 @@ def filled(given, write):
     return wanted
 
 
-def measured(program, write, *words):
-    """Bytes of the input, seconds, and peak memory in MiB. `write` fills the input and gives the line that is wanted."""
+def worked(program, write, *words):
+    """Bytes of the input, seconds, and what the host says was used.
+
+    `write` fills the input and gives the line that is wanted.
+    """
     with tempfile.TemporaryFile("w+b") as given, tempfile.TemporaryFile("w+b") as taken:
         wanted = filled(given, write)
         length = os.fstat(given.fileno()).st_size
@@ -57,4 +60,10 @@ def measured(program, write, *words):
         answer = taken.read().decode()
     if status != 0 or answer != f"{wanted}\n":
         sys.exit(f"status {status}: {answer!r} in place of {wanted!r}")
+    return length, seconds, usage
+
+
+def measured(program, write, *words):
+    """As `worked`, with the peak memory in MiB in place of all that was used."""
+    length, seconds, usage = worked(program, write, *words)
     return length, seconds, usage.ru_maxrss / 1024
