@@ -1,5 +1,5 @@
 mod CalendarLemmas
-mod CellLemmas
+pub mod CellLemmas
 mod ColumnLemmas
 mod ConstraintLemmas
 mod DescriptorLemmas

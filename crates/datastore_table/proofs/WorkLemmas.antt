@@ -1,0 +1,59 @@
+-- What a batch writes, one record after another.
+use Rattle.std.proofs.Common.{◌≡◌, ◌∙◌, ◌⊎◌, inl, inr, ℕ, ◌+◌, ◌<◌, List, [], ◌∷◌, ◌++◌, Option, Ok, Err, ap, drop}
+use Rattle.std.proofs.Common.{length, get_or, sym, subst, Result, IfErr, IsErrAnd}
+use Rattle.portal_base.specs.Ordered.{IsAscending, placed}
+use Rattle.portal_base.specs.declared.json_value.Json.{Json}
+use Rattle.table_schema.specs.declared.cell.Cell.{Cell}
+use Rattle.table_schema.specs.Field.{SchemaValue}
+use Rattle.datastore_table.specs.declared.fault.TableFault.{TableFault}
+use Rattle.datastore_table.specs.declared.fault.TableFault.TheVariants.{OutOfMemory}
+use Rattle.datastore_table.specs.declared.method.Method.{Method}
+use Rattle.datastore_table.specs.declared.row.Row.{Row}
+use Rattle.datastore_table.specs.Batch.{Written, worked_on}
+use Rattle.datastore_table.specs.Put.{Worked, next_after, put_from, put_record, row_id, with_cells, written_row}
+use Rattle.datastore_table.specs.Rows.{row_cmp, row_cmp_total}
+use Rattle.datastore_table.proofs.Merged.{merged-placed}
+use Rattle.datastore_table.proofs.ResultLemmas.{in_turn-next, in_turn-fault}
+
+-- To write a row is to put it among the rows as they stand.
+pub worked-with_cells : (rows : List Row) → IsAscending row_cmp rows → (w v : Written) → IsAscending row_cmp w.changed
+    → (id : Option ℕ) (cells : List Cell)
+    → v.changed ≡ placed row_cmp (written_row (row_id id w.next_id) cells) w.changed
+    → v.next_id ≡ next_after id w.next_id → v.written ≡ w.written ++ row_id id w.next_id ∷ []
+    → worked_on rows v ≡ with_cells id cells (worked_on rows w)
+worked-with_cells rows ur w v uw id cells changed next written =
+    rw (changed, next, written)
+    (ap
+    (λ (r : List Row). record {
+      rows = r;
+      next_id = next_after id w.next_id;
+      written = w.written ++ row_id id w.next_id ∷ [];
+    })
+    (merged-placed row_cmp row_cmp_total (written_row (row_id id w.next_id) cells) w.changed rows uw ur))
+
+pub put_from-next : (method : Method) (schema : SchemaValue) (i : ℕ) (records : List Json) (given : Json) (w v : Worked)
+    → i < length records → given ≡ get_or records i given → put_record method schema (i + 1) given w ≡ Ok v
+    → put_from method schema (i + 1) (drop i records) w ≡ put_from method schema (i + 1 + 1) (drop (i + 1) records) v
+put_from-next method schema i records given w v lt is e =
+    in_turn-next (put_record method schema) (i + 1) i records given w v lt is e
+
+pub put_from-fault : (method : Method) (schema : SchemaValue) (i : ℕ) (records : List Json) (given : Json) (w : Worked)
+    (fault : TableFault) → i < length records → given ≡ get_or records i given
+    → (fault ≡ OutOfMemory) ⊎ (put_record method schema (i + 1) given w ≡ Err fault)
+    → (fault ≡ OutOfMemory) ⊎ (put_from method schema (i + 1) (drop i records) w ≡ Err fault)
+put_from-fault method schema i records given w fault lt is (inl e) = inl e
+put_from-fault method schema i records given w fault lt is (inr e) =
+    inr (in_turn-fault (put_record method schema) (i + 1) i records given w fault lt is e)
+
+-- A call gave up with the fault of a reading.
+pub err_of : {A B : Type 0} (result : Result A TableFault) (fault : TableFault) (reading : Result B TableFault)
+    → IsErrAnd result (λ e. e ≡ fault) → (fault ≡ OutOfMemory) ⊎ (reading ≡ Err fault)
+    → IfErr result (λ e. (e ≡ OutOfMemory) ⊎ (reading ≡ Err e))
+err_of (Ok x) fault reading e h = absurd e
+err_of (Err given) fault reading e h = subst (λ f. (f ≡ OutOfMemory) ⊎ (reading ≡ Err f)) (sym e) h
+
+-- Equal readings have the same fault.
+pub through : {B : Type 0} (one other : Result B TableFault) (fault : TableFault) → one ≡ other
+    → (fault ≡ OutOfMemory) ⊎ (other ≡ Err fault) → (fault ≡ OutOfMemory) ⊎ (one ≡ Err fault)
+through one other fault e (inl h) = inl h
+through one other fault e (inr h) = inr (e ∙ h)

@@ -1,0 +1,21 @@
+use Rattle.std.proofs.Common.{◌≡◌, ◌∙◌, List, ap, ap₂, subst, sym}
+use Rattle.datastore_table.specs.declared.row.Row.{Row}
+use Rattle.datastore_table.specs.Batch.{RemovalValue, cut_rows}
+use Rattle.datastore_table.specs.Meets.{IsTable}
+use Rattle.datastore_table.specs.Table.{TableValue}
+use Rattle.datastore_table.proofs.KeptLemmas.{cut_rows-table}
+use Rattle.datastore_table.proofs.table.Table.commit_delete.Goals as goal
+
+pub invariant_of-self : goal.invariant_of-self
+invariant_of-self c =
+    let table = c.args.self.now in
+    let ids = c.args.removal.ids in
+    let whole : IsTable table.schema table.rows table.next_id =
+    subst (λ (t : TableValue). IsTable t.schema t.rows t.next_id) c.self.view_is c.self.invariant in
+    let taken : c.as_slice.result.now ≡ ids =
+    c.as_slice.ensures ∙ ap (λ (r : RemovalValue). r.ids) c.removal.view_is in
+    let rows : c.cut.new.rows.items ≡ cut_rows ids table.rows =
+    c.cut.ensures ∙ ap₂ cut_rows taken (ap (λ (t : TableValue). t.rows) c.self.view_is) in
+    subst (λ (t : TableValue). IsTable t.schema c.cut.new.rows.items t.next_id) (sym c.self.view_is)
+    (subst (λ (r : List Row). IsTable table.schema r table.next_id) (sym rows)
+    (cut_rows-table ids table whole c.requires))

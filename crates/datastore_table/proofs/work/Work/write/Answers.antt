@@ -1,0 +1,31 @@
+use Rattle.std.proofs.Common.{◌≡◌, ◌∙◌, ◌++◌, ◌∷◌, [], ap}
+use Rattle.std.specs.Prelude.{if◌then◌else◌}
+use Rattle.portal_base.specs.Ordered.{placed}
+use Rattle.datastore_table.specs.Batch.{Written}
+use Rattle.datastore_table.specs.Put.{row_id, written_row}
+use Rattle.datastore_table.specs.Rows.{row_cmp}
+use Rattle.datastore_table.proofs.WorkLemmas.{worked-with_cells}
+use Rattle.datastore_table.proofs.work.Work.write.Goals as goal
+
+pub returns-clause-ok : goal.returns-clause-ok
+returns-clause-ok c = λ rows up.
+    let id = c.args.id in
+    let cells = c.args.cells in
+    let next_id = c.self.inside.next_id in
+    let was = c.self.inside.changed.items in
+    let w : Written = record { changed = was; next_id = next_id; written = c.self.inside.written.items } in
+    let v : Written = record {
+      changed = c.place-replaced.new.items.items;
+      next_id = c.in_ok-next_id.next_id;
+      written = c.push.new.self.items;
+    } in
+    let changed : v.changed ≡ placed row_cmp (written_row (row_id id next_id) cells) was =
+    c.place-replaced.ensures.items
+    ∙ ap (λ i. placed row_cmp (written_row i cells) c.reserve.new.self.items) c.row_id-id.ensures
+    ∙ ap (placed row_cmp (written_row (row_id id next_id) cells)) c.reserve.ensures.items in
+    let written : v.written ≡ w.written ++ row_id id next_id ∷ [] =
+    c.push.ensures.items
+    ∙ ap (λ b. if b then w.written ++ c.row_id-id.result ∷ [] else w.written) c.if-is_err.ensures.negation
+    ∙ ap (λ i. w.written ++ i ∷ []) c.row_id-id.ensures in
+    rw (← c.self.view_is) (worked-with_cells rows up w v c.self.invariant id cells changed c.in_ok-next_id.ensures
+    written)

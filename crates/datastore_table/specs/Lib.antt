@@ -1,0 +1,9 @@
+pub mod Batch
+pub mod Cells
+pub mod Meets
+pub mod Put
+pub mod Record
+pub mod References
+pub mod Results
+pub mod Rows
+pub mod Table

@@ -1,0 +1,124 @@
+//! How many rows a batch would leave.
+ghost use Rattle.std.specs.Prelude.{◌≡◌, ◌+◌, ◌&&◌, not, length, nat_lt, IfOk, OnOk};
+ghost use Rattle.datastore_table.specs.Put.{admitted, grown_length, has_key, is_new_key, most_rows, needs_key};
+ghost use Rattle.datastore_table.specs.Put.{new_keys, with_key};
+ghost use Rattle.datastore_table.specs.Results.{Answers};
+
+use crate::cells::{are_same, has_null};
+use crate::fault::TableFault;
+use crate::method::Method;
+use crate::reading::key_of;
+use crate::row::Row;
+use crate::rows::row_with;
+use portal_base::json_value::Json;
+use portal_base::seq::Seq;
+use std::alloc::{AllocError, Global};
+use table_schema::{Cell, Schema};
+
+/// The most rows of a table.
+const MOST_ROWS: usize = 1_000_000;
+
+/// What comes before any record.
+pub(crate) fn admit(
+    alloc: Global,
+    method: Method,
+    records: &[Json],
+    schema: &Schema,
+    rows: &[Row],
+) -> Result<(), TableFault>
+    ensures { Answers result (admitted method records.now schema.now rows.now) }
+{
+    if needs_key(method) && schema.key().is_empty() {
+        return Err(TableFault::NoKey);
+    }
+    let added = added_rows(alloc, method, records, schema, rows)?;
+    if is_full(rows.len(), added) {
+        Err(TableFault::Full)
+    } else {
+        Ok(())
+    }
+}
+
+fn needs_key(method: Method) -> bool
+    ensures { result ≡ needs_key method }
+{
+    match method {
+        Method::Insert => false,
+        Method::Upsert | Method::Update => true,
+    }
+}
+
+// Whether so many rows and so many more are too many.
+fn is_full(rows: usize, added: usize) -> bool
+    ensures { result ≡ nat_lt most_rows (rows + added) }
+{
+    rows > MOST_ROWS || added > MOST_ROWS - rows
+}
+
+// How many rows the batch adds.
+fn added_rows(
+    alloc: Global,
+    method: Method,
+    records: &[Json],
+    schema: &Schema,
+    rows: &[Row],
+) -> Result<usize, AllocError>
+    ensures { IfOk result (λ added. length rows.now + added ≡ grown_length method schema.now rows.now records.now) }
+{
+    match method {
+        Method::Insert => Ok(records.len()),
+        Method::Upsert => Ok(new_keys(alloc, schema, rows, records)?.len()),
+        Method::Update => Ok(0),
+    }
+}
+
+// The records' keys, each once, without Null, that no row has.
+fn new_keys(
+    alloc: Global,
+    schema: &Schema,
+    rows: &[Row],
+    records: &[Json],
+) -> Result<Vec<Seq<Cell>>, AllocError>
+    ensures { IfOk result (λ keys. keys.items ≡ new_keys schema.now rows.now records.now) }
+{
+    let mut keys = Vec::new(alloc);
+    for given in records {
+        let key = key_of(alloc, schema, given)?;
+        add_key(&mut keys, schema, rows, key)?;
+    }
+    Ok(keys)
+}
+
+// Adds a key, if it is new and isn't there yet.
+fn add_key(
+    keys: &mut Vec<Seq<Cell>>,
+    schema: &Schema,
+    rows: &[Row],
+    key: Seq<Cell>,
+) -> Result<(), AllocError>
+    ensures { OnOk result (keys.new.items ≡ with_key schema.now rows.now keys.old.items key) }
+{
+    if !is_wanted(keys.as_slice(), schema, rows, key.as_slice()) {
+        return Ok(());
+    }
+    keys.push(key)?;
+    Ok(())
+}
+
+fn is_wanted(keys: &[Seq<Cell>], schema: &Schema, rows: &[Row], key: &[Cell]) -> bool
+    ensures { result ≡ (is_new_key schema.now rows.now key.now && not (has_key keys.now key.now)) }
+{
+    is_new_key(schema, rows, key) && !has_key(keys, key)
+}
+
+fn is_new_key(schema: &Schema, rows: &[Row], key: &[Cell]) -> bool
+    ensures { result ≡ is_new_key schema.now rows.now key.now }
+{
+    !(has_null(key) || row_with(rows, schema.key().as_slice(), key).is_some())
+}
+
+fn has_key(keys: &[Seq<Cell>], key: &[Cell]) -> bool
+    ensures { result ≡ has_key keys.now key.now }
+{
+    keys.iter().any(|other| are_same(other.as_slice(), key))
+}

@@ -1,0 +1,254 @@
+//! Whether rows meet a schema.
+ghost use Rattle.std.specs.Prelude.{◌≡◌, ◌&&◌, ◌||◌, not, int_le, is_none, length};
+ghost use Rattle.portal_base.specs.Moment.{first_moment, last_moment};
+ghost use Rattle.std.specs.List.{list_all, list_any};
+ghost use Rattle.lexical_forms.specs.Digits.{is_empty};
+ghost use Rattle.table_schema.specs.Form.{kind_of};
+ghost use Rattle.table_schema.specs.Keys.{same_kind};
+ghost use Rattle.table_schema.specs.Reading.{kind_of_cell};
+ghost use Rattle.datastore_table.specs.Meets.{are_accepted, are_apart, ascend_from, has_cell_of, has_key_of};
+ghost use Rattle.datastore_table.specs.Meets.{is_accepted};
+ghost use Rattle.datastore_table.specs.Meets.{is_held_by, is_numbered, is_of_kind, is_value, keys_apart, meets_schema};
+ghost use Rattle.datastore_table.specs.Meets.{is_restorable, row_meets, uniques_apart};
+ghost use Rattle.datastore_table.specs.References.{is_broken};
+
+use crate::cells::{are_same_between, has_null_at, is_null, is_same_at};
+use crate::references::is_broken_among;
+use crate::row::Row;
+use table_schema::{Cell, Field, Foreign, Kind, Schema};
+
+/// Above every number of billionths in size.
+const NUMBER_LIMIT: i128 = 1_000_000_000_000_000_000_000_000_000;
+
+/// 0000-01-01, as days since 1970-01-01.
+const FIRST_DAY: i32 = -719_528;
+
+/// 9999-12-31.
+const LAST_DAY: i32 = 2_932_896;
+
+/// 0000-01-01T00:00:00, as seconds since 1970-01-01T00:00:00.
+const FIRST_SECOND: i64 = -62_167_219_200;
+
+/// 9999-12-31T23:59:59.
+const LAST_SECOND: i64 = 253_402_300_799;
+
+const SECONDS_PER_DAY: u32 = 86_400;
+
+const LAST_YEAR: u16 = 9999;
+
+// Whether the rows meet the schema.
+fn meets_schema(schema: &Schema, rows: &[Row]) -> bool
+    ensures { result ≡ meets_schema schema.now rows.now }
+{
+    do_all_meet(schema, rows)
+        && are_keys_apart(schema.key().as_slice(), rows)
+        && are_uniques_apart(schema.fields().as_slice(), rows)
+        && are_all_held(schema, rows)
+}
+
+fn do_all_meet(schema: &Schema, rows: &[Row]) -> bool
+    ensures { result ≡ list_all (row_meets schema.now) rows.now }
+{
+    rows.iter().all(|row| does_row_meet(schema, row))
+}
+
+fn does_row_meet(schema: &Schema, row: &Row) -> bool
+    ensures { result ≡ row_meets schema.now row.now }
+{
+    let cells = row.cells.as_slice();
+    are_accepted(schema.fields().as_slice(), cells) && !has_null_at(cells, schema.key().as_slice())
+}
+
+/// Whether these are the rows and the next `_id` of a table of the schema.
+pub(crate) fn is_restorable(schema: &Schema, rows: &[Row], next_id: u64) -> bool
+    ensures { result ≡ is_restorable schema.now rows.now next_id }
+{
+    is_numbered(rows, next_id) && meets_schema(schema, rows)
+}
+
+// Whether there is one cell for each field, which the field accepts.
+#[tactic(auto, using(crate::proofs::MeetLemmas::accepted_length))]
+fn are_accepted(fields: &[Field], cells: &[Cell]) -> bool
+    ensures { result ≡ are_accepted fields.now cells.now }
+{
+    if fields.len() != cells.len() {
+        return false;
+    }
+    for place in 0..fields.len() {
+        if !is_accepted(&fields[place], &cells[place]) {
+            return false;
+        }
+    }
+    true
+}
+
+fn is_accepted(field: &Field, cell: &Cell) -> bool
+    ensures { result ≡ is_accepted field.now cell.now }
+{
+    if is_null(cell) {
+        !field.constraints().required
+    } else {
+        is_of_kind(field.form().kind(), kind_of_cell(cell))
+            && is_value(cell)
+            && field.constraints().fault_of(cell).is_none()
+    }
+}
+
+fn is_of_kind(kind: Kind, own: Option<Kind>) -> bool
+    ensures { result ≡ is_of_kind kind own }
+{
+    match own {
+        Some(own) => is_same_kind(own, kind),
+        None => false,
+    }
+}
+
+fn is_same_kind(one: Kind, other: Kind) -> bool
+    ensures { result ≡ same_kind one other }
+{
+    one == other
+}
+
+fn kind_of_cell(cell: &Cell) -> Option<Kind>
+    ensures { result ≡ kind_of_cell cell.now }
+{
+    match cell {
+        Cell::Null => None,
+        Cell::Text(_) => Some(Kind::Text),
+        Cell::Int(_) => Some(Kind::Integer),
+        Cell::Number(_) => Some(Kind::Number),
+        Cell::Truth(_) => Some(Kind::Boolean),
+        Cell::Date(_) => Some(Kind::Date),
+        Cell::Time(_) => Some(Kind::Time),
+        Cell::Stamp(_) => Some(Kind::Datetime),
+        Cell::Year(_) => Some(Kind::Year),
+        Cell::YearMonth(_, _) => Some(Kind::YearMonth),
+    }
+}
+
+// Whether it is a value that some type of fields has.
+fn is_value(cell: &Cell) -> bool
+    ensures { result ≡ is_value cell.now }
+{
+    match cell {
+        Cell::Number(billionths) => -NUMBER_LIMIT < *billionths && *billionths < NUMBER_LIMIT,
+        Cell::Date(day) => FIRST_DAY <= *day && *day <= LAST_DAY,
+        Cell::Time(second) => *second < SECONDS_PER_DAY,
+        Cell::Stamp(moment) => is_moment(moment.seconds()),
+        Cell::Year(year) => *year <= LAST_YEAR,
+        Cell::YearMonth(year, month) => *year <= LAST_YEAR && 1 <= *month && *month <= 12,
+        _ => true,
+    }
+}
+
+fn is_moment(seconds: i64) -> bool
+    ensures { result ≡ (int_le first_moment seconds && int_le seconds last_moment) }
+{
+    FIRST_SECOND <= seconds && seconds <= LAST_SECOND
+}
+
+fn are_keys_apart(key: &[u32], rows: &[Row]) -> bool
+    ensures { result ≡ keys_apart key.now rows.now }
+{
+    key.is_empty() || no_key_twice(key, rows)
+}
+
+fn no_key_twice(key: &[u32], rows: &[Row]) -> bool
+    ensures { result ≡ are_apart (has_key_of key.now) rows.now }
+{
+    for place in 0..rows.len() {
+        if is_key_among(key, &rows[place], &rows[place + 1..]) {
+            return false;
+        }
+    }
+    true
+}
+
+fn is_key_among(key: &[u32], row: &Row, others: &[Row]) -> bool
+    ensures { result ≡ list_any (has_key_of key.now row.now) others.now }
+{
+    others.iter().any(|other| {
+        are_same_between(other.cells.as_slice(), key, row.cells.as_slice(), key)
+    })
+}
+
+// Whether no unique field has equal cells other than Null in two rows.
+fn are_uniques_apart(fields: &[Field], rows: &[Row]) -> bool
+    ensures { result ≡ uniques_apart 0 fields.now rows.now }
+{
+    for (place, field) in fields.iter().enumerate() {
+        if field.constraints().unique && !no_cell_twice(place, rows) {
+            return false;
+        }
+    }
+    true
+}
+
+fn no_cell_twice(place: usize, rows: &[Row]) -> bool
+    ensures { result ≡ are_apart (has_cell_of place) rows.now }
+{
+    for at in 0..rows.len() {
+        if is_cell_among(place, &rows[at], &rows[at + 1..]) {
+            return false;
+        }
+    }
+    true
+}
+
+fn is_cell_among(place: usize, row: &Row, others: &[Row]) -> bool
+    ensures { result ≡ list_any (has_cell_of place row.now) others.now }
+{
+    others.iter().any(|other| has_cell_of(place, row, other))
+}
+
+fn has_cell_of(place: usize, row: &Row, other: &Row) -> bool
+    ensures { result ≡ has_cell_of place row.now other.now }
+{
+    match row.cells.as_slice().get(place) {
+        Some(cell) => !is_null(cell) && is_same_at(other.cells.as_slice(), place, cell),
+        None => false,
+    }
+}
+
+fn are_all_held(schema: &Schema, rows: &[Row]) -> bool
+    ensures { result ≡ list_all (is_held_by schema.now.key rows.now) schema.now.foreign }
+{
+    let key = schema.key().as_slice();
+    let foreigns = schema.foreign().as_slice();
+    foreigns
+        .iter()
+        .all(|foreign| is_held_by(key, rows, foreign))
+}
+
+fn is_held_by(key: &[u32], rows: &[Row], foreign: &Foreign) -> bool
+    ensures { result ≡ is_held_by key.now rows.now foreign.now }
+{
+    !foreign.resource.is_empty() || is_none_broken(foreign.fields.as_slice(), key, rows)
+}
+
+fn is_none_broken(places: &[u32], key: &[u32], rows: &[Row]) -> bool
+    ensures { result ≡ list_all (λ row. not (is_broken places.now key.now rows.now row)) rows.now }
+{
+    rows.iter()
+        .all(|row| !is_broken_among(places, key, rows, row))
+}
+
+// Whether the `_id`s ascend from 1 or more to below the next one.
+fn is_numbered(rows: &[Row], next_id: u64) -> bool
+    ensures { result ≡ is_numbered rows.now next_id }
+{
+    1 <= next_id && do_ascend(rows, next_id)
+}
+
+fn do_ascend(rows: &[Row], next_id: u64) -> bool
+    ensures { result ≡ ascend_from 0 next_id rows.now }
+{
+    let mut low = 0;
+    for row in rows {
+        if !(low < row.id && row.id < next_id) {
+            return false;
+        }
+        low = row.id;
+    }
+    true
+}
