@@ -1,5 +1,5 @@
 -- Worked examples of faults that are noted.
-use Rattle.std.proofs.Common.{◌≡◌, ℕ, List, [], ◌∷◌, Option, Some, None, refl}
+use Rattle.std.proofs.Common.{◌≡◌, [], ◌∷◌, Some, None, refl}
 use Rattle.std.specs.Prelude.{codes}
 use Rattle.portal_base.specs.Faults.{Fault, noted, all_noted, also_noted}
 

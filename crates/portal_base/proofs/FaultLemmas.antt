@@ -1,6 +1,5 @@
 -- Faults that are noted ascend by their keys.
 use Rattle.std.proofs.Common.{◌≡◌, ℕ, false, List, ◌∙◌}
-use Rattle.std.specs.Str.{bytes_eq}
 use Rattle.std.proofs.lemmas.Map.Text.{is_eq-slice_cmp}
 use Rattle.portal_base.specs.Faults.{Fault, fault_cmp, fault_cmp_total, is_told}
 use Rattle.portal_base.specs.Ordered.{IsAscending, inserted}

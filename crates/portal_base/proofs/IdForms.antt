@@ -29,7 +29,8 @@ hexadecimal (suc (suc (suc (suc (suc (suc (suc (suc (suc (suc (suc (suc zero))))
 hexadecimal (suc (suc (suc (suc (suc (suc (suc (suc (suc (suc (suc (suc (suc zero))))))))))))) below = refl
 hexadecimal (suc (suc (suc (suc (suc (suc (suc (suc (suc (suc (suc (suc (suc (suc zero)))))))))))))) below = refl
 hexadecimal (suc (suc (suc (suc (suc (suc (suc (suc (suc (suc (suc (suc (suc (suc (suc zero))))))))))))))) below = refl
-hexadecimal (suc (suc (suc (suc (suc (suc (suc (suc (suc (suc (suc (suc (suc (suc (suc (suc d)))))))))))))))) below = absurd (omega arith)
+hexadecimal (suc (suc (suc (suc (suc (suc (suc (suc (suc (suc (suc (suc (suc (suc (suc (suc d)))))))))))))))) below =
+    absurd (omega arith)
 
 half : (xs : List ℕ) (k : ℕ) → nibble xs k < 16
 half xs k = by (k % 2 == 0)

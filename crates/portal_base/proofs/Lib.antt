@@ -32,3 +32,4 @@ pub mod DictionaryLemmas
 pub mod Removed
 pub mod Sorted
 pub mod Unique
+pub mod Words

@@ -13,3 +13,6 @@ pub mod Ordered
 pub mod Outside
 pub mod Text
 pub mod Dictionary
+pub mod Characters
+pub mod Tag
+pub mod Tokens

@@ -2,6 +2,7 @@
 #![tactic(auto)]
 
 pub mod caller;
+pub mod characters;
 pub mod copy;
 pub mod counted;
 pub mod dictionary;
@@ -21,5 +22,7 @@ pub mod seq;
 pub mod split;
 pub mod std_adapters;
 pub mod steps;
+pub mod tag;
 pub mod text;
+pub mod tokens;
 pub mod value_laws;

@@ -1,11 +1,11 @@
 //! Names of datasets, organizations and users, as they stand in addresses.
-ghost use Rattle.std.specs.Prelude.{◌≡◌, List, length, MatchOption, IfOk, IsOkUnless, Err, IsTrue};
-ghost use Rattle.std.specs.Str.{chars};
+ghost use Rattle.std.specs.Prelude.{◌≡◌, List, MatchOption, IfOk, IsOkUnless, Err, IsTrue};
 ghost use Rattle.portal_base.specs.Name.{name_fault, has_name_length, has_name_characters, is_name_character};
 ghost use Rattle.portal_base.specs.Name.{is_portal_address, is_id_character, has_id_characters, is_id_shaped};
 ghost use Rattle.portal_base.specs.Name.{is_reserved, is_some_name};
 ghost use Rattle.portal_base.specs.Name.{name_fault_message};
 
+use crate::characters::count_of_characters;
 use crate::text::Text;
 use std::alloc::{AllocError, Global};
 use std::marker::Model;
@@ -120,13 +120,6 @@ fn is_of_length(text: &str, longest: usize) -> bool
 {
     let count = count_of_characters(text);
     2 <= count && count <= longest
-}
-
-/// How many Unicode scalar values the text has.
-fn count_of_characters(text: &str) -> usize
-    ensures { result ≡ length (chars text.now) }
-{
-    text.chars().count()
 }
 
 /// Whether the text has no other characters than names have.

@@ -38,10 +38,10 @@ struct Bounds {
     most: u64,
 }
 
-/// Adds a line in brackets.
-fn push_line(told: &mut Vec<u8>, line: &[u8]) -> Result<(), AllocError> {
+/// Adds bytes in brackets.
+pub(crate) fn push_in_brackets(told: &mut Vec<u8>, bytes: &[u8]) -> Result<(), AllocError> {
     told.push(b'[')?;
-    told.extend_from_slice(line)?;
+    told.extend_from_slice(bytes)?;
     told.push(b']')?;
     Ok(())
 }
@@ -55,7 +55,7 @@ fn push_next<S: Source>(
 ) -> Result<bool, AllocError> {
     match reader.next(source) {
         Ok(NextLine::Line) => {
-            push_line(told, reader.line())?;
+            push_in_brackets(told, reader.line())?;
             Ok(false)
         }
         Ok(NextLine::TooLong) => {

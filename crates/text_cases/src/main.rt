@@ -1,10 +1,11 @@
-//! Worked examples of texts: names, moments, ids and JSON.
+//! Worked examples of texts: names, moments, ids, JSON, lines, tokens and tags.
 #![tactic(auto)]
 
 mod json;
 mod kinds;
 mod lines;
 mod moment;
+mod words;
 
 use cases::{Case, Tally, check};
 use portal_base::name::{Name, NameFault};
@@ -41,5 +42,7 @@ fn main(rt: HostRuntime) -> io::Result<ExitCode> {
     check(&rt, &mut tally, "json_members", 3, json::member)?;
     check(&rt, &mut tally, "kinds", 3, kinds::value)?;
     check(&rt, &mut tally, "lines", 5, lines::read)?;
+    check(&rt, &mut tally, "tokens", 2, words::tokens_found)?;
+    check(&rt, &mut tally, "tags", 2, words::tag_told)?;
     tally.end(&rt)
 }

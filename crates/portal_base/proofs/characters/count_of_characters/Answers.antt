@@ -1,6 +1,6 @@
 use Rattle.std.proofs.Common.{rules}
 use Rattle.std.proofs.lemmas.Str.{chars_from_encodes}
-use Rattle.portal_base.proofs.name.count_of_characters.Goals as goal
+use Rattle.portal_base.proofs.characters.count_of_characters.Goals as goal
 
 pub returns : goal.returns
 returns c = search (rules, chars_from_encodes)

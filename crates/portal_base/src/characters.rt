@@ -1,0 +1,41 @@
+//! The characters of texts: how many there are, and which are of words.
+ghost use Rattle.std.specs.Prelude.{◌≡◌, length};
+ghost use Rattle.std.specs.Str.{chars};
+ghost use Rattle.portal_base.specs.Characters.{is_word_category, is_word_character};
+
+use unicode::properties::GeneralCategory;
+
+/// How many Unicode scalar values the text has.
+pub fn count_of_characters(text: &str) -> usize
+    ensures { result ≡ length (chars text.now) }
+{
+    text.chars().count()
+}
+
+/// Whether the character is a letter, a mark or a number by its general category (Unicode, section 4.5).
+#[tactic(auto, unfolding(crate::specs::Characters::is_word_character))]
+pub fn is_word_character(character: char) -> bool
+    ensures { result ≡ is_word_character character }
+{
+    is_word_category(GeneralCategory::for_char(character))
+}
+
+/// Whether the category is one of letters, marks or numbers.
+fn is_word_category(category: GeneralCategory) -> bool
+    ensures { result ≡ is_word_category category }
+{
+    matches!(
+        category,
+        GeneralCategory::UppercaseLetter
+            | GeneralCategory::LowercaseLetter
+            | GeneralCategory::TitlecaseLetter
+            | GeneralCategory::ModifierLetter
+            | GeneralCategory::OtherLetter
+            | GeneralCategory::NonspacingMark
+            | GeneralCategory::SpacingMark
+            | GeneralCategory::EnclosingMark
+            | GeneralCategory::DecimalNumber
+            | GeneralCategory::LetterNumber
+            | GeneralCategory::OtherNumber
+    )
+}
