@@ -8,7 +8,6 @@ pub mod Package
 pub mod Placing
 pub mod Resources
 pub mod Shelf
-pub mod Tag
 pub mod Tags
 pub mod Texts
 pub mod Told

@@ -9,7 +9,7 @@ use Rattle.portal_base.specs.declared.kinds.KindFault.TheVariants.{NotDictionary
 use Rattle.portal_base.specs.Faults.{found_value}
 use Rattle.portal_base.specs.Kinds.{dictionary_in, is_among, list_at, message_of, text_at}
 use Rattle.portal_base.specs.Ordered.{inserted}
-use Rattle.packages.specs.Tag.{has_tag_length, has_tag_characters}
+use Rattle.portal_base.specs.Tag.{has_tag_length, has_tag_characters}
 use Rattle.packages.specs.Texts.{text_given}
 use Rattle.packages.specs.Told.{demanded, first_told, message_unless, or_told, told_of_given}
 

@@ -10,7 +10,6 @@ pub mod package;
 mod resource_list;
 pub mod resources;
 pub mod shelf;
-pub mod tag;
 mod tags;
 pub mod texts;
 mod told;

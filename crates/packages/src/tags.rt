@@ -6,13 +6,13 @@ ghost use Rattle.packages.specs.Tags.{tags_or};
 ghost use Rattle.packages.specs.Texts.{text_given};
 ghost use Rattle.packages.specs.Told.{first_told};
 
-use crate::tag::{has_tag_characters, has_tag_length};
 use crate::texts::text_given;
 use crate::told::message_unless;
 use portal_base::copy::TryClone;
 use portal_base::json_value::Json;
 use portal_base::kinds::{KindFault, dictionary_in, list_at, text_at};
 use portal_base::seq::Seq;
+use portal_base::tag::{has_tag_characters, has_tag_length};
 use portal_base::text::Text;
 use std::alloc::{AllocError, Global};
 
