@@ -2,18 +2,16 @@ use Rattle.std.proofs.Common.{arith, sym, ◌∙◌}
 use Rattle.std.proofs.lemmas.Int.{ints}
 use Rattle.lexical_forms.proofs.SignificandLemmas.{moved, at_zeros, shifted-is, zeros_computed}
 use Rattle.lexical_forms.proofs.number.significand.Significand.billionths.Goals as goal
-use Rattle.lexical_forms.proofs.number.significand.Significand.billionths.Goals.{then-zeros-lt0-via-then-zeros-lt0}
-use Rattle.lexical_forms.proofs.number.significand.Significand.billionths.Goals.{then-zeros-lt0-via-else-zeros-lt0+then-zeros-gt26}
 
 pub returns-then-zeros-lt0 : goal.returns-then-zeros-lt0
 returns-then-zeros-lt0 c = λ cs whole spells limited.
     let m = moved c.args.self cs whole c.args.exponent c.args.behind_point spells limited c.if-self-eq0.false
     (omega arith) c.requires.behind.0 c.requires.behind.1 in
     elim c.then-zeros-lt0.branch [
-      | then-zeros-lt0-via-then-zeros-lt0 w ↦
+      | goal.then-zeros-lt0-via-then-zeros-lt0 w ↦
           sym (m.low
           (omega (arith, ints, c.requires.limits.0, c.requires.limits.1, c.from.ensures, w.if-zeros-lt0.true)))
-      | then-zeros-lt0-via-else-zeros-lt0+then-zeros-gt26 w ↦
+      | goal.then-zeros-lt0-via-else-zeros-lt0+then-zeros-gt26 w ↦
           sym (m.high
           (omega (arith, ints, c.requires.limits.0, c.requires.limits.1, c.from.ensures, w.if-zeros-gt26.true)))
     ]
