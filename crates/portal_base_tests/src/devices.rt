@@ -1,7 +1,6 @@
 //! Devices, over readers and writers that fail.
-use portal_base::counted::{CountNonces, ScriptClock};
 use portal_base::memory::MemorySink;
-use portal_base::outside::{Clock, Failed, Nonces, Sink, Source};
+use portal_base::outside::{Failed, Sink, Source};
 use portal_base::seq::Seq;
 use portal_base::std_adapters::{StdSink, StdSource};
 use std::alloc::{AllocError, Global};
@@ -41,16 +40,6 @@ fn a_memory_sink_takes_what_fits(rt: HostRuntime) -> Result<(), AllocError> {
     assert_eq!(rt; sink.write(b"f"), Err(Failed));
     assert_eq!(rt; sink.taken(), "abcde".as_bytes());
     Ok(())
-}
-
-#[test]
-fn counters_go_on(rt: HostRuntime) {
-    let mut clock = ScriptClock::new();
-    let mut nonces = CountNonces::new();
-    for step in 0..3u8 {
-        assert_eq!(rt; clock.now().seconds(), 1_704_067_200 + i64::from(step));
-        assert_eq!(rt; nonces.next().0, 1 + u128::from(step));
-    }
 }
 
 #[test]

@@ -1,10 +1,8 @@
-//! Words by their numbers: each call where there is enough memory.
-use portal_base::ordered::{
-    Key, Ordered, are_apart, drop_at, find, insert, put, remove, replace_or_put, reserve, sort,
-};
+//! Words by their numbers: the calls that no crate above makes itself, where there is enough memory. The others are
+//! tested at the lists of `org_roles`, by `call_cases`.
+use portal_base::ordered::{Key, Ordered, find, insert, put, remove, reserve};
 use std::alloc::{AllocError, Global};
 use std::cmp::Ordering;
-use std::process::Abort;
 use std::test::Fail;
 
 #[derive(Drop)]
@@ -98,67 +96,5 @@ fn changes_by_one_item(rt: HostRuntime) -> Result<(), Fail> {
         words(rt.alloc(), items.as_slice())?.as_slice(),
         b"aei".as_slice()
     );
-    Ok(())
-}
-
-#[test]
-fn puts_in_place_of_what_is_like(rt: HostRuntime) -> Result<(), Fail> {
-    let mut items: Vec<Numbered> = Vec::new(rt.alloc());
-    reserve(&mut items)?;
-    replace_or_put(
-        &mut items,
-        Numbered {
-            number: 5,
-            word: b'e',
-        },
-    );
-    reserve(&mut items)?;
-    replace_or_put(
-        &mut items,
-        Numbered {
-            number: 2,
-            word: b'b',
-        },
-    );
-    reserve(&mut items)?;
-    let replaced = replace_or_put(
-        &mut items,
-        Numbered {
-            number: 5,
-            word: b'x',
-        },
-    );
-    assert_eq!(rt; replaced.ok_or("an item")?.word, b'e');
-    assert_eq!(rt;
-        words(rt.alloc(), items.as_slice())?.as_slice(),
-        b"bx".as_slice()
-    );
-    assert_eq!(rt; drop_at(&mut items, &2).ok_or("an item")?.word, b'b');
-    assert_eq!(rt;
-        words(rt.alloc(), items.as_slice())?.as_slice(),
-        b"x".as_slice()
-    );
-    Ok(())
-}
-
-#[test]
-fn sorts_what_is_apart(rt: HostRuntime) -> Result<(), Fail> {
-    let mut items = Vec::new(rt.alloc());
-    for (number, word) in [(7, b'g'), (2, b'b'), (5, b'e')] {
-        items.push(Numbered { number, word })?;
-    }
-    assert!(rt; are_apart(items.as_slice()));
-    if are_apart(items.as_slice()) {
-        sort(&mut items);
-    }
-    assert_eq!(rt;
-        words(rt.alloc(), items.as_slice())?.as_slice(),
-        b"beg".as_slice()
-    );
-    items.push(Numbered {
-        number: 2,
-        word: b'x',
-    })?;
-    assert!(rt; !are_apart(items.as_slice()));
     Ok(())
 }

@@ -1,6 +1,5 @@
-//! Values that no text gives, and what becomes of names.
+//! Values that no text gives.
 use portal_base::json_value::Json;
-use portal_base::name::Name;
 use portal_base::seq::Seq;
 use portal_base::text::Text;
 use std::test::Fail;
@@ -17,13 +16,5 @@ fn writes_wide_numbers_and_any_order(rt: HostRuntime) -> Result<(), Fail> {
         written.as_str(),
         "{\"b\":170141183460469231731687303715884105727,\"a\":-170141183460469231731687303715884105728}"
     );
-    Ok(())
-}
-
-#[test]
-fn keeps_a_names_text(rt: HostRuntime) -> Result<(), Fail> {
-    let name = Name::read(rt.alloc(), "city_trees-2024", 100)?;
-    assert_eq!(rt; name.as_str(), "city_trees-2024");
-    assert_eq!(rt; name.into_text().as_str(), "city_trees-2024");
     Ok(())
 }
