@@ -1,8 +1,9 @@
 //! Typed cells, and why a text or a value is none.
 
+use portal_base::copy::TryClone;
 use portal_base::moment::Moment;
 use portal_base::text::Text;
-use std::alloc::AllocError;
+use std::alloc::{AllocError, Global};
 use std::cmp::Ordering;
 use std::error::Error;
 use std::fmt;
@@ -117,6 +118,23 @@ impl Cell {
             Cell::Text(text) => text.as_str(),
             _ => "",
         }
+    }
+}
+
+impl TryClone for Cell {
+    fn try_clone(&self, alloc: Global) -> Result<Cell, AllocError> {
+        Ok(match self {
+            Cell::Null => Cell::Null,
+            Cell::Text(text) => Cell::Text(text.try_clone(alloc)?),
+            Cell::Int(number) => Cell::Int(*number),
+            Cell::Number(billionths) => Cell::Number(*billionths),
+            Cell::Truth(truth) => Cell::Truth(*truth),
+            Cell::Date(day) => Cell::Date(*day),
+            Cell::Time(second) => Cell::Time(*second),
+            Cell::Stamp(moment) => Cell::Stamp(*moment),
+            Cell::Year(year) => Cell::Year(*year),
+            Cell::YearMonth(year, month) => Cell::YearMonth(*year, *month),
+        })
     }
 }
 

@@ -28,5 +28,6 @@ pub use foreign::Foreign;
 pub use form::{Form, Kind, Truths};
 pub use lexical_forms::NumberForm;
 pub use print::{cell_json, cell_text};
+pub use reading::value_of;
 pub use schema::Schema;
 pub use to_json::kind_name;

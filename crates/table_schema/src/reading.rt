@@ -62,8 +62,8 @@ fn plain_cell_of(alloc: Global, kind: Kind, text: &str) -> Result<Option<Cell>, 
     cell_of(alloc, &form, text)
 }
 
-/// The cell of a JSON value, by the type alone.
-pub(crate) fn value_of(alloc: Global, kind: Kind, value: &Json) -> Result<Option<Cell>, AllocError>
+/// The cell of a JSON value, by the type alone. Texts are read without a field's options.
+pub fn value_of(alloc: Global, kind: Kind, value: &Json) -> Result<Option<Cell>, AllocError>
     ensures { IfOk result (λ cell. cell ≡ value_reading kind value.now) }
 {
     match value {
