@@ -9,7 +9,7 @@ use Rattle.typed_csv.specs.declared.fault.LoadFault.TheVariants as fault
 use Rattle.typed_csv.specs.declared.header.Layout.{Layout}
 use Rattle.typed_csv.specs.Faults.{Gives, IsOutside, IsRefused}
 use Rattle.typed_csv.specs.Header.{header_layout}
-use Rattle.typed_csv.specs.Loading.{IsHeaderFault, IsLayout, IsRowFault, Loading}
+use Rattle.typed_csv.specs.Loading.{IsHeaderFault, IsLayout, IsRowFault}
 use Rattle.typed_csv.specs.Records.{is_text}
 use Rattle.typed_csv.specs.Rows.{row_reading}
 
@@ -44,21 +44,21 @@ no_text_header fields = inr (no_text ∷ [], refl)
 
 -- ---- a row
 
-pub no_text_row : {S : Type 0} (loader : Loading S) (number : ℕ) → number ≡ loader.number + 1
-    → IsRowFault loader (fault.NotUtf8 number)
+pub no_text_row : (fields : List FieldValue) (layout : Layout) (given number : ℕ) → number ≡ given + 1
+    → IsRowFault fields layout given (fault.NotUtf8 number)
 unfolding is_utf8 chars
-no_text_row loader number next = rw next (inr (inr (no_text, refl)))
+no_text_row fields layout given number next = rw next (inr (inr (no_text, refl)))
 
-refused_row : {S : Type 0} (loader : Loading S) (texts : List (List ℕ)) (why : LoadFault)
-    → IsRefused why (row_reading loader.fields loader.between.layout (loader.number + 1) texts) → IsRowFault loader why
-refused_row loader texts why given =
-    elim (refused why (row_reading loader.fields loader.between.layout (loader.number + 1) texts) given)
+refused_row : (fields : List FieldValue) (layout : Layout) (given : ℕ) (texts : List (List ℕ)) (why : LoadFault)
+    → IsRefused why (row_reading fields layout (given + 1) texts) → IsRowFault fields layout given why
+refused_row fields layout given texts why is =
+    elim (refused why (row_reading fields layout (given + 1) texts) is)
     [ inl outside ↦ inl outside | inr read ↦ inr (inr (texts, read)) ]
 
-pub row_refused : {S X : Type 0} (loader : Loading S) (texts : List (List ℕ)) (why : LoadFault)
-    (answer : Result X LoadFault) (reading : Result (List Cell) LoadFault) →
+pub row_refused : {X : Type 0} (fields : List FieldValue) (layout : Layout) (given : ℕ) (texts : List (List ℕ))
+    (why : LoadFault) (answer : Result X LoadFault) (reading : Result (List Cell) LoadFault) →
     answer ≡ Err why → IsRefused why reading
-    → reading ≡ row_reading loader.fields loader.between.layout (loader.number + 1) texts
-    → IfErr answer (IsRowFault loader)
-row_refused loader texts why answer reading same e is =
-    rw same (refused_row loader texts why (subst (IsRefused why) is e))
+    → reading ≡ row_reading fields layout (given + 1) texts
+    → IfErr answer (IsRowFault fields layout given)
+row_refused fields layout given texts why answer reading same e is =
+    rw same (refused_row fields layout given texts why (subst (IsRefused why) is e))

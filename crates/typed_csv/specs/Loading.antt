@@ -1,6 +1,6 @@
 -- What a loader has in hand, and what its calls answer.
-use Rattle.std.specs.Prelude.{◌≡◌, ◌⊎◌, ◌≤◌, ◌^◌, ℕ, ◌+◌, Bool, List, [], ◌∷◌, ⊤, Option, Some, None, option_map}
-use Rattle.std.specs.Prelude.{IfSome, Result, Ok, Err}
+use Rattle.std.specs.Prelude.{◌≡◌, ◌⊎◌, ◌≤◌, ◌^◌, ℕ, ◌+◌, List, [], ◌∷◌, ⊤, Option, Some, None, option_map}
+use Rattle.std.specs.Prelude.{IsSome, IfSome, MatchOption, Result, Ok, Err}
 use Rattle.table_schema.specs.Field.{FieldValue}
 use Rattle.table_schema.specs.declared.cell.Cell.{Cell}
 use Rattle.typed_csv.specs.declared.fault.LoadFault.{LoadFault}
@@ -10,52 +10,35 @@ use Rattle.typed_csv.specs.declared.loader.Stage.{Stage}
 use Rattle.typed_csv.specs.declared.loader.Stage.TheVariants as stage
 use Rattle.typed_csv.specs.Faults.{IsOutside}
 use Rattle.typed_csv.specs.Header.{header_reading}
-use Rattle.typed_csv.specs.Reading.{Reading, records_ahead}
-use Rattle.typed_csv.specs.Rows.{Rows, before, faulty, no_rows, row_reading, rows_from, rows_of}
+use Rattle.typed_csv.specs.Reading.{IsCounted}
+use Rattle.typed_csv.specs.Rows.{Rows, before, faulty, no_rows, row_reading, rows_of}
 
--- What a loader keeps between its source and the next row: the columns of the header, the records that were read and
--- not yet given, the bytes behind them, and whether a byte order mark may still come. What it means for a caller is
--- said by rows_ahead, IsRow and IsRowFault.
-pub record Between : Type 0 where
-  pub layout : Layout
-  pub ready : List (List (List ℕ))
-  pub held : List ℕ
-  pub is_fresh : Bool
-
--- A loader: its source as far as it was read, how many bytes that gave, the fields of the schema, how many rows were
--- given so far, and whether rows may still come.
+-- A loader: its source as far as it was read, how many bytes that gave, the fields of the schema, the columns that the
+-- header has for them, how many rows were given so far, and whether rows may still come. Where the source tells, ahead
+-- are the rows still to come and the fault that ends them.
 pub record Loading (S : Type 0) : Type 0 where
   pub source : S
   pub given : ℕ
   pub fields : List FieldValue
+  pub layout : Layout
   pub number : ℕ
   pub stage : Stage
-  pub between : Between
-
--- its records, in the hand of their reader
-abbrev pub reading_of : {S : Type 0} → Loading S → Reading S
-reading_of loader = record {
-  source = loader.source;
-  ready = loader.between.ready;
-  held = loader.between.held;
-  given = loader.given;
-  is_fresh = loader.between.is_fresh;
-}
+  pub ahead : Option Rows
 
 -- A loader that isn't spent was given no more bytes than a source may give.
 abbrev pub IsWithin : Stage → ℕ → Type 0
 IsWithin stage.Spent given = ⊤
 IsWithin other given = given ≤ 2 ^ 40
 
--- the rows still to come of these records
-abbrev pub rows_at : {S : Type 0} → Loading S → Stage → List (List (List ℕ)) → Rows
-rows_at loader stage.Reading records = rows_from loader.fields loader.between.layout (loader.number + 1) records
-rows_at loader stage.Ended records = no_rows
-rows_at loader stage.Spent records = faulty fault.Spent
+-- What is ahead is told where the source tells: no row at the end, and of a loader that is spent that it is.
+abbrev pub IsTold : Stage → Option (List ℕ) → Option Rows → Type 0
+IsTold stage.Reading told ahead = MatchOption told (ahead ≡ None) (λ rest. IsSome ahead)
+IsTold stage.Ended told ahead = ahead ≡ option_map (λ rest. no_rows) told
+IsTold stage.Spent told ahead = ahead ≡ option_map (λ rest. faulty fault.Spent) told
 
--- the rows still to come and the fault that ends them, where the source tells
-abbrev pub rows_ahead : {S : Type 0} → (S → Option (List ℕ)) → Loading S → Option Rows
-rows_ahead to_come loader = option_map (rows_at loader loader.stage) (records_ahead to_come (reading_of loader))
+-- The source gave some bytes in this call, and they were counted.
+abbrev pub IsGiven : {S : Type 0} → (S → Option (List ℕ)) → Loading S → Loading S → Type 0
+IsGiven to_come old new = IsCounted (to_come old.source) old.given (to_come new.source) new.given
 
 -- What is told begins as the call answers: with this row, with the end, or with this fault. A fault of the source or of
 -- memory, and a loader that is spent, say nothing of it.
@@ -64,16 +47,15 @@ Answers old (Ok (Some cells)) new = old ≡ option_map (before (Ok cells)) new
 Answers old (Ok None) new = (IfSome old (λ rows. rows ≡ no_rows)) × (new ≡ old)
 Answers old (Err why) new = IsOutside why ⊎ (why ≡ fault.Spent) ⊎ IfSome old (λ rows. rows ≡ faulty why)
 
--- The cells are the next row of some record, whatever the source tells.
-abbrev pub IsRow : {S : Type 0} → Loading S → List Cell → Type 0
-IsRow loader cells =
-    (texts : List (List ℕ)) × (row_reading loader.fields loader.between.layout (loader.number + 1) texts ≡ Ok cells)
+-- The cells are the row behind so many of some record, whatever the source tells.
+abbrev pub IsRow : List FieldValue → Layout → ℕ → List Cell → Type 0
+IsRow fields layout number cells = (texts : List (List ℕ)) × (row_reading fields layout (number + 1) texts ≡ Ok cells)
 
 -- Why no row is given, whatever the source tells: a fault of the source or of memory, a loader that is spent, or a
--- record that has this fault as the next row.
-abbrev pub IsRowFault : {S : Type 0} → Loading S → LoadFault → Type 0
-IsRowFault loader why = IsOutside why ⊎ (why ≡ fault.Spent)
-    ⊎ ((texts : List (List ℕ)) × (row_reading loader.fields loader.between.layout (loader.number + 1) texts ≡ Err why))
+-- record that has this fault as the row behind so many.
+abbrev pub IsRowFault : List FieldValue → Layout → ℕ → LoadFault → Type 0
+IsRowFault fields layout number why = IsOutside why ⊎ (why ≡ fault.Spent)
+    ⊎ ((texts : List (List ℕ)) × (row_reading fields layout (number + 1) texts ≡ Err why))
 
 -- How a loader stands after an answer: behind a row it still reads, at the end it is ended, and after a fault it is
 -- spent.
@@ -86,13 +68,9 @@ stage_after (Err why) = stage.Spent
 abbrev pub IsLayout : List FieldValue → Layout → Type 0
 IsLayout fields layout = (names : List (List ℕ)) × (header_reading fields (names ∷ []) ≡ Ok layout)
 
--- The loader reads by a header of these fields.
-abbrev pub HasHeader : {S : Type 0} → List FieldValue → Loading S → Type 0
-HasHeader fields loader = IsLayout fields loader.between.layout
-
 -- the fields and the header stay
 abbrev pub IsOfSameFile : {S : Type 0} → Loading S → Loading S → Type 0
-IsOfSameFile old new = (new.fields ≡ old.fields) × (new.between.layout ≡ old.between.layout)
+IsOfSameFile old new = (new.fields ≡ old.fields) × (new.layout ≡ old.layout)
 
 -- how many rows were given after an answer
 abbrev pub number_after : ℕ → Result (Option (List Cell)) LoadFault → ℕ

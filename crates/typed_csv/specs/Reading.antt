@@ -22,10 +22,13 @@ text_records false text = records default_config text
 abbrev pub records_ahead : {S : Type 0} → (S → Option (List ℕ)) → Reading S → Option (List (List (List ℕ)))
 records_ahead to_come r = option_map (λ rest. r.ready ++ text_records r.is_fresh (r.held ++ rest)) (to_come r.source)
 
+-- What is told of a source moved by some bytes, and they were counted.
+abbrev pub IsCounted : Option (List ℕ) → ℕ → Option (List ℕ) → ℕ → Type 0
+IsCounted old given new given_now = (bytes : List ℕ) × Gives old bytes new × (given_now ≡ given + length bytes)
+
 -- The source gave some bytes in this call, and they were counted.
 abbrev pub Receives : {S : Type 0} → (S → Option (List ℕ)) → Reading S → Reading S → Type 0
-Receives to_come old new =
-    (bytes : List ℕ) × Gives (to_come old.source) bytes (to_come new.source) × (new.given ≡ old.given + length bytes)
+Receives to_come old new = IsCounted (to_come old.source) old.given (to_come new.source) new.given
 
 -- x was the first of those to come, where they are told
 abbrev pub TakesFirst : {X : Type 0} → Option (List X) → X → Option (List X) → Type 0

@@ -34,7 +34,8 @@ impl Model for Chunk {
 
     ghost Value = { List (List (List ℕ)) };
 
-    ghost view = { λ c. records_left (reader_state c.reader) (source_of (cursor_remaining (λ v. Some v.items)) c.reader) };
+    ghost view = { λ c.
+        records_left (reader_state c.reader) (source_of (cursor_remaining (λ v. Some v.items)) c.reader) };
 
     ghost invariant = { λ c. IsChunkReader c.reader };
 }

@@ -9,6 +9,7 @@ mod loader;
 mod pieces;
 mod record_reader;
 mod row;
+mod row_reader;
 mod scan;
 
 pub use fault::LoadFault;

@@ -1,19 +1,18 @@
 //! The loader: the rows of a source, one after the other.
-ghost use Rattle.std.specs.Prelude.{◌≡◌, ◌↔◌, ◌≢◌, ◌<◌, ◌≤◌, ◌^◌, ◌+◌, ℕ, List, [], length, Ok, Err, None, All, IfOk};
-ghost use Rattle.std.specs.Prelude.{IfErr, IfSome};
+ghost use Rattle.std.specs.Prelude.{◌≡◌, ◌↔◌, ◌≢◌, ◌<◌, ◌≤◌, ◌^◌, ℕ, List, length, Ok, Err, None, All, IfOk, IfErr};
+ghost use Rattle.std.specs.Prelude.{IfSome};
 ghost use Rattle.portal_base.specs.Outside.{Gives, Rose};
 ghost use Rattle.table_schema.specs.Printed.{IsValue};
-ghost use Rattle.typed_csv.specs.Calls.{Reads, RefusesRecords, TakesHeader, rows_left};
-ghost use Rattle.typed_csv.specs.Loading.{Answers, Begins, HasHeader, IsHeaderFault, IsLayout, IsOfSameFile, IsRow};
-ghost use Rattle.typed_csv.specs.Loading.{IsRowFault, RefusesHeader, number_after, reading_of, rows_ahead};
-ghost use Rattle.typed_csv.specs.Loading.{stage_after};
+ghost use Rattle.typed_csv.specs.Calls.{RefusesRecords, TakesHeader};
+ghost use Rattle.typed_csv.specs.Loading.{Answers, Begins, IsGiven, IsHeaderFault, IsLayout, IsOfSameFile, IsRow};
+ghost use Rattle.typed_csv.specs.Loading.{IsRowFault, IsTold, RefusesHeader, number_after, stage_after};
 ghost use Rattle.typed_csv.specs.Reading.{Receives, records_ahead};
 
 use crate::chunk::Next;
 use crate::fault::LoadFault;
 use crate::header::{Layout, layout_of};
 use crate::record_reader::RecordReader;
-use crate::row::row_of;
+use crate::row_reader::RowReader;
 use csv::StringRecord;
 use portal_base::outside::Source;
 use portal_base::seq::Seq;
@@ -37,32 +36,28 @@ pub(crate) enum Stage {
 /// dropped. The first record is the header; a column without a name is skipped, and a field without a column reads
 /// the empty text.
 #[derive(Drop)]
-pub struct Loader<S> {
-    alloc: Global,
-    schema: Schema,
-    layout: Layout,
-    records: RecordReader<S>,
-    row: StringRecord,
-    number: u64,
+pub struct Loader<S: Source> {
+    rows: RowReader<S>,
     stage: Stage,
 }
 
-impl<S> Model for Loader<S> {
+impl<S: Source> Model for Loader<S> {
+    ghost use Rattle.typed_csv.specs.Calls.{rows_ahead};
     ghost use Rattle.typed_csv.specs.Loading.{IsWithin, Loading};
 
     ghost Value = { Loading S };
 
     ghost view = { λ l. record {
-      source = l.records.source;
-      given = l.records.given;
-      fields = l.schema.fields;
-      number = l.number;
+      source = l.rows.records.source;
+      given = l.rows.records.given;
+      fields = l.rows.schema.fields;
+      layout = l.rows.layout;
+      number = l.rows.number;
       stage = l.stage;
-      between =
-          record { layout = l.layout; ready = l.records.ready; held = l.records.held; is_fresh = l.records.is_fresh };
+      ahead = rows_ahead S.to_come l.stage l.rows;
     } };
 
-    ghost invariant = { λ l. IsWithin l.stage l.records.given };
+    ghost invariant = { λ l. IsWithin l.stage l.rows.records.given };
 }
 
 impl<S: Source> Loader<S> {
@@ -70,11 +65,13 @@ impl<S: Source> Loader<S> {
     ///
     /// The faults are `NotUtf8(0)`, `Header`, `ReadFault`, `TooLong` and `OutOfMemory`.
     pub fn start(alloc: Global, schema: Schema, source: S) -> Result<Loader<S>, (LoadFault, S)>
-        ensures begins { IfOk result (λ loader. Begins schema.fields (S.to_come source) (rows_ahead S.to_come loader)) }
+        ensures begins { IfOk result (λ loader. Begins schema.fields (S.to_come source) loader.ahead) }
+        ensures told { IfOk result (λ loader. IsTold loader.stage (S.to_come loader.source) loader.ahead) }
         ensures stage { IfOk result
             (λ loader. (loader.fields ≡ schema.fields) × (loader.number ≡ 0) × (loader.stage ≡ Stage.Reading)) }
-        ensures header { IfOk result (HasHeader schema.fields) }
-        ensures received { IfOk result (λ loader. (bytes : List ℕ) × Gives (S.to_come source) bytes (S.to_come loader.source)
+        ensures header { IfOk result (λ loader. IsLayout schema.fields loader.layout) }
+        ensures received { IfOk result (λ loader. (bytes : List ℕ)
+            × Gives (S.to_come source) bytes (S.to_come loader.source)
             × (loader.given ≡ length bytes) × (length bytes ≤ 2 ^ 40)) }
         ensures counts { IfOk result (λ loader. S.faults source ≤ S.faults loader.source) }
 
@@ -82,19 +79,22 @@ impl<S: Source> Loader<S> {
         ensures cause { IfErr result (λ back. IsHeaderFault schema.fields back.0) }
         ensures returned { IfErr result (λ back. (bytes : List ℕ) × Gives (S.to_come source) bytes (S.to_come back.1)
             × ((back.0 ≡ LoadFault.TooLong) ↔ (2 ^ 40 < length bytes))) }
-        ensures failed { IfErr result (λ back. back.0 ≡ LoadFault.ReadFault → Rose (S.faults source) (S.faults back.1)) }
+        ensures failed { IfErr result
+            (λ back. back.0 ≡ LoadFault.ReadFault → Rose (S.faults source) (S.faults back.1)) }
         ensures counted { IfErr result (λ back. S.faults source ≤ S.faults back.1) }
     {
         let mut records = RecordReader::new(alloc, source);
         let mut row = StringRecord::new(alloc);
         match read_header(alloc, schema.fields().as_slice(), &mut records, &mut row) {
             Ok(layout) => Ok(Loader {
-                alloc,
-                schema,
-                layout,
-                records,
-                row,
-                number: 0,
+                rows: RowReader {
+                    alloc,
+                    schema,
+                    layout,
+                    records,
+                    row,
+                    number: 0,
+                },
                 stage: Stage::Reading,
             }),
             Err(fault) => Err((fault, records.into_source())),
@@ -107,17 +107,18 @@ impl<S: Source> Loader<S> {
     /// order, and last of fields without a column in the schema's order. `ReadFault`, `TooLong` and `OutOfMemory` may
     /// come at any row. After a fault each call answers `Spent`.
     pub fn next(&mut self) -> Result<Option<Seq<Cell>>, LoadFault>
-        ensures answers { Answers (rows_ahead S.to_come self.old) result (rows_ahead S.to_come self.new) }
-        ensures row { IfOk result (λ row. IfSome row (IsRow self.old)) }
+        ensures answers { Answers self.old.ahead result self.new.ahead }
+        ensures told { IsTold self.new.stage (S.to_come self.new.source) self.new.ahead }
+        ensures row { IfOk result (λ row. IfSome row (IsRow self.old.fields self.old.layout self.old.number)) }
         ensures value { IfOk result (λ row. IfSome row (λ cells. All IsValue cells)) }
-        ensures cause { IfErr result (IsRowFault self.old) }
+        ensures cause { IfErr result (IsRowFault self.old.fields self.old.layout self.old.number) }
         ensures number { self.new.number ≡ number_after self.old.number result }
         ensures spent { (result ≡ Err LoadFault.Spent) ↔ (self.old.stage ≡ Stage.Spent) }
         ensures stage { self.new.stage ≡ stage_after result }
         ensures ended { self.old.stage ≡ Stage.Ended → result ≡ Ok None }
         ensures still { self.old.stage ≢ Stage.Reading → self.new ≡ self.old }
         ensures kept { IsOfSameFile self.old self.new }
-        ensures received { Receives S.to_come (reading_of self.old) (reading_of self.new) }
+        ensures received { IsGiven S.to_come self.old self.new }
         ensures failed { result ≡ Err LoadFault.ReadFault → Rose (S.faults self.old.source) (S.faults self.new.source) }
         ensures counts { S.faults self.old.source ≤ S.faults self.new.source }
         ensures much { result ≢ Err LoadFault.Spent → ((result ≡ Err LoadFault.TooLong) ↔ (2 ^ 40 < self.new.given)) }
@@ -128,7 +129,7 @@ impl<S: Source> Loader<S> {
             Stage::Spent => return Err(LoadFault::Spent),
         }
         self.stage = Stage::Spent;
-        let row = self.read_row()?;
+        let row = self.rows.next()?;
         self.stage = match &row {
             Some(_) => Stage::Reading,
             None => Stage::Ended,
@@ -140,43 +141,7 @@ impl<S: Source> Loader<S> {
     pub fn into_source(self) -> S
         ensures { result ≡ self.source }
     {
-        self.records.into_source()
-    }
-
-    // The next row, or none at the end. The loader is marked spent meanwhile, so that a fault leaves it so.
-    fn read_row(&mut self) -> Result<Option<Seq<Cell>>, LoadFault>
-        requires { self.old.stage ≡ Stage.Spent }
-        ensures reads { Reads (rows_left S.to_come self.old) result (rows_left S.to_come self.new) }
-        ensures row { IfOk result (λ row. IfSome row (IsRow self.old)) }
-        ensures value { IfOk result (λ row. IfSome row (λ cells. All IsValue cells)) }
-        ensures cause { IfErr result (IsRowFault self.old) }
-        ensures number { self.new.number ≡ number_after self.old.number result }
-        ensures fault { result ≢ Err LoadFault.Spent }
-        ensures kept { IsOfSameFile self.old self.new }
-        ensures stage { self.new.stage ≡ self.old.stage }
-        ensures received { Receives S.to_come (reading_of self.old) (reading_of self.new) }
-        ensures failed { result ≡ Err LoadFault.ReadFault → Rose (S.faults self.old.source) (S.faults self.new.source) }
-        ensures counts { S.faults self.old.source ≤ S.faults self.new.source }
-        ensures much { (result ≡ Err LoadFault.TooLong) ↔ (2 ^ 40 < self.new.given) }
-    {
-        let next = self.records.next(&mut self.row)?;
-        let Some(number) = self.number.checked_add(1) else {
-            return Err(LoadFault::OutOfMemory);
-        };
-        match next {
-            Next::Record => {}
-            Next::NotText => return Err(LoadFault::NotUtf8(number)),
-            Next::End => return Ok(None),
-        }
-        let cells = row_of(
-            self.alloc,
-            self.schema.fields().as_slice(),
-            &self.layout,
-            number,
-            &self.row,
-        )?;
-        self.number = number;
-        Ok(Some(cells))
+        self.rows.records.into_source()
     }
 }
 

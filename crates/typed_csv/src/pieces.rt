@@ -79,7 +79,8 @@ impl Pieces {
     /// Adds a piece of the source. No whole record is left among the bytes held.
     pub(crate) fn add(&mut self, piece: &[u8]) -> Result<(), AllocError>
         requires { self.old.ready ≡ [] }
-        ensures records { OnOk result ((rest : List ℕ) → records_with self.new rest ≡ records_with self.old (piece.now ++ rest)) }
+        ensures records { OnOk result
+            ((rest : List ℕ) → records_with self.new rest ≡ records_with self.old (piece.now ++ rest)) }
         ensures held { OnOk result (IsHeldBack self.new.is_fresh self.new.held) }
     {
         self.extend(piece)?;

@@ -1,0 +1,70 @@
+//! The rows of the records behind a header.
+ghost use Rattle.std.specs.Prelude.{◌≡◌, ◌↔◌, ◌≢◌, ◌<◌, ◌≤◌, ◌^◌, Err, All, IfOk, IfErr, IfSome};
+ghost use Rattle.portal_base.specs.Outside.{Rose};
+ghost use Rattle.table_schema.specs.Printed.{IsValue};
+ghost use Rattle.typed_csv.specs.Calls.{IsOfSameColumns, Reads, rows_ahead};
+ghost use Rattle.typed_csv.specs.Loading.{IsRow, IsRowFault, number_after};
+ghost use Rattle.typed_csv.specs.Reading.{Receives};
+
+use crate::chunk::Next;
+use crate::fault::LoadFault;
+use crate::header::Layout;
+use crate::loader::Stage;
+use crate::record_reader::RecordReader;
+use crate::row::row_of;
+use csv::StringRecord;
+use portal_base::outside::Source;
+use portal_base::seq::Seq;
+use std::alloc::Global;
+use table_schema::{Cell, Schema};
+
+/// Reads the records behind a header as rows, until one is refused.
+#[derive(Drop)]
+pub(crate) struct RowReader<S> {
+    pub(crate) alloc: Global,
+    pub(crate) schema: Schema,
+    pub(crate) layout: Layout,
+    pub(crate) records: RecordReader<S>,
+    pub(crate) row: StringRecord,
+    /// How many rows were given so far.
+    pub(crate) number: u64,
+}
+
+impl<S: Source> RowReader<S> {
+    /// The next row, or none at the end.
+    pub(crate) fn next(&mut self) -> Result<Option<Seq<Cell>>, LoadFault>
+        ensures reads { Reads (rows_ahead S.to_come Stage.Reading self.old) result
+            (rows_ahead S.to_come Stage.Reading self.new) }
+        ensures row { IfOk result
+            (λ row. IfSome row (IsRow self.old.schema.fields self.old.layout self.old.number)) }
+        ensures value { IfOk result (λ row. IfSome row (λ cells. All IsValue cells)) }
+        ensures cause { IfErr result (IsRowFault self.old.schema.fields self.old.layout self.old.number) }
+        ensures number { self.new.number ≡ number_after self.old.number result }
+        ensures fault { result ≢ Err LoadFault.Spent }
+        ensures kept { IsOfSameColumns self.old self.new }
+        ensures received { Receives S.to_come self.old.records self.new.records }
+        ensures failed { result ≡ Err LoadFault.ReadFault
+            → Rose (S.faults self.old.records.source) (S.faults self.new.records.source) }
+        ensures counts { S.faults self.old.records.source ≤ S.faults self.new.records.source }
+        ensures much { (result ≡ Err LoadFault.TooLong) ↔ (2 ^ 40 < self.new.records.given) }
+    {
+        let next = self.records.next(&mut self.row)?;
+        let Some(number) = self.number.checked_add(1) else {
+            return Err(LoadFault::OutOfMemory);
+        };
+        match next {
+            Next::Record => {}
+            Next::NotText => return Err(LoadFault::NotUtf8(number)),
+            Next::End => return Ok(None),
+        }
+        let cells = row_of(
+            self.alloc,
+            self.schema.fields().as_slice(),
+            &self.layout,
+            number,
+            &self.row,
+        )?;
+        self.number = number;
+        Ok(Some(cells))
+    }
+}
