@@ -1,0 +1,100 @@
+//! The texts of replies: a status and one JSON dictionary, as CKAN's Action API has them.
+ghost use Rattle.std.specs.Prelude.{◌≡◌, IfOk, option_copied, string_bytes};
+ghost use Rattle.portal_base.specs.Json.{json_text};
+ghost use Rattle.action_api.specs.Reply.{refusal_status, early_status, reply_status, success_dictionary};
+ghost use Rattle.action_api.specs.Reply.{failure_dictionary, reply_json, reply_text};
+
+use crate::early::Early;
+use crate::errors::{early_json, refusal_json};
+use crate::help::help_with;
+use portal_base::json_value::Json;
+use portal_base::seq::Seq;
+use portal_base::text::Text;
+use portal_core::event::{Refusal, Reply};
+use std::alloc::{AllocError, Global};
+
+/// The HTTP status of a reply (RFC 9110, section 15).
+pub fn status_of(reply: &Result<Reply, Early>) -> u16
+    ensures { result ≡ reply_status reply.now }
+{
+    match reply {
+        Ok(Reply::Accepted(_)) => 200,
+        Ok(Reply::Shown(_)) => 200,
+        Ok(Reply::Refused(refusal)) => status_of_refusal(refusal),
+        Err(early) => status_of_early(early),
+    }
+}
+
+fn status_of_refusal(refusal: &Refusal) -> u16
+    ensures { result ≡ refusal_status refusal.now }
+{
+    match refusal {
+        Refusal::NotFound(_) => 404,
+        Refusal::NotAuthorized(_) => 403,
+        Refusal::Validation(_) => 409,
+        Refusal::NameInUse(_) => 409,
+        Refusal::OutOfMemory => 507,
+    }
+}
+
+fn status_of_early(early: &Early) -> u16
+    ensures { result ≡ early_status early.now }
+{
+    match early {
+        Early::TooLong => 413,
+        Early::NotJson => 400,
+        Early::Fraction => 400,
+        Early::UnknownAction(_) => 400,
+        Early::OutOfMemory => 507,
+    }
+}
+
+/// The text of a success.
+fn success_text(alloc: Global, help: Text, value: &Json) -> Result<String, AllocError>
+    ensures { IfOk result (λ text. string_bytes text ≡ json_text (success_dictionary help value.now)) }
+{
+    let help = Json::Text(help).text(alloc)?;
+    let value = value.text(alloc)?;
+    let (help, value) = (help.as_str(), value.as_str());
+    format!(in alloc; "{{\"help\":{help},\"result\":{value},\"success\":true}}")
+}
+
+/// The text of a failure.
+fn failure_text(alloc: Global, help: Text, error: Json) -> Result<String, AllocError>
+    ensures { IfOk result (λ text. string_bytes text ≡ json_text (failure_dictionary help error)) }
+{
+    let help = Json::Text(help).text(alloc)?;
+    let error = error.text(alloc)?;
+    let (help, error) = (help.as_str(), error.as_str());
+    format!(in alloc; "{{\"error\":{error},\"help\":{help},\"success\":false}}")
+}
+
+/// The compact JSON of a reply to a call of the action of that name.
+fn json_of_reply(
+    alloc: Global,
+    action: Option<&str>,
+    reply: &Result<Reply, Early>,
+) -> Result<String, AllocError>
+    ensures { IfOk result (λ text. string_bytes text ≡ json_text (reply_json (option_copied action.entry) reply.now)) }
+{
+    let help = help_with(alloc, action, reply)?;
+    match reply {
+        Ok(Reply::Accepted(value)) => success_text(alloc, help, value),
+        Ok(Reply::Shown(value)) => success_text(alloc, help, value),
+        Ok(Reply::Refused(refusal)) => failure_text(alloc, help, refusal_json(alloc, refusal)?),
+        Err(early) => failure_text(alloc, help, early_json(alloc, early)?),
+    }
+}
+
+/// The status and the compact JSON of a reply, or of an early fault, to a call of the action of that name. Help goes
+/// with it only where an action has the name.
+pub fn reply_text(
+    alloc: Global,
+    action: Option<&str>,
+    reply: &Result<Reply, Early>,
+) -> Result<(u16, Seq<u8>), AllocError>
+    ensures { IfOk result (λ written. written ≡ reply_text (option_copied action.entry) reply.now) }
+{
+    let text = json_of_reply(alloc, action, reply)?;
+    Ok((status_of(reply), Seq::from(text.into_bytes())))
+}
