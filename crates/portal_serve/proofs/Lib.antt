@@ -1,4 +1,3 @@
-mod Errors
 mod Examples
 pub mod Playing
 pub mod Working

@@ -2,24 +2,27 @@
 use Rattle.std.proofs.Common.{◌≡◌, ℕ, ◌+◌, ◌<◌, ◌≤◌, ℤ, List, [], ◌∷◌, ◌++◌, length, ◌==◌, ltb, cond, true, false}
 use Rattle.std.proofs.Common.{Option, Some, None, Result, Ok, Err, OnErr, IfErr, refl, sym, ap, subst, ◌∙◌}
 use Rattle.std.proofs.Common.{append_assoc, append-nil, length-append, take, drop, take-append-drop, inl, inr, arith}
-use Rattle.std.specs.Prelude.{filter, is_some}
+use Rattle.std.specs.Prelude.{filter}
 use Rattle.std.proofs.lemmas.List.Elements.{filter-append}
 use Rattle.portal_base.specs.Outside.{Takes, TakesPrefix, Draws, Rose}
 use Rattle.portal_base.proofs.OutsideLemmas.{Takes-none}
-use Rattle.portal_base.specs.declared.caller.Caller.{Caller}
 use Rattle.portal_serve.specs.Played.{Works, WorksLines, BeginsLines, StopsLines, unless_empty}
-use Rattle.portal_serve.specs.Reply.{reply_line, not_built_line}
-use Rattle.portal_core.specs.Opened.{known_caller}
+use Rattle.action_api.specs.declared.early.Early.{Early}
+use Rattle.action_api.specs.declared.early.Early.TheVariants.{TooLong}
 use Rattle.portal_serve.specs.Script.{ScriptCall, call_of_line, call_of_reading}
 use Rattle.portal_base.specs.Json.{json_reading}
 use Rattle.portal_serve.specs.declared.script.TheConstants.{LONGEST_LINE}
 use Rattle.std.proofs.lemmas.Bool.{lt-ltb}
 use Rattle.std.proofs.lemmas.Bool.Decides.{nat_tests}
-use Rattle.portal_core.specs.declared.event.Reply.{Reply}
 use Rattle.portal_core.specs.State.{State}
-use Rattle.portal_core.specs.Step.{Outcome, call_step}
-use Rattle.portal_serve.specs.Transcript.{Standing, AreDrawn, draws, turn, turn_of, drawn_call, standing_after}
-use Rattle.portal_serve.specs.Transcript.{written_for}
+use Rattle.portal_serve.specs.Transcript.{Standing, AreDrawn, asks, draws, turn, turn_of, standing_after, written_for}
+use Rattle.portal_serve.specs.Transcript.{Replied, replied_on, replied_to, reply_line, early_line}
+use Rattle.action_api.specs.Request.{request_for}
+use Rattle.portal_base.specs.declared.caller.Caller.{Caller}
+use Rattle.portal_calls.specs.declared.call.Request.{Request}
+use Rattle.portal_core.specs.Opened.{known_caller}
+use Rattle.portal_core.specs.Step.{call_step}
+use Rattle.portal_core.specs.declared.event.Reply.{Reply}
 use Rattle.portal_serve.specs.Run.{Begins, DrawsAll, standing, Outlet}
 use Rattle.portal_serve.specs.Stopped.{IsOfLine, begun_at}
 use Rattle.portal_serve.specs.declared.play.Stop.{Stop}
@@ -45,7 +48,7 @@ pub record IsLeft (s : State) (ls : List (List ℕ)) (ms later : List ℤ) (ns o
       ≡ standing (standing_after (standing s ms ns) ls).state later others
 
 -- the same of a line and more lines, by the call that the line asks for
-record IsLeftBy (said : Option ScriptCall) (size : ℕ) (s : State) (ls : List (List ℕ)) (ms later : List ℤ)
+record IsLeftBy (said : Result ScriptCall Early) (size : ℕ) (s : State) (ls : List (List ℕ)) (ms later : List ℤ)
     (ns others : List ℕ) : Type 0 where
   output : (turn_of (standing s (ms ++ later) (ns ++ others)) said size).written
       ++ written_for (turn_of (standing s (ms ++ later) (ns ++ others)) said size).after ls
@@ -56,19 +59,19 @@ record IsLeftBy (said : Option ScriptCall) (size : ℕ) (s : State) (ls : List (
 left_by : (line : List ℕ) (ls : List (List ℕ))
     → ((s : State) (ms later : List ℤ) (ns others : List ℕ) → AreDrawn ls ms → AreDrawn ls ns
     → IsLeft s ls ms later ns others)
-    → (said : Option ScriptCall) (size : ℕ) (s : State) (ms later : List ℤ) (ns others : List ℕ)
-    → length ms ≡ length (cond (is_some said) (line ∷ filter draws ls) (filter draws ls))
-    → length ns ≡ length (cond (is_some said) (line ∷ filter draws ls) (filter draws ls))
+    → (said : Result ScriptCall Early) (size : ℕ) (s : State) (ms later : List ℤ) (ns others : List ℕ)
+    → length ms ≡ length (cond (asks said) (line ∷ filter draws ls) (filter draws ls))
+    → length ns ≡ length (cond (asks said) (line ∷ filter draws ls) (filter draws ls))
     → IsLeftBy said size s ls ms later ns others
-left_by line ls rest None size s ms later ns others m n =
+left_by line ls rest (Err early) size s ms later ns others m n =
     let r = rest s ms later ns others m n in
-    record { output = ap (λ w. not_built_line ++ w) r.output; leaves = r.leaves }
-left_by line ls rest (Some asked) size s [] later ns others m n = absurd (omega (arith, m))
-left_by line ls rest (Some asked) size s (a ∷ ms) later [] others m n = absurd (omega (arith, n))
-left_by line ls rest (Some asked) size s (a ∷ ms) later (b ∷ ns) others m n =
-    let o : Outcome = call_step s (drawn_call s asked size a b) in
-    let r = rest o.state ms later ns others (omega (arith, m)) (omega (arith, n)) in
-    record { output = ap (λ w. reply_line asked.request.action o.reply ++ w) r.output; leaves = r.leaves }
+    record { output = ap (λ w. early_line early ++ w) r.output; leaves = r.leaves }
+left_by line ls rest (Ok said) size s [] later ns others m n = absurd (omega (arith, m))
+left_by line ls rest (Ok said) size s (a ∷ ms) later [] others m n = absurd (omega (arith, n))
+left_by line ls rest (Ok said) size s (a ∷ ms) later (b ∷ ns) others m n =
+    let t : Replied = replied_to s said size a b in
+    let r = rest t.state ms later ns others (omega (arith, m)) (omega (arith, n)) in
+    record { output = ap (λ w. reply_line (Some said.action) t.reply ++ w) r.output; leaves = r.leaves }
 
 pub is_left : (ls : List (List ℕ)) (s : State) (ms later : List ℤ) (ns others : List ℕ) → AreDrawn ls ms
     → AreDrawn ls ns → IsLeft s ls ms later ns others
@@ -152,24 +155,24 @@ DrawsAll-one a b x h = h
 -- ---- one line
 
 -- a line that asks for no call
-pub works_not_built : (state : State) (line : List ℕ) → call_of_line line ≡ None
-    → Works state (line ∷ []) [] [] not_built_line state
-works_not_built state line none = record {
+pub works_early : (state : State) (line : List ℕ) (early : Early) → call_of_line line ≡ Err early
+    → Works state (line ∷ []) [] [] (early_line early) state
+works_early state line early is = record {
   moments_drawn = draws_none;
   nonces_drawn = draws_none;
-  output = ap (λ o. (turn_of (standing state [] []) o (length line)).written ++ []) none ∙ append-nil not_built_line;
-  leaves = ap (λ o. (turn_of (standing state [] []) o (length line)).after.state) none;
+  output = ap (λ o. (turn_of (standing state [] []) o (length line)).written ++ []) is ∙ append-nil (early_line early);
+  leaves = ap (λ o. (turn_of (standing state [] []) o (length line)).after.state) is;
 }
   where
     draws_none : 0 ≡ length (filter draws (line ∷ []))
-    draws_none = sym (ap (λ o. length (cond (is_some o) (line ∷ []) [])) none)
+    draws_none = sym (ap (λ o. length (cond (asks o) (line ∷ []) [])) is)
 
 -- a line that asks for a call
-pub works_call : (state : State) (line : List ℕ) (asked : ScriptCall) (m : ℤ) (n : ℕ) → call_of_line line ≡ Some asked
+pub works_call : (state : State) (line : List ℕ) (said : ScriptCall) (m : ℤ) (n : ℕ) → call_of_line line ≡ Ok said
     → Works state (line ∷ []) (m ∷ []) (n ∷ [])
-    (reply_line asked.request.action (call_step state (drawn_call state asked (length line) m n)).reply)
-    (call_step state (drawn_call state asked (length line) m n)).state
-works_call state line asked m n is = record {
+    (reply_line (Some said.action) (replied_to state said (length line) m n).reply)
+    (replied_to state said (length line) m n).state
+works_call state line said m n is = record {
   moments_drawn = draws_one;
   nonces_drawn = draws_one;
   output = ap (λ o. (turn_of (standing state (m ∷ []) (n ∷ [])) o (length line)).written ++ []) is ∙ append-nil _;
@@ -177,7 +180,7 @@ works_call state line asked m n is = record {
 }
   where
     draws_one : 1 ≡ length (filter draws (line ∷ []))
-    draws_one = sym (ap (λ o. length (cond (is_some o) (line ∷ []) [])) is)
+    draws_one = sym (ap (λ o. length (cond (asks o) (line ∷ []) [])) is)
 
 pub begins_nothing : (whole : List ℕ) → Begins [] whole
 begins_nothing whole = (whole, refl)
@@ -186,20 +189,49 @@ begins_nothing whole = (whole, refl)
 pub begins_take : (count : ℕ) (piece : List ℕ) → Begins (take count piece) piece
 begins_take count piece = (drop count piece, take-append-drop count piece)
 
--- what the call of a line writes and leaves
-pub call_written : (state after : State) (line : List ℕ) (said : ScriptCall) (m : ℤ) (n : ℕ) (who : Caller)
-    (reply : Reply) (text : List ℕ)
-    → call_of_line line ≡ Some said → who ≡ known_caller state.people said.caller
+-- what is replied where an action has the name
+pub replied_known : (state after : State) (said : ScriptCall) (size : ℕ) (m : ℤ) (n : ℕ) (request : Request)
+    (who : Caller) (reply : Reply)
+    → request_for said.action said.body ≡ Ok request → who ≡ known_caller state.people said.caller
     → reply ≡
     (call_step state
-    (record { caller = who; request = said.request; size = length line; moment = m; nonce = record { 0 = n } })).reply
+    (record { caller = who; request = request; size = size; moment = m; nonce = record { 0 = n } })).reply
+    → (let r : Result Reply Early = Ok reply in r) ≡ (replied_to state said size m n).reply
+replied_known state after said size m n request who reply is known replied =
+    rw (replied, known) (sym (ap (λ r. (replied_on state said size m n r).reply) is))
+
+-- the state after it
+pub left_known : (state after : State) (said : ScriptCall) (size : ℕ) (m : ℤ) (n : ℕ) (request : Request)
+    (who : Caller)
+    → request_for said.action said.body ≡ Ok request → who ≡ known_caller state.people said.caller
     → after ≡
     (call_step state
-    (record { caller = who; request = said.request; size = length line; moment = m; nonce = record { 0 = n } })).state
-    → text ≡ reply_line said.request.action reply
+    (record { caller = who; request = request; size = size; moment = m; nonce = record { 0 = n } })).state
+    → after ≡ (replied_to state said size m n).state
+left_known state after said size m n request who is known left =
+    rw (left, known) (sym (ap (λ r. (replied_on state said size m n r).state) is))
+
+-- the line of what is replied to a call whose action was read twice
+pub line_written : (state : State) (said : ScriptCall) (size : ℕ) (m : ℤ) (n : ℕ) (first second : List ℕ)
+    (reply : Result Reply Early) (line : List ℕ)
+    → first ≡ said.action → second ≡ said.action
+    → reply ≡
+    (replied_to state (record { caller = said.caller; action = first; body = said.body }) size m n).reply
+    → line ≡ reply_line (Some second) reply
+    → line ≡ reply_line (Some said.action) (replied_to state said size m n).reply
+line_written state said size m n first second reply line one two replied wrote =
+    wrote ∙ ap (λ a. reply_line (Some a) reply) two
+    ∙ ap (λ r. reply_line (Some said.action) r)
+    (replied ∙ ap (λ a. (replied_to state (record { caller = said.caller; action = a; body = said.body }) size m n).reply)
+    one)
+
+-- what the call of a line writes and leaves
+pub call_written : (state after : State) (line : List ℕ) (said : ScriptCall) (m : ℤ) (n : ℕ) (text : List ℕ)
+    → call_of_line line ≡ Ok said
+    → text ≡ reply_line (Some said.action) (replied_to state said (length line) m n).reply
+    → after ≡ (replied_to state said (length line) m n).state
     → Works state (line ∷ []) (m ∷ []) (n ∷ []) text after
-call_written state after line said m n who reply text is known replied left wrote =
-    rw (wrote, replied, left, known) (works_call state line said m n is)
+call_written state after line said m n text is wrote left = rw (wrote, left) (works_call state line said m n is)
 
 -- ---- the lines of a part of a run
 
@@ -246,12 +278,12 @@ pub stops_before : (state : State) (script : List (List ℕ)) (old : Outlet) →
 stops_before state script old = inl (begins_no_line state old old refl)
 
 -- A call's line was begun, and work stopped before it wrote.
-pub stops_before_writing : (state : State) (line : List ℕ) (asked : ScriptCall) (m : ℤ) (n : ℕ) (old new : Outlet)
-    → call_of_line line ≡ Some asked
+pub stops_before_writing : (state : State) (line : List ℕ) (said : ScriptCall) (m : ℤ) (n : ℕ) (old new : Outlet)
+    → call_of_line line ≡ Ok said
     → new.taken ≡ old.taken → DrawsAll old.moments (m ∷ []) new.moments → DrawsAll old.nonces (n ∷ []) new.nonces
     → StopsLines state (line ∷ []) old new
-stops_before_writing state line asked m n old new is same clock numbers =
-    let w = works_call state line asked m n is in
+stops_before_writing state line said m n old new is same clock numbers =
+    let w = works_call state line said m n is in
     inr (record {
       written = [];
       moments = m ∷ [];
@@ -270,13 +302,6 @@ begun_in_line ReadFault of_line = absurd of_line
 begun_in_line WriteFault of_line = omega arith
 begun_in_line TooMuch of_line = absurd of_line
 begun_in_line OutOfMemory of_line = omega arith
-
-pub begun_in_writing : {T : Type 0} (stop : Stop) → (let r : Result T Stop = Err stop in r) ≡ Err WriteFault
-    → 1 ≤ begun_at stop
-begun_in_writing ReadFault is = absurd (cc)
-begun_in_writing WriteFault is = omega arith
-begun_in_writing TooMuch is = absurd (cc)
-begun_in_writing OutOfMemory is = omega arith
 
 pub on_err_always : {T E P : Type 0} (r : Result T E) → P → OnErr r P
 on_err_always (Ok x) p = tt
@@ -308,12 +333,16 @@ works_no_line state script old none =
 
 -- a line that is too long asks for no call
 pub works_too_long : (state : State) (line : List ℕ) → LONGEST_LINE < length line
-    → Works state (unless_empty line) [] [] not_built_line state
+    → Works state (unless_empty line) [] [] (early_line TooLong) state
 works_too_long state line long =
-    let none : call_of_line line ≡ None =
-    ap (λ b. cond b None (call_of_reading (json_reading line))) (lt-ltb LONGEST_LINE (length line) long) in
-    subst (λ ls. Works state ls [] [] not_built_line state) (sym (unless_empty-more line (omega arith)))
-    (works_not_built state line none)
+    let is : call_of_line line ≡ Err TooLong =
+    ap (λ b. cond b (Err TooLong) (call_of_reading (json_reading line))) (lt-ltb LONGEST_LINE (length line) long) in
+    subst (λ ls. Works state ls [] [] (early_line TooLong) state) (sym (unless_empty-more line (omega arith)))
+    (works_early state line TooLong is)
+
+-- what begins a piece, where nothing was taken
+pub takes_no_prefix : (taken : Option (List ℕ)) (piece : List ℕ) → TakesPrefix taken piece taken
+takes_no_prefix taken piece = (0, omega arith, Takes-none taken)
 
 -- the same line under another name
 pub stops_same_line : (state : State) (l m : List ℕ) (old new : Outlet) → l ≡ m

@@ -1,6 +1,4 @@
 pub mod Played
-pub mod Reply
-pub mod Request
 pub mod Run
 pub mod Script
 pub mod Seen

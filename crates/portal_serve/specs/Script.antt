@@ -3,14 +3,14 @@ use Rattle.std.specs.Prelude.{ℕ, List, [], ◌∷◌, Bool, nat_lt, length, fi
 use Rattle.std.specs.Prelude.{Err, option_map, option_and_then, if◌then◌else◌}
 use Rattle.std.specs.Str.Lines.{lines}
 use Rattle.portal_base.specs.Json.{json_reading, member_of}
+use Rattle.portal_base.specs.Kinds.{text_in}
 use Rattle.portal_base.specs.declared.caller.Caller.{Caller}
 use Rattle.portal_base.specs.declared.caller.Caller.TheVariants.{Anonymous, Named}
-use Rattle.portal_base.specs.declared.json_value.Json.{Json}
+use Rattle.portal_base.specs.declared.json_value.Json.{Json, Map}
 use Rattle.portal_base.specs.declared.json_value.JsonFault.{JsonFault}
-use Rattle.portal_calls.specs.Action.{action_named}
-use Rattle.portal_calls.specs.declared.action.Action.{Action}
-use Rattle.portal_calls.specs.declared.call.Request.{Request}
-use Rattle.portal_serve.specs.Request.{has_only, is_among, text_of, text_at, only_if, is_built}
+use Rattle.action_api.specs.Request.{early_of, if_dictionary}
+use Rattle.action_api.specs.declared.early.Early.{Early}
+use Rattle.action_api.specs.declared.early.Early.TheVariants.{TooLong, NotJson}
 use Rattle.portal_serve.specs.declared.script.TheConstants.{LONGEST_LINE}
 
 abbrev pub is_nonempty : List ℕ → Bool
@@ -21,52 +21,51 @@ is_nonempty line = nat_lt 0 (length line)
 abbrev pub script_lines : List ℕ → List (List ℕ)
 script_lines bytes = filter is_nonempty (lines bytes)
 
--- the call that a line asks for, before it is known who the user is
+-- The call that a line asks for, before it is known who the user is and whether an action has the name.
 pub record ScriptCall : Type 0 where
   pub caller : Caller
-  pub request : Request
+  pub action : List ℕ
+  pub body : Json
 
-abbrev pub line_keys : List (List ℕ)
-line_keys = codes "action" ∷ codes "as" ∷ codes "body" ∷ []
+-- the text that names the line's action
+abbrev pub action_in : Json → Option (List ℕ)
+action_in json = option_and_then text_in (member_of (codes "action") json)
 
 -- nobody where the value is absent, the user of that name where it is a text
 abbrev pub caller_of : Option Json → Option Caller
 caller_of None = Some Anonymous
-caller_of (Some json) = option_map Named (text_of json)
+caller_of (Some json) = option_map Named (text_in json)
 
--- a request of a built form
-abbrev pub built_request : Request → Option Request
-built_request request = only_if (is_built request) request
+-- the empty dictionary where the value is absent
+abbrev pub body_in : Option Json → Result Json Early
+body_in None = Ok (Map [])
+body_in (Some json) = if_dictionary json
 
--- the call of a caller for a request
-abbrev pub asked_for : Caller → Option Request → Option ScriptCall
-asked_for caller request = option_map (λ r. record { caller = caller; request = r }) request
+-- the call of a caller for an action with a body, where the body is one
+abbrev pub asked_with : List ℕ → Caller → Result Json Early → Result ScriptCall Early
+asked_with action caller (Ok body) = Ok (record { caller = caller; action = action; body = body })
+asked_with action caller (Err early) = Err early
 
--- the call of a caller for an action with a body, where both stand there
-abbrev pub asked_with : Action → Caller → Option Json → Option ScriptCall
-asked_with action caller None = None
-asked_with action caller (Some body) = asked_for caller (built_request (record { action = action; body = body }))
-
-abbrev pub asked_by : Action → Option Caller → Option Json → Option ScriptCall
-asked_by action None body = None
+abbrev pub asked_by : List ℕ → Option Caller → Result Json Early → Result ScriptCall Early
+asked_by action None body = Err NotJson
 asked_by action (Some caller) body = asked_with action caller body
 
-abbrev pub asked_to : Option Action → Option Caller → Option Json → Option ScriptCall
-asked_to None caller body = None
+abbrev pub asked_to : Option (List ℕ) → Option Caller → Result Json Early → Result ScriptCall Early
+asked_to None caller body = Err NotJson
 asked_to (Some action) caller body = asked_by action caller body
 
--- The call of a dictionary with the keys `action`, `body` and perhaps `as`, and no other.
-abbrev pub call_of_json : Json → Option ScriptCall
+-- The call of a dictionary with a text at `action`, and at `as`, if it is there, and a dictionary at `body`, if it is
+-- there. Its other keys say nothing.
+abbrev pub call_of_json : Json → Result ScriptCall Early
 call_of_json json =
-    if has_only (is_among line_keys) json
-    then asked_to (option_and_then action_named (text_at (codes "action") json))
-    (caller_of (member_of (codes "as") json)) (member_of (codes "body") json)
-    else None
+    asked_to (action_in json) (caller_of (member_of (codes "as") json)) (body_in (member_of (codes "body") json))
 
-abbrev pub call_of_reading : Result Json JsonFault → Option ScriptCall
+abbrev pub call_of_reading : Result Json JsonFault → Result ScriptCall Early
 call_of_reading (Ok json) = call_of_json json
-call_of_reading (Err fault) = None
+call_of_reading (Err fault) = Err (early_of fault)
 
--- The call that a line asks for, and none where the line is too long or not of a built form.
-abbrev pub call_of_line : List ℕ → Option ScriptCall
-call_of_line line = if nat_lt LONGEST_LINE (length line) then None else call_of_reading (json_reading line)
+-- The call that a line asks for, or why it asks for none: it is too long, it is no JSON or of another form, or it has
+-- a number that is no `i64` and no `u64`.
+abbrev pub call_of_line : List ℕ → Result ScriptCall Early
+call_of_line line =
+    if nat_lt LONGEST_LINE (length line) then Err TooLong else call_of_reading (json_reading line)

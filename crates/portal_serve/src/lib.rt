@@ -2,8 +2,7 @@
 #![tactic(auto)]
 
 pub mod laws;
+mod line;
 pub mod play;
-pub mod reply;
-pub mod request;
 mod script;
 pub mod stated;

@@ -7,16 +7,23 @@ ghost use Rattle.portal_serve.specs.Played.{WorksLines, StopsLines, TakesTurn, E
 ghost use Rattle.portal_serve.specs.Stopped.{IsOfLine, stop_for, begun_at};
 ghost use Rattle.portal_serve.specs.Run.{outlet, devices};
 ghost use Rattle.portal_lines.specs.Lines.{bytes_left};
-ghost use Rattle.portal_serve.specs.Reply.{not_built_line};
+ghost use Rattle.portal_serve.specs.Transcript.{early_line, replied_to, reply_line};
 ghost use Rattle.portal_serve.specs.Run.{PlaysAll, PlaysPart, GaveTooMuch};
 ghost use Rattle.portal_serve.specs.Script.{call_of_line};
 ghost use Rattle.portal_serve.specs.Stated.{stated_state};
 ghost use Rattle.portal_serve.specs.Seen.{asked};
 
-use crate::reply::line_of_reply;
+use crate::line::line_of_reply;
 use crate::script::{LONGEST_LINE, ScriptCall, read_call};
 use crate::stated::stated_portal;
+use action_api::early::Early;
+use action_api::request::request_on;
+use portal_base::caller::Caller;
+use portal_base::json_value::Json;
+use portal_base::moment::Moment;
+use portal_base::nonce::Nonce;
 use portal_base::outside::{Clock, Nonces, Sink, Source};
+use portal_base::seq::Seq;
 use portal_calls::call::Call;
 use portal_core::event::{Event, Refusal, Reply};
 use portal_core::portal::Portal;
@@ -26,10 +33,6 @@ use std::alloc::{AllocError, Global};
 
 /// The most bytes that input may give: 2^40.
 const MOST_INPUT: u64 = 1 << 40;
-
-/// The line for every line that isn't built so far.
-const NOT_BUILT_LINE: &str =
-    "501 {\"error\":{\"__type\":\"Bad Request\",\"message\":\"Not built yet\"},\"help\":\"\",\"success\":false}\n";
 
 /// Why a run ended before the end of its input.
 #[derive(Clone, Copy, Debug, PartialEq, Eq)]
@@ -56,14 +59,14 @@ impl From<AllocError> for Stop {
 }
 
 /// Writes a line of the transcript.
-fn write_line<O: Sink>(output: &mut O, line: &str) -> Result<(), Stop>
+fn write_line<O: Sink>(output: &mut O, line: &[u8]) -> Result<(), Stop>
     ensures ok { OnOk result (Takes (O.taken output.old) line.now (O.taken output.new)) }
     ensures failed { OnErr result (TakesPrefix (O.taken output.old) line.now (O.taken output.new)) }
     ensures fault { OnErr result (Rose (O.faults output.old) (O.faults output.new)) }
     ensures stop { OnErr result (result ≡ Err Stop.WriteFault) }
     ensures counts { O.faults output.old ≤ O.faults output.new }
 {
-    match write_whole(output, line.as_bytes()) {
+    match write_whole(output, line) {
         Ok(()) => Ok(()),
         Err(_failed) => Err(Stop::WriteFault),
     }
@@ -81,7 +84,73 @@ fn act_or_stop(portal: &mut Portal, event: &Event) -> Result<Reply, Stop>
     }
 }
 
-/// Works the call that a line asks for.
+/// What comes with the call of a line: its size, and the moment and the number that were drawn for it.
+#[derive(Drop)]
+struct Drawn {
+    size: u64,
+    moment: Moment,
+    nonce: Nonce,
+}
+
+/// What is replied to the call of a caller for an action with a body.
+fn replied(
+    alloc: Global,
+    portal: &mut Portal,
+    caller: Caller,
+    action: &str,
+    body: Json,
+    drawn: Drawn,
+) -> Result<Result<Reply, Early>, Stop>
+    ensures reply { IfOk result (λ reply. reply ≡ (replied_to portal.old
+        (record { caller = caller; action = action.now; body = body }) drawn.size drawn.moment drawn.nonce.0).reply) }
+    ensures state { OnOk result (portal.new ≡ (replied_to portal.old
+        (record { caller = caller; action = action.now; body = body }) drawn.size drawn.moment drawn.nonce.0).state) }
+    ensures stop { OnErr result (result ≡ Err Stop.OutOfMemory) }
+{
+    let request = match request_on(alloc, action, body) {
+        Ok(request) => request,
+        Err(Early::OutOfMemory) => return Err(Stop::OutOfMemory),
+        Err(early) => return Ok(Err(early)),
+    };
+    let Drawn {
+        size,
+        moment,
+        nonce,
+    } = drawn;
+    let event = Event::Call(Call {
+        caller: portal.known(caller),
+        request,
+        size,
+        moment,
+        nonce,
+    });
+    Ok(Ok(act_or_stop(portal, &event)?))
+}
+
+/// Works the call that a line asks for, and makes the line that is written for it.
+fn work_call(
+    alloc: Global,
+    portal: &mut Portal,
+    said: ScriptCall,
+    drawn: Drawn,
+) -> Result<Seq<u8>, Stop>
+    ensures line { IfOk result (λ line. line ≡ reply_line (Some said.action)
+        (replied_to portal.old (asked said) drawn.size drawn.moment drawn.nonce.0).reply) }
+    ensures state { OnOk result (portal.new
+        ≡ (replied_to portal.old (asked said) drawn.size drawn.moment drawn.nonce.0).state) }
+    ensures stop { OnErr result (result ≡ Err Stop.OutOfMemory) }
+{
+    let ScriptCall {
+        caller,
+        action,
+        body,
+    } = said;
+    let reply = replied(alloc, portal, caller, action.as_str(), body, drawn)?;
+    let line = line_of_reply(alloc, Some(action.as_str()), &reply)?;
+    Ok(line)
+}
+
+/// Plays the call that a line asks for.
 fn play_call<O: Sink, C: Clock, N: Nonces>(
     alloc: Global,
     portal: &mut Portal,
@@ -91,7 +160,7 @@ fn play_call<O: Sink, C: Clock, N: Nonces>(
     clock: &mut C,
     nonces: &mut N,
 ) -> Result<(), Stop>
-    requires { call_of_line line.now ≡ Some (asked said) }
+    requires { call_of_line line.now ≡ Ok (asked said) }
     ensures ok { OnOk result (WorksLines portal.old (line.now ∷ []) portal.new
         (outlet (O.taken output.old) (C.given clock.old) (N.given nonces.old))
         (outlet (O.taken output.new) (C.given clock.new) (N.given nonces.new))) }
@@ -102,20 +171,32 @@ fn play_call<O: Sink, C: Clock, N: Nonces>(
     ensures stop { IfErr result IsOfLine }
     ensures counts { O.faults output.old ≤ O.faults output.new }
 {
-    let ScriptCall { caller, request } = said;
-    let action = request.action;
     let moment = clock.now();
     let nonce = nonces.next();
-    let event = Event::Call(Call {
-        caller: portal.known(caller),
-        request,
-        size: line.len() as u64,
-        moment,
-        nonce,
-    });
-    let reply = act_or_stop(portal, &event)?;
-    let text = line_of_reply(alloc, action, reply)?;
-    write_line(output, text.as_str())
+    let size = line.len() as u64;
+    let text = work_call(
+        alloc,
+        portal,
+        said,
+        Drawn {
+            size,
+            moment,
+            nonce,
+        },
+    )?;
+    write_line(output, text.as_slice())
+}
+
+/// Writes the line for a line that asks for no call.
+fn write_early<O: Sink>(alloc: Global, early: Early, output: &mut O) -> Result<(), Stop>
+    ensures ok { OnOk result (Takes (O.taken output.old) (early_line early) (O.taken output.new)) }
+    ensures failed { OnErr result (TakesPrefix (O.taken output.old) (early_line early) (O.taken output.new)) }
+    ensures fault { result ≡ Err Stop.WriteFault → Rose (O.faults output.old) (O.faults output.new) }
+    ensures stop { IfErr result IsOfLine }
+    ensures counts { O.faults output.old ≤ O.faults output.new }
+{
+    let text = line_of_reply(alloc, None, &Err(early))?;
+    write_line(output, text.as_slice())
 }
 
 /// Works a line that isn't empty.
@@ -138,9 +219,10 @@ fn play_full_line<O: Sink, C: Clock, N: Nonces>(
     ensures stop { IfErr result IsOfLine }
     ensures counts { O.faults output.old ≤ O.faults output.new }
 {
-    match read_call(alloc, line)? {
-        Some(said) => play_call(alloc, portal, said, line, output, clock, nonces),
-        None => write_line(output, NOT_BUILT_LINE),
+    match read_call(alloc, line) {
+        Ok(said) => play_call(alloc, portal, said, line, output, clock, nonces),
+        Err(Early::OutOfMemory) => Err(Stop::OutOfMemory),
+        Err(early) => write_early(alloc, early, output),
     }
 }
 
@@ -218,7 +300,7 @@ fn play_next<S: Source, O: Sink, C: Clock, N: Nonces>(
             Ok(()) => Ok(true),
             Err(stop) => Err(stop),
         },
-        Ok(NextLine::TooLong) => match write_line(output, NOT_BUILT_LINE) {
+        Ok(NextLine::TooLong) => match write_early(alloc, Early::TooLong, output) {
             Ok(()) => Ok(true),
             Err(stop) => Err(stop),
         },

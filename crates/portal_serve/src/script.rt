@@ -1,71 +1,76 @@
 //! Scripts: the call that a line asks for.
-ghost use Rattle.std.specs.Prelude.{◌≡◌, ◌≤◌, length, codes, IfOk, option_map, option_and_then};
+ghost use Rattle.std.specs.Prelude.{◌≡◌, ◌⊎◌, ◌≤◌, Ok, Err, length, codes, IfOk, IfErr};
 ghost use Rattle.portal_base.specs.Json.{member_of};
-ghost use Rattle.portal_calls.specs.Action.{action_named};
-ghost use Rattle.portal_serve.specs.Script.{caller_of, call_of_json, call_of_line, built_request, asked_for};
+ghost use Rattle.portal_serve.specs.Script.{action_in, caller_of, body_in, call_of_json, call_of_line};
 ghost use Rattle.portal_serve.specs.Seen.{asked};
-ghost use Rattle.portal_serve.specs.Request.{text_at};
 
-use crate::request::{has_only_keys, is_built, text_at_key, text_in};
+use action_api::early::Early;
+use action_api::request::{LONGEST_BODY, dictionary};
 use portal_base::caller::Caller;
 use portal_base::copy::TryClone;
-use portal_base::json_value::{Json, JsonFault};
-use portal_calls::action::Action;
-use portal_calls::call::Request;
+use portal_base::json_value::Json;
+use portal_base::kinds::text_in;
+use portal_base::seq::Seq;
+use portal_base::text::Text;
 use std::alloc::{AllocError, Global};
 
 /// The most bytes of a script's line, its end left out.
-pub const LONGEST_LINE: usize = 262_144;
+pub const LONGEST_LINE: usize = LONGEST_BODY;
 
-/// The call that a line asks for. Its caller is the user that the line names, known or not.
+/// The call that a line asks for. Its caller is the user that the line names, known or not, and its action may have any
+/// name.
 #[derive(Drop)]
 pub struct ScriptCall {
     pub caller: Caller,
-    pub request: Request,
+    pub action: Text,
+    pub body: Json,
 }
 
-/// The call that a line asks for, and none where the line is not of a built form.
-pub fn read_call(alloc: Global, line: &[u8]) -> Result<Option<ScriptCall>, AllocError>
+/// The call that a line asks for, or why it asks for none.
+pub fn read_call(alloc: Global, line: &[u8]) -> Result<ScriptCall, Early>
     requires { length line.now ≤ LONGEST_LINE }
-    ensures { IfOk result (λ call. option_map asked call ≡ call_of_line line.now) }
+    ensures value { IfOk result (λ call. call_of_line line.now ≡ Ok (asked call)) }
+    ensures fault { IfErr result
+        (λ early. (early ≡ Early.OutOfMemory) ⊎ (call_of_line line.now ≡ Err early)) }
 {
-    match Json::read(alloc, line) {
-        Ok(json) => call_in(alloc, json),
-        Err(JsonFault::OutOfMemory) => Err(AllocError),
-        Err(_fault) => Ok(None),
-    }
+    call_in(alloc, Json::read(alloc, line)?)
 }
 
-fn call_in(alloc: Global, json: Json) -> Result<Option<ScriptCall>, AllocError>
-    ensures { IfOk result (λ call. option_map asked call ≡ call_of_json json) }
+fn call_in(alloc: Global, json: Json) -> Result<ScriptCall, Early>
+    ensures value { IfOk result (λ call. call_of_json json ≡ Ok (asked call)) }
+    ensures fault { IfErr result
+        (λ early. (early ≡ Early.OutOfMemory) ⊎ (call_of_json json ≡ Err early)) }
 {
-    if !has_only_keys(&json, &["action", "as", "body"]) {
-        return Ok(None);
-    }
-    let Some(action) = action_in(&json) else {
-        return Ok(None);
+    let Some(action) = copied_action(alloc, &json)? else {
+        return Err(Early::NotJson);
     };
-    let Some(caller) = caller_in(alloc, &json)? else {
-        return Ok(None);
+    let Some(caller) = copied_caller(alloc, &json)? else {
+        return Err(Early::NotJson);
     };
-    match json.take("body") {
-        Some(body) => Ok(built_call(caller, Request { action, body })),
+    let body = body_in(alloc, json)?;
+    Ok(ScriptCall {
+        caller,
+        action,
+        body,
+    })
+}
+
+/// The text that names the line's action.
+fn copied_action(alloc: Global, json: &Json) -> Result<Option<Text>, AllocError>
+    ensures { IfOk result (λ action. action ≡ action_in json.now) }
+{
+    match json.get("action") {
         None => Ok(None),
-    }
-}
-
-fn action_in(json: &Json) -> Option<Action>
-    ensures { result ≡ option_and_then action_named (text_at (codes "action") json.now) }
-{
-    match text_at_key(json, "action") {
-        Some(name) => Action::named(name.as_str()),
-        None => None,
+        Some(value) => match text_in(value) {
+            Some(name) => Ok(Some(name.try_clone(alloc)?)),
+            None => Ok(None),
+        },
     }
 }
 
 /// Nobody where the line names no user, the user of that name where it names one, and none where it names what is
 /// no text.
-fn caller_in(alloc: Global, json: &Json) -> Result<Option<Caller>, AllocError>
+fn copied_caller(alloc: Global, json: &Json) -> Result<Option<Caller>, AllocError>
     ensures { IfOk result (λ caller. caller ≡ caller_of (member_of (codes "as") json.now)) }
 {
     match json.get("as") {
@@ -77,12 +82,12 @@ fn caller_in(alloc: Global, json: &Json) -> Result<Option<Caller>, AllocError>
     }
 }
 
-fn built_call(caller: Caller, request: Request) -> Option<ScriptCall>
-    ensures { option_map asked result ≡ asked_for caller (built_request request) }
+/// The line's body, which is empty where the line has none.
+fn body_in(alloc: Global, json: Json) -> Result<Json, Early>
+    ensures { result ≡ body_in (member_of (codes "body") json) }
 {
-    if is_built(&request) {
-        Some(ScriptCall { caller, request })
-    } else {
-        None
+    match json.take("body") {
+        Some(body) => dictionary(body),
+        None => Ok(Json::Map(Seq::new(alloc))),
     }
 }

@@ -1,5 +1,7 @@
 //! Events that no script makes: numbers that are drawn twice, calls of forms that scripts don't have yet, and want of
 //! memory.
+use action_api::early::Early;
+use action_api::reply::{reply_text, status_of};
 use portal_base::caller::Caller;
 use portal_base::json_value::Json;
 use portal_base::moment::Moment;
@@ -8,13 +10,12 @@ use portal_base::text::Text;
 use portal_calls::action::Action;
 use portal_calls::call::{Call, Request};
 use portal_core::event::{Event, Refusal, Reply};
-use portal_serve::reply::{line_of_reply, status_of, text_of_reply};
 use portal_serve::stated::stated_portal;
 use std::alloc::Global;
 use std::test::Fail;
 
 const OUT_OF_MEMORY: &str =
-    "507 {\"error\":{\"__type\":\"Memory Error\",\"message\":\"Want of memory\"},\"help\":\"\",\"success\":false}\n";
+    "507 {\"error\":{\"__type\":\"Memory Error\",\"message\":\"Want of memory\"},\"help\":\"\",\"success\":false}";
 
 /// A refused call, and its reply.
 #[derive(Clone, Copy)]
@@ -126,6 +127,13 @@ fn call(
     }))
 }
 
+/// The status and the text of a reply.
+fn written(alloc: Global, action: Action, reply: &Result<Reply, Early>) -> Result<String, Fail> {
+    let (status, text) = reply_text(alloc, Some(action.name()), reply)?;
+    let text = str::from_utf8(text.as_slice()).ok().ok_or("no text")?;
+    Ok(format!(in alloc; "{status} {text}")?)
+}
+
 /// The creation of a dataset of this name by cyn, with this number.
 fn creation(alloc: Global, name: &str, number: u128) -> Result<Event, Fail> {
     let body = format!(in alloc; "{{\"name\":\"{name}\",\"owner_org\":\"city\"}}")?;
@@ -153,9 +161,9 @@ fn a_name_and_then_an_id_in_use_are_told(rt: HostRuntime) -> Result<(), Fail> {
         ),
     ];
     for (name, number, status, part) in table {
-        let reply = portal.act(&creation(alloc, name, number)?);
+        let reply = Ok(portal.act(&creation(alloc, name, number)?));
         assert_eq!(rt; status_of(&reply), status, "at {name} {number}");
-        let text = text_of_reply(alloc, Action::PackageCreate, reply)?;
+        let text = written(alloc, Action::PackageCreate, &reply)?;
         assert!(rt; text.as_str().contains(part), "at {name} {number}");
     }
     Ok(())
@@ -166,7 +174,7 @@ fn refusals_have_their_texts(rt: HostRuntime) -> Result<(), Fail> {
     let alloc = rt.alloc();
     let mut portal = stated_portal(alloc)?;
     let quiet = r#"{"name":"quiet","owner_org":"city","private":true}"#;
-    let made = portal.act(&call(alloc, "ann", Action::PackageCreate, quiet, 1)?);
+    let made = Ok(portal.act(&call(alloc, "ann", Action::PackageCreate, quiet, 1)?));
     assert_eq!(rt; status_of(&made), 200);
     for refused in REFUSED {
         let Refused {
@@ -176,11 +184,11 @@ fn refusals_have_their_texts(rt: HostRuntime) -> Result<(), Fail> {
             status,
             error,
         } = refused;
-        let reply = portal.act(&call(alloc, user, action, body, 2)?);
-        let line = line_of_reply(alloc, action, reply)?;
+        let reply = Ok(portal.act(&call(alloc, user, action, body, 2)?));
+        let line = written(alloc, action, &reply)?;
         let name = action.name();
         let wanted = format!(in alloc;
-            "{status} {{\"error\":{error},\"help\":\"/api/3/action/help_show?name={name}\",\"success\":false}}\n"
+            "{status} {{\"error\":{error},\"help\":\"/api/3/action/help_show?name={name}\",\"success\":false}}"
         )?;
         assert_eq!(rt; line.as_str(), wanted.as_str(), "at {user} {name}");
     }
@@ -189,8 +197,8 @@ fn refusals_have_their_texts(rt: HostRuntime) -> Result<(), Fail> {
 
 #[test]
 fn want_of_memory_has_its_text(rt: HostRuntime) -> Result<(), Fail> {
-    let reply = Reply::Refused(Refusal::OutOfMemory);
-    let line = line_of_reply(rt.alloc(), Action::PackageShow, reply)?;
+    let reply = Ok(Reply::Refused(Refusal::OutOfMemory));
+    let line = written(rt.alloc(), Action::PackageShow, &reply)?;
     assert_eq!(rt; line.as_str(), OUT_OF_MEMORY);
     Ok(())
 }

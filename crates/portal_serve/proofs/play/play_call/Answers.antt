@@ -1,4 +1,4 @@
--- The call's reply line is what the line writes; whatever stops the work, output took its beginning.
+-- The call's line is what is written; whatever stops the work, output took its beginning.
 use Rattle.std.proofs.Common.{◌∙◌, refl}
 use Rattle.std.proofs.lemmas.Result.{on_ok_weaker, on_err_weaker}
 use Rattle.portal_serve.proofs.Working.{call_written, works_lines, stops_in_writing, stops_before_writing}
@@ -6,15 +6,9 @@ use Rattle.portal_serve.proofs.Working.{on_err_always, DrawsAll-one}
 use Rattle.portal_serve.specs.Seen.{asked}
 use Rattle.portal_serve.proofs.play.play_call.Goals as goal
 
-pub returns-in_err-reply-clause-cut : goal.returns-in_err-reply-clause-cut
-returns-in_err-reply-clause-cut g c =
-    on_err_always c.from_residual.result
-    (stops_before_writing _ _ (asked c.args.said) _ _ _ _ c.requires refl (DrawsAll-one _ _ _ c.now-moment.ensures)
-    (DrawsAll-one _ _ _ c.next-nonce.ensures))
-
 pub returns-in_err-text-clause-cut : goal.returns-in_err-text-clause-cut
 returns-in_err-text-clause-cut g c =
-    on_err_always c.from_residual-in_err-text.result
+    on_err_always c.from_residual.result
     (stops_before_writing _ _ (asked c.args.said) _ _ _ _ c.requires refl (DrawsAll-one _ _ _ c.now-moment.ensures)
     (DrawsAll-one _ _ _ c.next-nonce.ensures))
 
@@ -22,8 +16,8 @@ pub returns-clause-ok : goal.returns-clause-ok
 returns-clause-ok g c =
     on_ok_weaker c.write_line.result
     (works_lines _ _ _ _ _ _ _ _
-    (call_written _ _ _ (asked c.args.said) _ _ _ _ _ c.requires c.known.ensures c.in_ok-reply.ensures.reply
-    c.in_ok-reply.ensures.state (c.as_str.ensures ∙ c.in_ok-text.ensures))
+    (call_written _ _ _ (asked c.args.said) _ _ _ c.requires (c.as_slice.ensures ∙ c.in_ok-text.ensures.line)
+    c.in_ok-text.ensures.state)
     (DrawsAll-one _ _ _ c.now-moment.ensures) (DrawsAll-one _ _ _ c.next-nonce.ensures))
     c.write_line.ensures.ok
 
@@ -31,7 +25,7 @@ pub returns-clause-cut : goal.returns-clause-cut
 returns-clause-cut g c =
     on_err_weaker c.write_line.result
     (stops_in_writing _ _ _ _ _ _ _ _
-    (call_written _ _ _ (asked c.args.said) _ _ _ _ _ c.requires c.known.ensures c.in_ok-reply.ensures.reply
-    c.in_ok-reply.ensures.state (c.as_str.ensures ∙ c.in_ok-text.ensures))
+    (call_written _ _ _ (asked c.args.said) _ _ _ c.requires (c.as_slice.ensures ∙ c.in_ok-text.ensures.line)
+    c.in_ok-text.ensures.state)
     (DrawsAll-one _ _ _ c.now-moment.ensures) (DrawsAll-one _ _ _ c.next-nonce.ensures))
     c.write_line.ensures.failed

@@ -1,7 +1,7 @@
 -- The line that was taken is the one that was worked; what stopped work on it stopped the turn.
 use Rattle.std.proofs.Common.{◌<◌, refl, ap, subst, Ok, ◌∙◌, length}
 use Rattle.portal_serve.proofs.Working.{works_too_long, works_lines, stops_in_writing, begins_no_line, begun_in_line}
-use Rattle.portal_serve.proofs.Working.{begun_in_writing, stops_same_line, DrawsAll-none}
+use Rattle.portal_serve.proofs.Working.{stops_same_line, DrawsAll-none}
 use Rattle.portal_serve.proofs.Playing.{stops_turn, stops_between}
 use Rattle.portal_serve.specs.declared.script.TheConstants.{LONGEST_LINE}
 use Rattle.portal_serve.proofs.play.play_next.Goals as goal
@@ -12,24 +12,24 @@ returns-in-Err-play_line-clause-cut g c =
     (begun_in_line _ c.in-Err-play_line.ensures.stop)
     (stops_same_line _ _ _ _ _ c.line.ensures c.in-Err-play_line.ensures.cut)
 
-pub returns-in-Ok-write_line-clause-more : goal.returns-in-Ok-write_line-clause-more
-returns-in-Ok-write_line-clause-more g c =
+pub returns-in-Ok-write_early-clause-more : goal.returns-in-Ok-write_early-clause-more
+returns-in-Ok-write_early-clause-more g c =
     let skips = c.next.ensures.long (c.in-Ok-TooLong.is ∙ ap Ok c.in-Ok-TooLong.field-0-is) in
     let long : LONGEST_LINE < length skips.0 = subst (λ n. n < length skips.0) c.requires skips.2 in
     λ more. record {
       line = skips.0;
       takes = skips.1;
       works = works_lines _ _ _ _ _ _ _ _ (works_too_long _ skips.0 long) (DrawsAll-none _) (DrawsAll-none _)
-          c.in-Ok-write_line.ensures.ok;
+          c.in-Ok-write_early.ensures.ok;
     }
 
-pub returns-in-Err-write_line-clause-cut : goal.returns-in-Err-write_line-clause-cut
-returns-in-Err-write_line-clause-cut g c =
+pub returns-in-Err-write_early-clause-cut : goal.returns-in-Err-write_early-clause-cut
+returns-in-Err-write_early-clause-cut g c =
     let skips = c.next.ensures.long (c.in-Ok-TooLong.is ∙ ap Ok c.in-Ok-TooLong.field-0-is) in
     let long : LONGEST_LINE < length skips.0 = subst (λ n. n < length skips.0) c.requires skips.2 in
-    stops_turn _ _ _ _ _ _ skips.0 skips.1 (begun_in_writing _ c.in-Err-write_line.ensures.stop)
+    stops_turn _ _ _ _ _ _ skips.0 skips.1 (begun_in_line _ c.in-Err-write_early.ensures.stop)
     (stops_in_writing _ _ _ _ _ _ _ _ (works_too_long _ skips.0 long) (DrawsAll-none _) (DrawsAll-none _)
-    c.in-Err-write_line.ensures.failed)
+    c.in-Err-write_early.ensures.failed)
 
 pub returns-in-Err-clause-cut : goal.returns-in-Err-clause-cut
 returns-in-Err-clause-cut g c =
