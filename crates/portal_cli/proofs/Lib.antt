@@ -1,3 +1,4 @@
 mod Examples
 mod StreamExamples
 pub mod Streaming
+mod Telling

@@ -1,6 +1,7 @@
--- A run of the program: the words that it takes, and its statuses.
-use Rattle.std.specs.Prelude.{ℕ, List, [], ◌∷◌, Bool, false, codes}
+-- A run of the program: the words that it takes, its statuses, and the line that tells each.
+use Rattle.std.specs.Prelude.{◌⊎◌, ℕ, List, [], ◌∷◌, ◌++◌, Option, Bool, false, codes}
 use Rattle.std.specs.Str.{bytes_eq}
+use Rattle.portal_base.specs.Outside.{Rose, Takes, TakesPrefix}
 use Rattle.portal_cli.specs.declared.run.Status.{Status}
 use Rattle.portal_cli.specs.declared.run.Status.TheVariants.{Done, Words, ReadFault, WriteFault, OutOfMemory, DataFault}
 use Rattle.portal_serve.specs.declared.play.Stop.{Stop}
@@ -45,3 +46,30 @@ status_for stop.ReadFault = ReadFault
 status_for stop.WriteFault = WriteFault
 status_for stop.TooMuch = DataFault (codes "input too long")
 status_for stop.OutOfMemory = OutOfMemory
+
+-- what tells a status behind `portal: `; that of input too long brings its text along
+abbrev pub status_text : Status → List ℕ
+status_text Done = []
+status_text Words = codes "bad words"
+status_text ReadFault = codes "input failed"
+status_text WriteFault = codes "output failed"
+status_text OutOfMemory = codes "out of memory"
+status_text (DataFault text) = text
+
+-- a line that tells a fault
+abbrev pub fault_line : List ℕ → List ℕ
+fault_line text = codes "portal: " ++ (text ++ codes "\n")
+
+-- what is written for a status: nothing for the end of input, and one line for every other
+abbrev pub status_line : Status → List ℕ
+status_line Done = []
+status_line Words = fault_line (status_text Words)
+status_line ReadFault = fault_line (status_text ReadFault)
+status_line WriteFault = fault_line (status_text WriteFault)
+status_line OutOfMemory = fault_line (status_text OutOfMemory)
+status_line (DataFault text) = fault_line text
+
+-- What a sink took, of this count of faults before and after: the whole piece, or a beginning of it where the count
+-- rose.
+abbrev pub TakesOrFails : Option (List ℕ) → ℕ → List ℕ → Option (List ℕ) → ℕ → Type 0
+TakesOrFails old faults piece new after = Takes old piece new ⊎ (Rose faults after × TakesPrefix old piece new)

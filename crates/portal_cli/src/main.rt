@@ -1,5 +1,5 @@
 //! The portal's program: `portal play` plays the script on standard input and writes its transcript to standard
-//! output.
+//! output. On every status but 0 it tells why by a line on standard error.
 #![tactic(auto)]
 
 pub mod real;
@@ -8,10 +8,10 @@ pub mod run;
 mod tests;
 
 use portal_base::counted::{CountNonces, ScriptClock};
-use portal_base::outside::{Clock, Nonces};
+use portal_base::outside::{Clock, Nonces, Sink};
 use portal_base::std_adapters::{StdSink, StdSource};
 use real::{ChaChaNonces, HostClock};
-use run::{Status, are_play, run};
+use run::{Status, are_play, run, told};
 use std::alloc::Global;
 use std::process::ExitCode;
 use std::random::RandomSource;
@@ -49,9 +49,10 @@ fn random_seed(rt: &impl RandomSource) -> Option<[u8; 32]> {
 }
 
 /// Plays standard input to standard output with this clock and these numbers.
-fn play_with<C: Clock, N: Nonces>(
+fn play_with<E: Sink, C: Clock, N: Nonces>(
     rt: &(impl Input + Print + Alloc<A = Global>),
     words: &[String],
+    faults: &mut E,
     clock: &mut C,
     nonces: &mut N,
 ) -> Status {
@@ -60,43 +61,47 @@ fn play_with<C: Clock, N: Nonces>(
         words,
         &mut StdSource::new(rt.reader()),
         &mut StdSink::new(io::writer(rt)),
+        faults,
         clock,
         nonces,
     )
 }
 
 /// Plays with the host's clock and random numbers. Faulty words come first among the causes.
-fn play_real(rt: &HostRuntime, words: &[String]) -> Status {
+fn play_real<E: Sink>(rt: &HostRuntime, words: &[String], faults: &mut E) -> Status {
     match random_seed(rt) {
         Some(seed) => play_with(
             rt,
             words,
+            faults,
             &mut HostClock::new(rt),
             &mut ChaChaNonces::from_seed(seed),
         ),
-        None if are_play(words) => Status::ReadFault,
-        None => Status::Words,
+        None if are_play(words) => told(faults, Status::ReadFault),
+        None => told(faults, Status::Words),
     }
 }
 
-/// Plays the words of the command line in the time that the environment asks for.
-fn play_words(rt: &HostRuntime) -> Result<Status, Status> {
+/// Plays the words of the command line in the time that the environment asks for. An `Err` hasn't been told.
+fn play_words<E: Sink>(rt: &HostRuntime, faults: &mut E) -> Result<Status, Status> {
     let words = words(rt)?;
     if is_real(rt)? {
-        return Ok(play_real(rt, words.as_slice()));
+        return Ok(play_real(rt, words.as_slice(), faults));
     }
     Ok(play_with(
         rt,
         words.as_slice(),
+        faults,
         &mut ScriptClock::new(),
         &mut CountNonces::new(),
     ))
 }
 
 fn main(rt: HostRuntime) -> ExitCode {
-    let status = match play_words(&rt) {
+    let mut faults = StdSink::new(rt.stderr());
+    let status = match play_words(&rt, &mut faults) {
         Ok(status) => status,
-        Err(status) => status,
+        Err(status) => told(&mut faults, status),
     };
     ExitCode::from(status.code())
 }

@@ -1,12 +1,15 @@
-//! The program's call: a script is read from input, worked line by line, and its transcript is written to output.
-ghost use Rattle.std.specs.Prelude.{◌≡◌, ◌↔◌, ℕ, List, Some, false, map, string_bytes, codes};
-ghost use Rattle.portal_base.specs.Outside.{Rose};
+//! The program's call: a script is read from input, worked line by line, and its transcript is written to output. How
+//! the run ended is told by a line on `faults`.
+ghost use Rattle.std.specs.Prelude.{◌≡◌, ◌↔◌, ◌≤◌, ℕ, List, Some, false, map, string_bytes, codes, OnOk, OnErr};
+ghost use Rattle.portal_base.specs.Outside.{Rose, Takes, TakesPrefix};
 ghost use Rattle.portal_cli.specs.Status.{is_play, status_code, status_for, IsCut, most_begun};
+ghost use Rattle.portal_cli.specs.Status.{fault_line, status_line, TakesOrFails};
 ghost use Rattle.portal_serve.specs.Run.{devices, PlaysAll, PlaysPart, GaveTooMuch};
 ghost use Rattle.portal_serve.specs.Stated.{stated_state};
 
-use portal_base::outside::{Clock, Nonces, Sink, Source};
+use portal_base::outside::{Clock, Failed, Nonces, Sink, Source};
 use portal_base::text::Text;
+use portal_lines::write::write_whole;
 use portal_serve::play::{Stop, play};
 use std::alloc::Global;
 
@@ -61,13 +64,67 @@ fn status_of(stop: Stop) -> Status
     }
 }
 
+fn write_text<E: Sink>(faults: &mut E, text: &str) -> Result<(), Failed>
+    ensures ok { OnOk result (Takes (E.taken faults.old) text.now (E.taken faults.new)) }
+    ensures failed { OnErr result (TakesPrefix (E.taken faults.old) text.now (E.taken faults.new)) }
+    ensures fault { OnErr result (Rose (E.faults faults.old) (E.faults faults.new)) }
+    ensures counts { E.faults faults.old ≤ E.faults faults.new }
+{
+    write_whole(faults, text.as_bytes())
+}
+
+/// Writes the line that tells a fault with this text. It takes no memory.
+fn write_fault<E: Sink>(faults: &mut E, text: &str) -> Result<(), Failed>
+    ensures ok { OnOk result (Takes (E.taken faults.old) (fault_line text.now) (E.taken faults.new)) }
+    ensures failed { OnErr result (TakesPrefix (E.taken faults.old) (fault_line text.now) (E.taken faults.new)) }
+    ensures fault { OnErr result (Rose (E.faults faults.old) (E.faults faults.new)) }
+    ensures counts { E.faults faults.old ≤ E.faults faults.new }
+{
+    write_text(faults, "portal: ")?;
+    write_text(faults, text)?;
+    write_text(faults, "\n")
+}
+
+/// Writes the line that tells a fault with this text, as far as `faults` takes it.
+fn tell_fault<E: Sink>(faults: &mut E, text: &str)
+    ensures line { TakesOrFails (E.taken faults.old) (E.faults faults.old) (fault_line text.now)
+        (E.taken faults.new) (E.faults faults.new) }
+    ensures counts { E.faults faults.old ≤ E.faults faults.new }
+{
+    match write_fault(faults, text) {
+        Ok(()) => {}
+        Err(_failed) => {}
+    }
+}
+
+/// Writes the line of the status to `faults`, and hands the status back. That the write fails changes nothing.
+pub fn told<E: Sink>(faults: &mut E, status: Status) -> Status
+    ensures status { result ≡ status }
+    ensures line { TakesOrFails (E.taken faults.old) (E.faults faults.old) (status_line status)
+        (E.taken faults.new) (E.faults faults.new) }
+    ensures silent { status ≡ Status.Done → faults.new ≡ faults.old }
+    ensures counts { E.faults faults.old ≤ E.faults faults.new }
+{
+    match &status {
+        Status::Done => {}
+        Status::Words => tell_fault(faults, "bad words"),
+        Status::ReadFault => tell_fault(faults, "input failed"),
+        Status::WriteFault => tell_fault(faults, "output failed"),
+        Status::OutOfMemory => tell_fault(faults, "out of memory"),
+        Status::DataFault(text) => tell_fault(faults, text.as_str()),
+    }
+    status
+}
+
 /// Plays the script on `input` and writes its transcript to `output`, where the words, those after the program's
 /// name, are the one word `play`. Of the input it holds one line and what was read at once, 65,536 bytes at most.
-pub fn run<S: Source, O: Sink, C: Clock, N: Nonces>(
+/// Every status but 0 writes its line to `faults`.
+pub fn run<S: Source, O: Sink, E: Sink, C: Clock, N: Nonces>(
     alloc: Global,
     words: &[String],
     input: &mut S,
     output: &mut O,
+    faults: &mut E,
     clock: &mut C,
     nonces: &mut N,
 ) -> Status
@@ -88,6 +145,11 @@ pub fn run<S: Source, O: Sink, C: Clock, N: Nonces>(
         (devices (S.to_come input.old) (O.taken output.old) (C.given clock.old) (N.given nonces.old))
         (devices (S.to_come input.new) (O.taken output.new) (C.given clock.new) (N.given nonces.new)) }
 
+    // Every status but 0 writes its one line, whole unless `faults` fails. Status 0 leaves `faults` alone.
+    ensures line { TakesOrFails (E.taken faults.old) (E.faults faults.old) (status_line result)
+        (E.taken faults.new) (E.faults faults.new) }
+    ensures silent { result ≡ Status.Done → faults.new ≡ faults.old }
+
     ensures read_fault { result ≡ Status.ReadFault → Rose (S.faults input.old) (S.faults input.new) }
     ensures write_fault { result ≡ Status.WriteFault → Rose (O.faults output.old) (O.faults output.new) }
     // Status 9 comes exactly where input gave more than 2^40 bytes.
@@ -96,10 +158,10 @@ pub fn run<S: Source, O: Sink, C: Clock, N: Nonces>(
     ensures text { (text : List ℕ) → result ≡ Status.DataFault text → text ≡ codes "input too long" }
 {
     if !are_play(words) {
-        return Status::Words;
+        return told(faults, Status::Words);
     }
     match play(alloc, input, output, clock, nonces) {
-        Ok(()) => Status::Done,
-        Err(stop) => status_of(stop),
+        Ok(()) => told(faults, Status::Done),
+        Err(stop) => told(faults, status_of(stop)),
     }
 }

@@ -18,6 +18,10 @@ const CREATE: &str =
 
 const SHOW: &str = "{\"action\":\"package_show\",\"body\":{\"id\":\"air-quality\"}}\n";
 
+const READ_FAULT: &str = "portal: input failed\n";
+
+const WRITE_FAULT: &str = "portal: output failed\n";
+
 /// A source that gives one byte at a time.
 #[derive(Drop)]
 struct OneByOne<S> {
@@ -81,10 +85,11 @@ fn sink(alloc: Global, room: usize, failing: &[u64]) -> Result<MemorySink, Fail>
 }
 
 /// The status of a run of `play` over these devices.
-fn status_over<S: Source, O: Sink>(
+fn status_over<S: Source, O: Sink, E: Sink>(
     alloc: Global,
     input: &mut S,
     output: &mut O,
+    faults: &mut E,
 ) -> Result<u8, Fail> {
     let words = vec![in alloc; String::from_str(alloc, "play")?]?;
     let status = run(
@@ -92,6 +97,7 @@ fn status_over<S: Source, O: Sink>(
         words.as_slice(),
         input,
         output,
+        faults,
         &mut ScriptClock::new(),
         &mut CountNonces::new(),
     );
@@ -109,9 +115,11 @@ fn bytes_come_and_go_one_by_one(rt: HostRuntime) -> Result<(), Fail> {
     let mut output = Narrow {
         inner: sink(alloc, 10_000, &[])?,
     };
-    let code = status_over(alloc, &mut input, &mut output)?;
+    let mut faults = sink(alloc, 100, &[])?;
+    let code = status_over(alloc, &mut input, &mut output, &mut faults)?;
     assert_eq!(rt; code, 0);
     assert_eq!(rt; output.inner.taken(), transcript.as_bytes());
+    assert!(rt; faults.taken().is_empty());
     Ok(())
 }
 
@@ -126,8 +134,10 @@ fn each_failing_read_ends_a_run_with_3(rt: HostRuntime) -> Result<(), Fail> {
             inner: source(alloc, script.as_str(), &[(read as u64).saturating_add(1)])?,
         };
         let mut output = sink(alloc, 10_000, &[])?;
-        let code = status_over(alloc, &mut input, &mut output)?;
+        let mut faults = sink(alloc, 100, &[])?;
+        let code = status_over(alloc, &mut input, &mut output, &mut faults)?;
         assert_eq!(rt; code, 3, "after {read} bytes");
+        assert_eq!(rt; faults.taken(), READ_FAULT.as_bytes(), "after {read} bytes");
         assert!(rt;
             transcript.as_bytes().starts_with(output.taken()),
             "after {read} bytes"
@@ -153,8 +163,14 @@ fn each_failing_write_ends_a_run_with_4(rt: HostRuntime) -> Result<(), Fail> {
         let mut output = Narrow {
             inner: sink(alloc, 10_000, &[(taken as u64).saturating_add(1)])?,
         };
-        let code = status_over(alloc, &mut input, &mut output)?;
+        let mut faults = sink(alloc, 100, &[])?;
+        let code = status_over(alloc, &mut input, &mut output, &mut faults)?;
         assert_eq!(rt; code, 4, "after {taken} bytes");
+        assert_eq!(rt;
+            faults.taken(),
+            WRITE_FAULT.as_bytes(),
+            "after {taken} bytes"
+        );
         assert_eq!(rt;
             output.inner.taken(),
             &bytes[..taken],
@@ -173,7 +189,8 @@ fn output_is_full_after_each_byte(rt: HostRuntime) -> Result<(), Fail> {
     for room in 0..=bytes.len() {
         let mut input = source(alloc, script.as_str(), &[])?;
         let mut output = sink(alloc, room, &[])?;
-        let code = status_over(alloc, &mut input, &mut output)?;
+        let mut faults = sink(alloc, 100, &[])?;
+        let code = status_over(alloc, &mut input, &mut output, &mut faults)?;
         assert_eq!(rt;
             code == 0,
             room == bytes.len(),
@@ -185,6 +202,24 @@ fn output_is_full_after_each_byte(rt: HostRuntime) -> Result<(), Fail> {
             &bytes[..room],
             "with room for {room} bytes"
         );
+    }
+    Ok(())
+}
+
+// Each call of the sink that is to take the line fails in turn, and the status stays.
+#[test]
+fn a_line_that_fails_changes_no_status(rt: HostRuntime) -> Result<(), Fail> {
+    let alloc = rt.alloc();
+    let line = READ_FAULT.as_bytes();
+    for taken in 0..line.len() {
+        let mut input = source(alloc, CREATE, &[1])?;
+        let mut output = sink(alloc, 10_000, &[])?;
+        let mut faults = Narrow {
+            inner: sink(alloc, 100, &[(taken as u64).saturating_add(1)])?,
+        };
+        let code = status_over(alloc, &mut input, &mut output, &mut faults)?;
+        assert_eq!(rt; code, 3, "after {taken} bytes");
+        assert_eq!(rt; faults.inner.taken(), &line[..taken], "after {taken} bytes");
     }
     Ok(())
 }

@@ -1,5 +1,5 @@
 -- The status tells why playing stopped, and how many lines may then be begun.
-use Rattle.std.proofs.Common.{◌≡◌, List, ℕ, sym, subst, refl}
+use Rattle.std.proofs.Common.{◌≡◌, ◌∙◌, List, ℕ, sym, subst, refl}
 use Rattle.portal_cli.specs.Status.{most_begun, status_for}
 use Rattle.portal_cli.specs.declared.run.Status.{Status}
 use Rattle.portal_serve.specs.Run.{Devices, PlaysPart}
@@ -23,4 +23,5 @@ part_of_status stop status whole old new is part =
 
 pub returns-in-Err-clause-cut : goal.returns-in-Err-clause-cut
 returns-in-Err-clause-cut g c =
-    λ cut whole told. part_of_status _ _ _ _ _ c.status_of.ensures (c.in-Err.ensures.cut whole told)
+    λ cut whole told. part_of_status _ _ _ _ _ (c.told-in-Err.ensures.status ∙ c.status_of.ensures)
+    (c.in-Err.ensures.cut whole told)
