@@ -1,14 +1,19 @@
 //! Worked examples of scripts: what playing them in memory writes, and how it ends.
+//!
+//! Each file `NAME.script` of the folder that the program runs in is played, and `NAME.transcript` has what is wanted:
+//! the lines that are written, and behind them `status N` where the run ends with another status than 0. So a further
+//! case is two files.
 #![tactic(auto)]
 
-use cases::{Case, Tally, check_files};
+use cases::Tally;
+use cases::tally::Place;
 use portal_base::counted::{CountNonces, ScriptClock};
 use portal_base::memory::{MemorySink, MemorySource};
 use portal_base::seq::Seq;
 use portal_serve::play::{Stop, play};
 use std::alloc::{AllocError, Global};
-use std::io;
 use std::process::ExitCode;
+use std::{fs, io};
 
 /// How many bytes of a transcript there is room for.
 const ROOM: usize = 100_000;
@@ -48,17 +53,60 @@ fn play_in_memory(alloc: Global, script: &[u8]) -> Result<Played, AllocError> {
     })
 }
 
-/// A script: its transcript, and behind it the status where that isn't 0.
-fn transcript(alloc: Global, case: &Case) -> io::Result<Vec<u8>> {
-    let Played { code, mut written } = play_in_memory(alloc, case.bytes(0))?;
+/// The transcript of a script, and behind it the status where that isn't 0.
+fn transcript(alloc: Global, script: &[u8]) -> io::Result<Vec<u8>> {
+    let Played { code, mut written } = play_in_memory(alloc, script)?;
     if code != 0 {
         written.extend_from_slice(format!(in alloc; "status {code}\n")?.as_bytes())?;
     }
     Ok(written)
 }
 
+/// The line of the first byte in which the two differ, the first one 1.
+fn line_of_difference(wanted: &[u8], found: &[u8]) -> u64 {
+    let mut line: u64 = 1;
+    for (one, other) in wanted.iter().zip(found.iter()) {
+        if one != other {
+            return line;
+        }
+        if *one == b'\n' {
+            line = line.saturating_add(1);
+        }
+    }
+    line
+}
+
+/// Plays the script of this name, and compares what it writes with its transcript.
+fn check_script(rt: &HostRuntime, tally: &mut Tally, name: &str) -> io::Result<()> {
+    let alloc = rt.alloc();
+    let script = fs::read(rt, format!(in alloc; "{name}.script")?)?;
+    let file = format!(in alloc; "{name}.transcript")?;
+    let wanted = fs::read(rt, file.as_str())?;
+    let found = transcript(alloc, script.as_slice())?;
+    let place = Place {
+        file: file.as_str(),
+        line: line_of_difference(wanted.as_slice(), found.as_slice()),
+    };
+    tally.compare(rt, place, wanted.as_slice(), found.as_slice())
+}
+
+/// The names of the folder's scripts, ascending.
+fn script_names(rt: &HostRuntime) -> io::Result<Vec<String>> {
+    let mut names = Vec::new(rt.alloc());
+    for entry in fs::read_dir(rt, ".")? {
+        let entry = entry?;
+        if let Some(name) = entry.file_name().strip_suffix(".script") {
+            names.push(String::from_str(rt.alloc(), name)?)?;
+        }
+    }
+    names.sort()?;
+    Ok(names)
+}
+
 fn main(rt: HostRuntime) -> io::Result<ExitCode> {
     let mut tally = Tally::new();
-    check_files(&rt, &mut tally, "scripts", 2, transcript)?;
+    for name in script_names(&rt)?.iter() {
+        check_script(&rt, &mut tally, name.as_str())?;
+    }
     tally.end(&rt)
 }
