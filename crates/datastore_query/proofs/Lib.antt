@@ -1,0 +1,6 @@
+pub mod ListedLemmas
+pub mod OrderLemmas
+pub mod PartLemmas
+pub mod ResultLemmas
+pub mod RowLemmas
+pub mod SortLemmas

@@ -1,0 +1,41 @@
+-- Rows of different `_id`s are nowhere alike.
+use Rattle.std.proofs.Common.{◌≡◌, ◌∙◌, ℕ, Bool, true, false, ◌||◌, List, [], ◌∷◌, refl, sym, ap, ap₂}
+use Rattle.std.specs.declared.cmp.Ordering.{Ordering}
+use Rattle.std.specs.declared.cmp.Ordering.TheVariants.{Less, Equal, Greater}
+use Rattle.std.specs.Ordering.{is_eq, nat_cmp, ordering_reverse, ordering_then}
+use Rattle.std.specs.List.{list_any}
+use Rattle.std.specs.Cmp.{IsTotalOrder}
+use Rattle.portal_base.specs.Ordered.{IsAscending, IsBelowAll}
+use Rattle.portal_base.proofs.Inserted.{AreApart}
+use Rattle.datastore_table.specs.declared.row.Row.{Row}
+use Rattle.datastore_table.specs.Rows.{row_cmp, row_cmp_total}
+use Rattle.datastore_query.specs.declared.sort.Sort.{Sort}
+use Rattle.datastore_query.specs.Sort.{sort_cmp, sorts_cmp}
+
+above : (r : Ordering) → r ≡ Less → ordering_reverse r ≡ Greater
+above Less e = refl
+above Equal e = absurd (cc)
+above Greater e = absurd (cc)
+
+not_tied : (r s : Ordering) → is_eq s ≡ false → is_eq (ordering_then r s) ≡ false
+not_tied Less s h = refl
+not_tied Equal s h = h
+not_tied Greater s h = refl
+
+-- Rows that aren't alike by `_id` aren't by a sort either, which ends with it.
+pub apart_rows : (sorts : List Sort) (x y : Row) → is_eq (row_cmp x y) ≡ false → is_eq (sorts_cmp sorts x y) ≡ false
+apart_rows [] x y h = h
+apart_rows (sort ∷ sorts) x y h =
+    not_tied (sort_cmp sort x y) (sorts_cmp sorts x y) (apart_rows sorts x y h)
+
+none_alike : (sorts : List Sort) (x : Row) (ys : List Row) → IsBelowAll row_cmp x ys
+    → list_any (λ y. is_eq (sorts_cmp sorts y x)) ys ≡ false
+none_alike sorts x [] below = refl
+none_alike sorts x (y ∷ ys) below =
+    let back : row_cmp y x ≡ Greater =
+    row_cmp_total.antisymm y x ∙ above (row_cmp x y) below.0 in
+    ap₂ (λ a b. a || b) (apart_rows sorts y x (ap is_eq back)) (none_alike sorts x ys below.1)
+
+pub apart-ascending : (sorts : List Sort) (rows : List Row) → IsAscending row_cmp rows → AreApart (sorts_cmp sorts) rows
+apart-ascending sorts [] up = tt
+apart-ascending sorts (row ∷ rows) up = (none_alike sorts row rows up.0, apart-ascending sorts rows up.1)

@@ -1,0 +1,7 @@
+pub mod Column
+pub mod Filter
+pub mod Query
+pub mod Results
+pub mod Sort
+pub mod SortText
+pub mod Words

@@ -1,0 +1,248 @@
+//! Filters: which rows have one of some values in a column.
+ghost use Rattle.std.specs.Prelude.{◌≡◌, ◌∷◌, [], IfOk, IsTrue, None, Ok, flat_map, fold, map, option_copied, option_to_list};
+ghost use Rattle.std.specs.List.{list_all, list_any};
+ghost use Rattle.portal_base.specs.Kinds.{all_of};
+ghost use Rattle.datastore_table.specs.Cells.{cell_at};
+ghost use Rattle.table_schema.specs.Order.{same_cell};
+ghost use Rattle.datastore_query.specs.Filter.{entry_reading, filter_cell, filter_values, filters_in, filters_reading};
+ghost use Rattle.datastore_query.specs.Filter.{entries_of, has_value, is_earlier, is_id, is_unknown, is_unread, least_such};
+ghost use Rattle.datastore_query.specs.Filter.{not_of_type, passes_filter, passes_filters, with_earlier};
+
+use crate::column::{Column, column_of, kind_of, no_field};
+use datastore_table::Row;
+use portal_base::copy::TryClone;
+use portal_base::json_value::Json;
+use portal_base::seq::Seq;
+use portal_base::text::Text;
+use std::alloc::{AllocError, Global};
+use table_schema::{Cell, Field, Kind, value_of};
+
+/// A filter: a row passes it that has one of these values in the column.
+#[derive(Drop)]
+pub(crate) struct Filter {
+    pub column: Column,
+    pub values: Seq<Cell>,
+}
+
+// ---- reading
+
+// The cell of one value, by the type alone; null is Null.
+fn filter_cell(alloc: Global, kind: Kind, value: &Json) -> Result<Option<Cell>, AllocError>
+    ensures { IfOk result (λ cell. cell ≡ filter_cell kind value.now) }
+{
+    match value {
+        Json::Null => Ok(Some(Cell::Null)),
+        _ => value_of(alloc, kind, value),
+    }
+}
+
+// The cells of values, if all have one.
+fn filter_cells(alloc: Global, kind: Kind, values: &[Json]) -> Result<Option<Seq<Cell>>, AllocError>
+    ensures { IfOk result (λ cells. cells ≡ all_of (filter_cell kind) values.now) }
+{
+    let mut cells = Vec::with_capacity(alloc, values.len())?;
+    for value in values {
+        match filter_cell(alloc, kind, value)? {
+            Some(cell) => cells.push(cell)?,
+            None => return Ok(None),
+        }
+    }
+    Ok(Some(Seq::from(cells)))
+}
+
+fn one_cell(alloc: Global, cell: Cell) -> Result<Seq<Cell>, AllocError>
+    ensures { IfOk result (λ cells. cells ≡ cell ∷ []) }
+{
+    let mut cells = Vec::new(alloc);
+    cells.push(cell)?;
+    Ok(Seq::from(cells))
+}
+
+// The cells of one value, or of a list of values.
+fn filter_values(alloc: Global, kind: Kind, value: &Json) -> Result<Option<Seq<Cell>>, AllocError>
+    ensures { IfOk result (λ cells. cells ≡ filter_values kind value.now) }
+{
+    if let Json::List(values) = value {
+        return filter_cells(alloc, kind, values.as_slice());
+    }
+    match filter_cell(alloc, kind, value)? {
+        Some(cell) => Ok(Some(one_cell(alloc, cell)?)),
+        None => Ok(None),
+    }
+}
+
+// The filter of an entry, if there is its column and its values are of the column's type.
+fn entry_filter(
+    alloc: Global,
+    fields: &[Field],
+    entry: &(Text, Json),
+) -> Result<Option<Filter>, AllocError>
+    ensures { IfOk result (λ filter. filter ≡ entry_reading fields.now entry.now) }
+{
+    let Some(column) = column_of(fields, entry.0.as_str()) else {
+        return Ok(None);
+    };
+    match filter_values(alloc, kind_of(fields, column), &entry.1)? {
+        Some(values) => Ok(Some(Filter { column, values })),
+        None => Ok(None),
+    }
+}
+
+fn is_earlier(name: &Text, least: Option<&Text>) -> bool
+    ensures { result ≡ is_earlier name.now (option_copied least.entry) }
+{
+    match least {
+        Some(least) => name.cmp(least).is_lt(),
+        None => true,
+    }
+}
+
+fn is_unknown(fields: &[Field], entry: &(Text, Json)) -> bool
+    ensures { result ≡ is_unknown fields.now entry.now }
+{
+    column_of(fields, entry.0.as_str()).is_none()
+}
+
+// The first of the keys by bytes that names no column.
+fn least_unknown<'a>(fields: &[Field], entries: &'a [(Text, Json)]) -> Option<&'a Text>
+    ensures { option_copied result ≡ least_such (is_unknown fields.now) entries.now }
+{
+    let mut least = None;
+    for entry in entries {
+        if is_unknown(fields, entry) && is_earlier(&entry.0, least) {
+            least = Some(&entry.0);
+        }
+    }
+    least
+}
+
+fn is_unread(alloc: Global, fields: &[Field], entry: &(Text, Json)) -> Result<bool, AllocError>
+    ensures { IfOk result (λ unread. unread ≡ is_unread fields.now entry.now) }
+{
+    Ok(entry_filter(alloc, fields, entry)?.is_none())
+}
+
+fn copy_of(alloc: Global, name: Option<&Text>) -> Result<Option<Text>, AllocError>
+    ensures { IfOk result (λ copy. copy ≡ option_copied name.entry) }
+{
+    match name {
+        Some(name) => Ok(Some(name.try_clone(alloc)?)),
+        None => Ok(None),
+    }
+}
+
+// The first of the keys by bytes whose filter can't be read.
+fn least_unread(
+    alloc: Global,
+    fields: &[Field],
+    entries: &[(Text, Json)],
+) -> Result<Option<Text>, AllocError>
+    ensures { IfOk result (λ least. least ≡ least_such (is_unread fields.now) entries.now) }
+{
+    let mut least = None;
+    for entry in entries {
+        if is_unread(alloc, fields, entry)? && is_earlier(&entry.0, least) {
+            least = Some(&entry.0);
+        }
+    }
+    copy_of(alloc, least)
+}
+
+// The filters that can be read.
+fn filters_in(
+    alloc: Global,
+    fields: &[Field],
+    entries: &[(Text, Json)],
+) -> Result<Seq<Filter>, AllocError>
+    ensures { IfOk result (λ filters. filters ≡ filters_in fields.now entries.now) }
+{
+    let mut filters = Vec::with_capacity(alloc, entries.len())?;
+    for entry in entries {
+        if let Some(filter) = entry_filter(alloc, fields, entry)? {
+            filters.push(filter)?;
+        }
+    }
+    Ok(Seq::from(filters))
+}
+
+fn not_of_type(alloc: Global, name: &str) -> Result<Text, AllocError>
+    ensures { IfOk result (λ text. text ≡ not_of_type name.now) }
+{
+    Ok(Text::from(format!(in alloc; "{name}: not of type")?))
+}
+
+fn entries_of(filters: &Json) -> &[(Text, Json)]
+    ensures { result.now ≡ entries_of filters.now }
+{
+    match filters {
+        Json::Map(entries) => entries.as_slice(),
+        _ => &[],
+    }
+}
+
+/// The filters of a dictionary, or what is told of the first key by bytes that names no column, and else of the first
+/// whose value isn't of the column's type.
+pub(crate) fn filters_of(
+    alloc: Global,
+    fields: &[Field],
+    filters: &Json,
+) -> Result<Result<Seq<Filter>, Text>, AllocError>
+    ensures { IfOk result (λ read. read ≡ filters_reading fields.now filters.now) }
+{
+    let entries = entries_of(filters);
+    if let Some(name) = least_unknown(fields, entries) {
+        return Ok(Err(no_field(alloc, name.as_str())?));
+    }
+    match least_unread(alloc, fields, entries)? {
+        Some(name) => Ok(Err(not_of_type(alloc, name.as_str())?)),
+        None => Ok(Ok(filters_in(alloc, fields, entries)?)),
+    }
+}
+
+// ---- passing
+
+// Whether the value is this `_id`.
+fn is_id(id: u64, value: &Cell) -> bool
+    ensures { result ≡ is_id id value.now }
+{
+    match value {
+        Cell::Int(number) => i128::from(*number) == i128::from(id),
+        _ => false,
+    }
+}
+
+// Whether the cell at this place is the value.
+fn is_at(cells: &[Cell], place: usize, value: &Cell) -> bool
+    ensures { result ≡ same_cell (cell_at cells.now place) value.now }
+{
+    match cells.get(place) {
+        Some(cell) => cell.is_same(value),
+        None => Cell::Null.is_same(value),
+    }
+}
+
+fn has_value(row: &Row, column: Column, value: &Cell) -> bool
+    ensures { result ≡ has_value column row.now value.now }
+{
+    match column {
+        Column::Id => is_id(row.id, value),
+        Column::Field(place) => is_at(row.cells.as_slice(), place, value),
+    }
+}
+
+fn passes_filter(row: &Row, filter: &Filter) -> bool
+    ensures { result ≡ passes_filter row.now filter.now }
+{
+    filter
+        .values
+        .as_slice()
+        .iter()
+        .any(|value| has_value(row, filter.column, value))
+}
+
+/// Whether a row passes all filters.
+pub(crate) fn passes_filters(row: &Row, filters: &[Filter]) -> bool
+    ensures { result ≡ passes_filters filters.now row.now }
+{
+    filters.iter().all(|filter| passes_filter(row, filter))
+}

@@ -1,0 +1,19 @@
+//! Queries of tables: which rows pass a query's filters and words, and the page of them in the query's order.
+#![tactic(auto)]
+
+mod column;
+mod fault;
+mod filter;
+mod order;
+mod page;
+mod parts;
+mod query;
+mod rows;
+mod sort;
+mod sort_text;
+mod words;
+
+pub use fault::QueryFault;
+pub use page::Page;
+pub use parts::Parts;
+pub use query::Query;

@@ -1,0 +1,128 @@
+//! The rows of a query: selected, in order, and cut to a page.
+ghost use Rattle.std.specs.Prelude.{◌≡◌, All, IfOk, drop, filter, fold, map, take};
+ghost use Rattle.std.specs.List.{list_any};
+ghost use Rattle.table_schema.specs.Printed.{IsValue};
+ghost use Rattle.datastore_table.specs.Cells.{same_cells};
+ghost use Rattle.datastore_query.specs.Column.{projected};
+ghost use Rattle.datastore_query.specs.Query.{firsts, is_selected, with_first};
+
+use crate::column::{Column, projected};
+use crate::filter::{Filter, passes_filters};
+use crate::order::LentRow;
+use crate::words::has_words;
+use datastore_table::Row;
+use portal_base::copy::TryClone;
+use portal_base::seq::Seq;
+use portal_base::text::Text;
+use std::alloc::{AllocError, Global};
+use table_schema::Cell;
+
+/// A part of a list: so many items at most, behind some that are left out.
+#[derive(Clone, Copy)]
+pub(crate) struct Cut {
+    pub offset: u64,
+    pub limit: u64,
+}
+
+/// The items of a part.
+pub(crate) fn taken<T>(items: &[T], part: Cut) -> &[T]
+    ensures { result.now ≡ take part.limit (drop part.offset items.now) }
+{
+    let behind = &items[items.len().min(part.offset as usize)..];
+    &behind[..behind.len().min(part.limit as usize)]
+}
+
+// Whether a row passes the filters and has the words.
+fn is_selected(
+    alloc: Global,
+    filters: &[Filter],
+    words: &[Text],
+    row: &Row,
+) -> Result<bool, AllocError>
+    requires { All IsValue row.now.cells }
+    ensures { IfOk result (λ selected. selected ≡ is_selected filters.now words.now row.now) }
+{
+    if passes_filters(row, filters) {
+        has_words(alloc, words, row)
+    } else {
+        Ok(false)
+    }
+}
+
+/// The rows that pass the filters and have the words.
+pub(crate) fn selected<'a>(
+    alloc: Global,
+    filters: &[Filter],
+    words: &[Text],
+    rows: &'a [Row],
+) -> Result<Vec<LentRow<'a>>, AllocError>
+    requires { All (λ row. All IsValue row.cells) rows.now }
+    ensures { IfOk result (λ selected. selected.items ≡ filter (is_selected filters.now words.now) rows.now) }
+{
+    let mut selected = Vec::new(alloc);
+    for row in rows {
+        if is_selected(alloc, filters, words, row)? {
+            selected.push(LentRow::of(row))?;
+        }
+    }
+    Ok(selected)
+}
+
+/// The cells of rows in these columns.
+pub(crate) fn projections(
+    alloc: Global,
+    columns: &[Column],
+    rows: &[LentRow],
+) -> Result<Vec<Seq<Cell>>, AllocError>
+    ensures { IfOk result (λ cells. cells.items ≡ map (projected columns.now) rows.now) }
+{
+    let mut cells = Vec::with_capacity(alloc, rows.len())?;
+    for row in rows {
+        cells.push(projected(alloc, columns, row.row())?)?;
+    }
+    Ok(cells)
+}
+
+fn is_same(one: &[Cell], other: &[Cell]) -> bool
+    ensures { result ≡ same_cells one.now other.now }
+{
+    if one.len() != other.len() {
+        return false;
+    }
+    for place in 0..one.len() {
+        if !one[place].is_same(&other[place]) {
+            return false;
+        }
+    }
+    true
+}
+
+fn is_among(rows: &[Seq<Cell>], row: &[Cell]) -> bool
+    ensures { result ≡ list_any (same_cells row.now) rows.now }
+{
+    rows.iter().any(|other| is_same(row, other.as_slice()))
+}
+
+/// Of equal rows the first.
+pub(crate) fn firsts(alloc: Global, rows: Vec<Seq<Cell>>) -> Result<Vec<Seq<Cell>>, AllocError>
+    ensures { IfOk result (λ kept. kept.items ≡ firsts same_cells rows.items) }
+{
+    let mut kept = Vec::new(alloc);
+    for row in rows {
+        if !is_among(kept.as_slice(), row.as_slice()) {
+            kept.push(row)?;
+        }
+    }
+    Ok(kept)
+}
+
+/// Copies of rows.
+pub(crate) fn copies(alloc: Global, rows: &[Seq<Cell>]) -> Result<Seq<Seq<Cell>>, AllocError>
+    ensures { IfOk result (λ copies. copies ≡ rows.now) }
+{
+    let mut copies = Vec::with_capacity(alloc, rows.len())?;
+    for row in rows {
+        copies.push(row.try_clone(alloc)?)?;
+    }
+    Ok(Seq::from(copies))
+}
