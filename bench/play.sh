@@ -1,38 +1,41 @@
 #!/bin/sh
-# Plays many creates and as many shows, and prints lines per second and peak memory, for 10,000 of each and for half as
-# many, so that growth is seen. Needs python3 to write the script and to measure.
-cd "$(dirname "$0")/.." || exit 1
-./portal play </dev/null || exit 1
-exec python3 - "$PWD/crates/portal_cli/out/portal_cli" <<'PY'
-import os, resource, subprocess, sys, tempfile, time
+# Makes 10,000, 20,000 and 40,000 datasets on a portal in memory, and works one more call of a kind on each: shown by name,
+# shown by id, patched. Prints calls a second of processor time for each kind, the making taken off, and how many times as long
+# twice the calls on twice the datasets take; more than 2.3 times ends it with a failure. Needs python3.
+cd "$(dirname "$0")" || exit 1
+exec python3 -B - <<'PY'
+import sys
 
-program = sys.argv[1]
+from measuring import built, worked
 
+KINDS = ("create", "show_by_name", "show_by_id", "patch")
+COUNTS = (10_000, 20_000, 40_000)
+BOUND = 2.3
+ROUNDS = 10
 
-def script(count):
-    create = '{"action":"package_create","as":"ann","body":{"name":"set-%06d","owner_org":"city","title":"Set %d"}}\n'
-    show = '{"action":"package_show","body":{"id":"set-%06d"}}\n'
-    lines = [create % (i, i) for i in range(count)] + [show % i for i in range(count)]
-    return "".join(lines)
-
-
-def measure(count):
-    with tempfile.TemporaryFile("w+") as given, tempfile.TemporaryFile("w+b") as taken:
-        given.write(script(count))
-        given.seek(0)
-        start = time.monotonic()
-        process = subprocess.Popen([program, "play"], stdin=given, stdout=taken)
-        _, status, usage = os.wait4(process.pid, 0)
-        seconds = time.monotonic() - start
-        taken.seek(0)
-        good = sum(line.startswith(b"200 ") for line in taken)
-        if status != 0 or good != 2 * count:
-            sys.exit(f"status {status}, {good} of {2 * count} lines are 200")
-        return seconds, usage.ru_maxrss
+program = built("portal_count")
 
 
-print(f"{'lines':>8} {'seconds':>9} {'lines/s':>9} {'peak KiB':>9}")
-for count in (5_000, 10_000):
-    seconds, peak = measure(count)
-    print(f"{2 * count:>8} {seconds:>9.3f} {2 * count / seconds:>9.0f} {peak:>9}")
+def seconds_of(kind, count):
+    """Seconds of the processor for a run."""
+    wanted = f"{count} {0 if kind == 'create' else count}"
+    usage = worked(program, lambda file: wanted, kind, str(count))[2]
+    return usage.ru_utime + usage.ru_stime
+
+
+# The least of all rounds, each of which has each run once.
+rounds = [{(kind, count): seconds_of(kind, count) for kind in KINDS for count in COUNTS} for _ in range(ROUNDS)]
+least = {run: min(seconds[run] for seconds in rounds) for run in rounds[0]}
+
+is_over = False
+print(f"{'kind':<13} {'datasets':>9} {'calls/s':>9} {'ratio':>6}")
+for kind in KINDS:
+    before = None
+    for count in COUNTS:
+        seconds = least[kind, count] - (0 if kind == "create" else least["create", count])
+        ratio = seconds / before if before else None
+        is_over = is_over or (ratio or 0) > BOUND
+        print(f"{kind:<13} {count:>9} {count / seconds:>9.0f} {f'{ratio:.2f}' if ratio else '':>6}")
+        before = seconds
+sys.exit(1 if is_over else 0)
 PY
