@@ -1,0 +1,46 @@
+//! Links of cases.
+use portal_base::memory::MemoryLink;
+use portal_base::outside::{Failed, Link};
+use portal_base::seq::Seq;
+use std::alloc::{AllocError, Global};
+
+/// A link in memory with these bytes and this much room, which fails at the calls with these numbers.
+pub fn link_of(
+    alloc: Global,
+    bytes: &[u8],
+    room: usize,
+    failing: Seq<u64>,
+) -> Result<MemoryLink, AllocError> {
+    let bytes = bytes.to_vec(alloc)?;
+    MemoryLink::new(alloc, Seq::from(bytes), room, failing)
+}
+
+/// A link that gives and takes one byte at a time.
+#[derive(Drop)]
+pub struct OneByOne {
+    pub inner: MemoryLink,
+}
+
+impl Link for OneByOne {
+    ghost use Rattle.std.specs.Prelude.{None};
+
+    ghost to_come = { λ _. None };
+
+    ghost taken = { λ _. None };
+
+    ghost faults = { λ l. l.inner.plan.faults };
+
+    fn read(&mut self, into: &mut [u8]) -> Result<usize, Failed> {
+        if into.is_empty() {
+            return Ok(0);
+        }
+        self.inner.read(&mut into[..1])
+    }
+
+    fn write(&mut self, piece: &[u8]) -> Result<usize, Failed> {
+        if piece.is_empty() {
+            return Ok(0);
+        }
+        self.inner.write(&piece[..1])
+    }
+}

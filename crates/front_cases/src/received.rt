@@ -1,0 +1,137 @@
+//! What is received of a link.
+use crate::links::{OneByOne, link_of};
+use cases::Case;
+use http_front::fault::FrontFault;
+use http_front::incoming::Incoming;
+use http_front::receive::receive;
+use portal_base::outside::Link;
+use portal_base::seq::Seq;
+use portal_base::text::Text;
+use std::alloc::{AllocError, Global};
+use std::io;
+
+/// What stands for the filler in the bytes of a case.
+const FILLED: u8 = b'$';
+
+/// Three names of actions: two that only read, and one that changes something.
+fn is_reading(name: &str) -> Option<bool> {
+    match name {
+        "package_show" | "package_list" => Some(true),
+        "package_create" => Some(false),
+        _ => None,
+    }
+}
+
+fn fault_shown(fault: FrontFault) -> &'static str {
+    match fault {
+        FrontFault::BadHead => "bad head",
+        FrontFault::NoLength => "no length",
+        FrontFault::TooLong => "too long",
+        FrontFault::NoRoute => "no route",
+        FrontFault::Method => "method",
+        FrontFault::EndedEarly => "ended early",
+        FrontFault::LinkFault => "link fault",
+        FrontFault::OutOfMemory => "out of memory",
+    }
+}
+
+/// Adds the parts, each behind a space and in brackets, and the token where there is one.
+fn push_parts(
+    told: &mut Vec<u8>,
+    name: &Text,
+    part: &[u8],
+    token: &Option<Text>,
+) -> Result<(), AllocError> {
+    told.extend_from_slice(name.as_bytes())?;
+    told.extend_from_slice(b" [")?;
+    told.extend_from_slice(part)?;
+    told.push(b']')?;
+    if let Some(token) = token {
+        told.extend_from_slice(b" as ")?;
+        told.extend_from_slice(token.as_bytes())?;
+    }
+    Ok(())
+}
+
+/// What is received of the link.
+fn shown<K: Link>(alloc: Global, link: &mut K) -> Result<Vec<u8>, AllocError> {
+    let mut told = Vec::new(alloc);
+    match receive(alloc, link, is_reading) {
+        Ok(Incoming::Post(name, body, token)) => {
+            told.extend_from_slice(b"POST ")?;
+            push_parts(&mut told, &name, body.as_slice(), &token)?;
+        }
+        Ok(Incoming::Get(name, query, token)) => {
+            told.extend_from_slice(b"GET ")?;
+            push_parts(&mut told, &name, query.as_bytes(), &token)?;
+        }
+        Err(fault) => told.extend_from_slice(fault_shown(fault).as_bytes())?,
+    }
+    Ok(told)
+}
+
+/// What is received of these bytes, read whole and byte by byte.
+fn both_ways(alloc: Global, bytes: &[u8]) -> Result<Vec<u8>, AllocError> {
+    let mut link = link_of(alloc, bytes, 0, Seq::new(alloc))?;
+    let mut told = shown(alloc, &mut link)?;
+    let inner = link_of(alloc, bytes, 0, Seq::new(alloc))?;
+    let mut link = OneByOne { inner };
+    let cut = shown(alloc, &mut link)?;
+    if cut.as_slice() != told.as_slice() {
+        told.extend_from_slice(b", but byte by byte ")?;
+        told.extend_from_slice(cut.as_slice())?;
+    }
+    Ok(told)
+}
+
+/// The bytes of a connection: what is received of them.
+pub fn told(alloc: Global, case: &Case) -> io::Result<Vec<u8>> {
+    Ok(both_ways(alloc, case.bytes(0))?)
+}
+
+/// The bytes, with so many letters in place of each mark.
+fn filled(alloc: Global, count: usize, bytes: &[u8]) -> Result<Vec<u8>, AllocError> {
+    let mut whole = Vec::new(alloc);
+    let filler = vec![in alloc; b'a'; count]?;
+    for byte in bytes {
+        if *byte == FILLED {
+            whole.extend_from_slice(filler.as_slice())?;
+        } else {
+            whole.push(*byte)?;
+        }
+    }
+    Ok(whole)
+}
+
+/// How long the filler is, and the bytes of a connection: what is received of them.
+pub fn long_told(alloc: Global, case: &Case) -> io::Result<Vec<u8>> {
+    let bytes = filled(alloc, case.parsed(0)?, case.bytes(1))?;
+    Ok(both_ways(alloc, bytes.as_slice())?)
+}
+
+/// The bytes of a connection: what is received of each proper prefix, where it is the same of all.
+pub fn cuts_told(alloc: Global, case: &Case) -> io::Result<Vec<u8>> {
+    let bytes = case.bytes(0);
+    let first = both_ways(alloc, &[])?;
+    for end in 0..bytes.len() {
+        let told = both_ways(alloc, &bytes[..end])?;
+        if told.as_slice() != first.as_slice() {
+            return Ok(told);
+        }
+    }
+    Ok(first)
+}
+
+/// The number of the call that fails, and the bytes of a connection: what is received of them, and how much is written.
+pub fn failing_told(alloc: Global, case: &Case) -> io::Result<Vec<u8>> {
+    let mut failing = Seq::new(alloc);
+    if failing.push(case.parsed(0)?).is_err() {
+        return Err(io::Error::from(AllocError));
+    }
+    let mut link = link_of(alloc, case.bytes(1), 1000, failing)?;
+    let mut told = shown(alloc, &mut link)?;
+    if !link.taken().is_empty() {
+        told.extend_from_slice(b", and something written")?;
+    }
+    Ok(told)
+}

@@ -1,0 +1,7 @@
+use Rattle.http_front.proofs.ReceiveLemmas.{all_received}
+use Rattle.http_front.proofs.receive.receive.Goals as goal
+
+pub returns-in-Ok-clause-request : goal.returns-in-Ok-clause-request
+returns-in-Ok-clause-request g c =
+    all_received _ (g.K.Link.to_come c.args.link.now) (g.K.Link.to_come c.read_head.new.link) c.read_head.new.held.items
+    _ c.answer.result c.in-Ok.ensures.gives c.as_slice.ensures.value c.answer.ensures.request

@@ -1,0 +1,143 @@
+//! What a head's fields say.
+ghost use Rattle.std.specs.Prelude.{◌≡◌, if◌then◌else◌, Option, Some, None, IfOk};
+ghost use Rattle.std.specs.Option.{option_copied};
+ghost use Rattle.std.specs.Char.{is_ascii_digit};
+ghost use Rattle.std.specs.List.{list_all};
+ghost use Rattle.std.specs.Str.{is_utf8};
+ghost use Rattle.portal_base.specs.Kinds.{is_digits, digits_spelled};
+ghost use Rattle.http_front.specs.Fields.{is_named, first_named, has_named, is_one_number, agrees, length_text};
+ghost use Rattle.http_front.specs.Fields.{has_bad_length, length_given, token_of};
+
+use crate::head::Field;
+use portal_base::text::Text;
+use std::alloc::{AllocError, Global};
+use std::str;
+
+const LENGTH: &str = "content-length";
+
+const MOST_DIGITS: usize = 18;
+
+// Whether the field has this name, in any case.
+fn is_named(name: &str, field: &Field) -> bool
+    ensures { result ≡ is_named name.now field.now }
+{
+    field.0.as_slice().eq_ignore_ascii_case(name.as_bytes())
+}
+
+// The value of the first field of this name.
+fn first_named<'a>(name: &str, fields: &'a [Field]) -> Option<&'a [u8]>
+    ensures { option_copied result ≡ first_named name.now fields.now }
+{
+    let field = fields.iter().find(|field| is_named(name, field))?;
+    Some(field.1.as_slice())
+}
+
+/// Whether there is a field of this name.
+pub fn has_named(name: &str, fields: &[Field]) -> bool
+    ensures { result ≡ has_named name.now fields.now }
+{
+    fields.iter().any(|field| is_named(name, field))
+}
+
+fn has_digits_alone(bytes: &[u8]) -> bool
+    ensures { result ≡ list_all is_ascii_digit bytes.now }
+{
+    bytes.iter().all(|byte| byte.is_ascii_digit())
+}
+
+// Whether the text is 1 to 18 digits.
+fn is_digits(text: &str) -> bool
+    ensures { result ≡ is_digits text.now }
+{
+    !text.is_empty() && text.len() <= MOST_DIGITS && has_digits_alone(text.as_bytes())
+}
+
+// The number that 1 to 18 digits spell.
+fn number_in(text: &str) -> Option<u64>
+    ensures { result ≡ digits_spelled text.now }
+{
+    if !is_digits(text) {
+        return None;
+    }
+    text.parse::<u64>().ok()
+}
+
+#[tactic(auto, using(crate::proofs::FieldLemmas::not_digits))]
+fn length_in(value: &[u8]) -> Option<u64>
+    ensures { result ≡ digits_spelled value.now }
+{
+    match str::from_utf8(value) {
+        Ok(text) => number_in(text),
+        Err(_) => None,
+    }
+}
+
+fn is_one_number(first: Option<u64>, second: Option<u64>) -> bool
+    ensures { result ≡ is_one_number first second }
+{
+    match (first, second) {
+        (Some(first), Some(second)) => first == second,
+        _ => false,
+    }
+}
+
+fn agrees(first: &[u8], field: &Field) -> bool
+    ensures { result ≡ agrees first.now field.now }
+{
+    !is_named(LENGTH, field) || is_one_number(length_in(first), length_in(field.1.as_slice()))
+}
+
+fn length_text(fields: &[Field]) -> Option<&[u8]>
+    ensures { option_copied result ≡ length_text fields.now }
+{
+    first_named(LENGTH, fields)
+}
+
+fn all_agree(first: &[u8], fields: &[Field]) -> bool
+    ensures { result ≡ list_all (agrees first.now) fields.now }
+{
+    fields.iter().all(|field| agrees(first, field))
+}
+
+/// Whether a Content-Length isn't 1 to 18 digits, or two differ.
+pub fn has_bad_length(fields: &[Field]) -> bool
+    ensures { result ≡ has_bad_length fields.now }
+{
+    match length_text(fields) {
+        Some(first) => !all_agree(first, fields),
+        None => false,
+    }
+}
+
+/// How long the body is, where that is said.
+pub fn length_given(fields: &[Field]) -> Option<u64>
+    ensures { result ≡ length_given fields.now }
+{
+    match length_text(fields) {
+        Some(value) => length_in(value),
+        None => None,
+    }
+}
+
+/// The whole value of the first Authorization, where it is a text.
+pub fn token_of(alloc: Global, fields: &[Field]) -> Result<Option<Text>, AllocError>
+    ensures { IfOk result (λ token. token ≡ token_of fields.now) }
+{
+    match first_named("authorization", fields) {
+        Some(value) => text_of(alloc, value),
+        None => Ok(None),
+    }
+}
+
+#[tactic(auto, using(crate::proofs::FieldLemmas::is_text, crate::proofs::FieldLemmas::is_no_text))]
+fn text_of(alloc: Global, value: &[u8]) -> Result<Option<Text>, AllocError>
+    ensures { IfOk result (λ text. text ≡ (if is_utf8 value.now then Some value.now else None)) }
+{
+    match str::from_utf8(value) {
+        Ok(text) => {
+            let text = Text::from_str(alloc, text)?;
+            Ok(Some(text))
+        }
+        Err(_) => Ok(None),
+    }
+}

@@ -1,0 +1,14 @@
+//! HTTP over a link: one request read off it, one response written to it, a small client for documents, and the
+//! locations that are this machine's.
+#![tactic(auto)]
+
+pub mod fault;
+pub mod fields;
+pub mod head;
+pub mod incoming;
+pub mod loopback;
+pub mod reading;
+pub mod receive;
+pub mod response;
+pub mod wanted;
+pub mod write;
