@@ -1,11 +1,10 @@
 -- Where a text ends that may become a head: with one of two short ends it is one already, or no field of it has begun.
-use Rattle.std.proofs.Common.{◌≡◌, ℕ, ◌+◌, ◌<◌, ◌≤◌, ◌⊎◌, List, [], ◌∷◌, ◌++◌, ◌∙◌, refl, sym, ap, subst, append_assoc}
-use Rattle.std.proofs.Common.{length, arith, inl, inr, append-nil, length-append, flat_map, All, true, IsTrue}
+use Rattle.std.proofs.Common.{◌≡◌, ℕ, ◌⊎◌, List, [], ◌∷◌, ◌++◌, ◌∙◌, refl, sym, ap, subst, append_assoc}
+use Rattle.std.proofs.Common.{arith, inl, inr, append-nil, flat_map, All, true, IsTrue}
 use Rattle.std.proofs.lemmas.List.Elements.{All-cons, All-nil, All-head, All-tail}
 use Rattle.httparse.specs.Grammar.{LineEnd, crlf, lf, print_end, Field, print_field, IsField}
 use Rattle.httparse.specs.Grammar.{is_token_byte, is_value_byte, AllPass}
 use Rattle.http_front.specs.Sight.{IsEnding}
-
 
 -- the first of two lists ends within the first of the two others, or beyond it
 abbrev pub Within : List ℕ → List ℕ → List ℕ → List ℕ → Type 0
@@ -131,6 +130,7 @@ close_field_end f c y z valid e =
       where
         one : (a b c d : List ℕ) → (a ++ 58 ∷ (b ++ c)) ++ d ≡ a ++ 58 ∷ (b ++ (c ++ d))
         one a b c d = simp append_assoc
+
         other : (a b c d : List ℕ) → ((a ++ 58 ∷ b) ++ c) ++ d ≡ a ++ 58 ∷ (b ++ (c ++ d))
         other a b c d = simp append_assoc
 

@@ -1,15 +1,14 @@
 -- What holds of the bytes so far holds of them and what follows.
-use Rattle.std.proofs.Common.{◌≡◌, ℕ, ◌+◌, ◌<◌, ◌≤◌, ◌⊎◌, List, [], ◌++◌, ◌∙◌, refl, sym, ap, subst, append_assoc}
+use Rattle.std.proofs.Common.{◌≡◌, ℕ, ◌<◌, ◌≤◌, List, [], ◌++◌, ◌∙◌, refl, sym, ap, subst, append_assoc}
 use Rattle.std.proofs.Common.{length, take}
-use Rattle.std.proofs.Common.{arith, map, length-append, drop, take-append-drop}
+use Rattle.std.proofs.Common.{arith, drop, take-append-drop}
 use Rattle.std.proofs.lemmas.List.{append-nil, take_at, take-append-le, map-append, length-map}
-use Rattle.httparse.specs.Grammar.{RequestHead, ReadsRequest, print_request, HasNoRequest, MayBecomeRequest}
-use Rattle.httparse.specs.Spans.{RequestOverflows}
+use Rattle.httparse.specs.Grammar.{RequestHead, ReadsRequest, print_request, HasNoRequest}
 use Rattle.httparse.proofs.GrammarLemmas.{ReadsRequest-append, request_unique}
 use Rattle.http_front.specs.Sight.{IsWhole}
 use Rattle.http_front.specs.Reading.{Found}
 use Rattle.http_front.specs.declared.head.Head.{Head}
-use Rattle.http_front.specs.Head.{pairs_of, marked, marked_byte, extent, Begins, HasNoHead, IsHopeless, IsUnfinished}
+use Rattle.http_front.specs.Head.{pairs_of, marked, marked_byte, Begins, HasNoHead, IsHopeless}
 
 pub marked-append : (a b : List ℕ) → marked (a ++ b) ≡ marked a ++ marked b
 marked-append a b = map-append marked_byte a b

@@ -1,5 +1,5 @@
 -- Only numbers of three digits have a phrase.
-use Rattle.std.proofs.Common.{◌≡◌, ℕ, ◌<◌, ◌≤◌, ◌==◌, List, Bool, true, false, if◌then◌else◌, ◌&&◌, nat_lt, nat_le}
+use Rattle.std.proofs.Common.{ℕ, ◌==◌, List, if◌then◌else◌, ◌&&◌, nat_lt, nat_le}
 use Rattle.std.proofs.Common.{IsTrue, arith, rules, refl}
 use Rattle.std.specs.Prelude.{Option, Some, None, IsSome}
 use Rattle.http.specs.StatusCode.{IsStatusCode, reason_phrase}

@@ -1,8 +1,8 @@
 -- A piece goes to a link part by part.
-use Rattle.std.proofs.Common.{◌≡◌, ℕ, List, [], ◌++◌, ◌+◌, ◌∙◌, refl, sym, ap, subst, append_assoc, length, take}
+use Rattle.std.proofs.Common.{◌≡◌, ℕ, List, ◌++◌, ◌+◌, ◌∙◌, refl, sym, ap, subst, append_assoc, length, take}
 use Rattle.std.proofs.Common.{length-append, arith, ◌-◌, drop, take-append-drop}
 use Rattle.std.specs.Prelude.{Option}
-use Rattle.std.proofs.lemmas.List.{take_at, take_rest, append-nil, take-append-le}
+use Rattle.std.proofs.lemmas.List.{take_at, take_rest, take-append-le}
 use Rattle.std.proofs.Math.Seq.{take-append-add}
 use Rattle.portal_base.proofs.OutsideLemmas.{Takes-append}
 use Rattle.portal_base.specs.Outside.{Takes, TakesPrefix}

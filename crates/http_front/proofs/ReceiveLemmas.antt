@@ -1,20 +1,20 @@
 -- From the bytes that came to all that were to come.
-use Rattle.std.proofs.Common.{◌≡◌, ℕ, ◌+◌, ◌<◌, ◌≤◌, ◌⊎◌, List, [], ◌++◌, ◌∙◌, refl, sym, ap, subst, append_assoc}
+use Rattle.std.proofs.Common.{◌≡◌, ℕ, ◌<◌, ◌≤◌, List, [], ◌++◌, ◌∙◌, refl, sym, ap, subst, append_assoc}
 use Rattle.std.proofs.Common.{length}
-use Rattle.std.proofs.Common.{arith, rules, map, length-append, take, drop, Bool, true, false, nat_lt, inl, inr}
-use Rattle.std.specs.Prelude.{Option, Some, None, Result, Ok, Err, IfSome, if◌then◌else◌}
+use Rattle.std.proofs.Common.{arith, length-append, take, drop, inl, inr}
+use Rattle.std.specs.Prelude.{Option, Some, None, Result, Ok, Err, IfSome}
 use Rattle.std.specs.Str.{IsUtf8}
 use Rattle.std.proofs.lemmas.List.{append-nil, take_at, take-append-le, drop-append-le, take-map}
 use Rattle.httparse.specs.Grammar.{RequestHead, ReadsRequest, print_request, HasNoRequest}
 use Rattle.httparse.specs.Spans.{RequestOverflows}
 use Rattle.portal_base.specs.Outside.{Gives, IsAtEnd}
-use Rattle.http_front.specs.Head.{Pairs, pairs_of, marked, marked_byte, extent, Begins, IsHopeless, IsUnfinished}
+use Rattle.http_front.specs.Head.{pairs_of, marked, marked_byte, extent, Begins, IsHopeless, IsUnfinished}
 use Rattle.http_front.specs.Reading.{Found}
 use Rattle.http_front.specs.Request.{Reads, AsksOf, IsWanted, IsRequest, HasNone, IsReceived, UnlessOutside}
 use Rattle.http_front.specs.Request.{UnlessFails}
 use Rattle.http_front.specs.Request.{without_route}
 use Rattle.http_front.specs.Sight.{IsWhole}
-use Rattle.http_front.specs.Wanted.{incoming_of, wanted_of, route_of, path_of}
+use Rattle.http_front.specs.Wanted.{incoming_of}
 use Rattle.http_front.specs.declared.head.Head.{Head}
 use Rattle.http_front.specs.declared.fault.FrontFault.{FrontFault}
 use Rattle.http_front.specs.declared.fault.FrontFault.TheVariants.{BadHead, NoLength, TooLong, NoRoute}

@@ -1,5 +1,5 @@
 -- What stripping a front of a text gives.
-use Rattle.std.proofs.Common.{◌≡◌, ◌≢◌, ℕ, length, take, drop, Bool, true, false, eqb, List, Option, Some, None, Bor}
+use Rattle.std.proofs.Common.{◌≡◌, ℕ, length, drop, true, false, eqb, List, Option, Some, None, Bor}
 use Rattle.std.proofs.Common.{refl, sym, ap, ◌∙◌, subst}
 use Rattle.std.specs.List.{starts_with}
 use Rattle.std.specs.Option.{MatchOption, option_copied}

@@ -1,7 +1,7 @@
 -- The start of a head, its field lines, and what a text that ends among them may still become.
-use Rattle.std.proofs.Common.{◌≡◌, ℕ, ◌+◌, ◌-◌, ◌<◌, ◌≤◌, ◌⊎◌, List, [], ◌∷◌, ◌++◌, ◌∙◌, refl, sym, ap, subst}
+use Rattle.std.proofs.Common.{◌≡◌, ℕ, ◌+◌, ◌<◌, ◌≤◌, List, [], ◌∷◌, ◌++◌, ◌∙◌, refl, sym, ap, subst}
 use Rattle.std.proofs.Common.{append_assoc, length, arith, inl, inr, append-nil, length-append, flat_map, All, true, false, IsTrue}
-use Rattle.std.proofs.Common.{get_or, zero, suc, map, take, length-take-le}
+use Rattle.std.proofs.Common.{get_or, zero, suc, take, length-take-le}
 use Rattle.std.specs.Prelude.{codes, Bool, Result, Ok, Err, IfOk}
 use Rattle.std.proofs.lemmas.List.{length-map}
 use Rattle.std.proofs.lemmas.Bool.{cases_lt, false≢true}
@@ -10,14 +10,14 @@ use Rattle.std.proofs.lemmas.Str.{IsUtf8-from_ascii}
 use Rattle.std.proofs.lemmas.Str.Ascii.{IsAscii-from_all}
 use Rattle.httparse.specs.Grammar.{LineEnd, crlf, lf, print_end, print_blank, print_version, Field, print_field, IsField}
 use Rattle.httparse.specs.Grammar.{AllPass, is_token_byte, is_uri_byte, IsRequestHead, RequestHead, ReadsRequest}
-use Rattle.httparse.specs.Grammar.{print_request, MayBecomeRequest, EndsInTarget, IsToken}
-use Rattle.httparse.specs.Pieces.{RequestStart, Section, Stops, is_newline, FieldLine}
+use Rattle.httparse.specs.Grammar.{print_request, MayBecomeRequest, EndsInTarget}
+use Rattle.httparse.specs.Pieces.{RequestStart, Section, is_newline}
 use Rattle.httparse.specs.declared.spans.HeaderSpan.{HeaderSpan}
 use Rattle.httparse.specs.declared.spans.RequestSpans.{RequestSpans}
 use Rattle.httparse.specs.Spans.{RequestExceeds, RequestOverflows, IsRequestOf, IsRequestWithin, header_bytes}
 use Rattle.httparse.specs.Spans.{name_and_value}
 use Rattle.httparse.proofs.GrammarLemmas.{print_request-append, request_pieces, request_tree, request_unique}
-use Rattle.httparse.proofs.PieceLemmas.{Stops_token, Stops-FieldLine, RequestStart_deterministic, Section_skip}
+use Rattle.httparse.proofs.PieceLemmas.{Stops_token, RequestStart_deterministic, Section_skip}
 use Rattle.httparse.proofs.PieceLemmas.{newline_not_stopped, colon_ends_token, token_is_no_newline}
 use Rattle.http_front.specs.Head.{Continues, IsUnfinished, marked, marked_byte}
 use Rattle.http_front.specs.Sight.{IsEnding, EndsInTime, HasNoneOver}
@@ -215,14 +215,14 @@ first_token f c y tail valid e = by_name f.name valid.name.0 valid.name.1 refl
         sym (ap (λ v. v ++ 58 ∷ (f.raw ++ (print_end f.end ++ tail))) is)
         ∙ sym (regroup f.name f.raw (print_end f.end) tail) ∙ e in
         let first : b ≡ c = cc in
-        let rest : bs ++ 58 ∷ (f.raw ++ (print_end f.end ++ tail)) ≡ y = cc in
-        (
+        let rest : bs ++ 58 ∷ (f.raw ++ (print_end f.end ++ tail)) ≡ y = cc in (
           subst (λ v. is_token_byte v ≡ true) first (All-head (λ v. is_token_byte v ≡ true) b bs all),
           subst (λ v. length tail + 2 ≤ length v) rest (long bs f.raw f.end),
         )
       where
         regroup : (a b c d : List ℕ) → ((a ++ 58 ∷ b) ++ c) ++ d ≡ a ++ 58 ∷ (b ++ (c ++ d))
         regroup a b c d = simp append_assoc
+
         long : (bs raw : List ℕ) (end : LineEnd) → length tail + 2 ≤ length (bs ++ 58 ∷ (raw ++ (print_end end ++ tail)))
         long bs raw crlf = rw (length-append bs (58 ∷ (raw ++ (print_end crlf ++ tail))))
             (rw (length-append raw (print_end crlf ++ tail)) (omega arith))
@@ -253,8 +253,13 @@ tail_some : (a : List ℕ) (end : LineEnd) → 0 < length (a ++ print_end end)
 tail_some a end = rw (length-append a (print_end end)) (omega (arith, end_some end))
 
 line_some : (f : Field) (tail : List ℕ) → IsField f → 1 < length (print_field f ++ tail)
-line_some f tail valid = omega (arith, valid.name.0, ap length (field_parts f),
-    length-append f.name (58 ∷ (f.raw ++ print_end f.end)), length-append (print_field f) tail)
+line_some f tail valid = omega (
+  arith,
+  valid.name.0,
+  ap length (field_parts f),
+  length-append f.name (58 ∷ (f.raw ++ print_end f.end)),
+  length-append (print_field f) tail,
+)
 
 -- where the text and an ending have 65 field lines in them, the text has begun the 65th
 pub exceeds_overflows : (text ending : List ℕ) → IsEnding ending → RequestExceeds 64 (text ++ ending)
@@ -321,9 +326,15 @@ pub complete_fits : (text : List ℕ) (spans : List HeaderSpan) (found : Request
     → IsRequestOf text spans found → IsRequestWithin text spans found → HasNoneOver text
 complete_fits text spans found room (own, at) within head rest reads =
     let same = request_unique text own head _ rest at.reads reads in
-    subst (λ v. length v.fields ≤ 64) same.0 (omega (arith, room, within.section.count_fits, ap length at.fields,
-    length-map (take found.headers spans) (header_bytes text), length-map own.fields name_and_value,
-    length-take-le found.headers spans within.section.count_fits))
+    subst (λ v. length v.fields ≤ 64) same.0 (omega (
+      arith,
+      room,
+      within.section.count_fits,
+      ap length at.fields,
+      length-map (take found.headers spans) (header_bytes text),
+      length-map own.fields name_and_value,
+      length-take-le found.headers spans within.section.count_fits,
+    ))
 
 pub over_named : (text : List ℕ) → RequestExceeds 64 (text ++ codes ":\n\n") → RequestOverflows 64 text
 over_named text x = exceeds_overflows text (codes ":\n\n") (inl refl) x

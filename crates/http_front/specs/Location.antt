@@ -1,6 +1,6 @@
 -- Which locations are this machine's, and where they lead (URL Standard, sections 3 and 4).
-use Rattle.std.specs.Prelude.{ℕ, Bool, ◌&&◌, ◌||◌, List, [], ◌∷◌, ◌++◌, length, nat_lt, codes, if◌then◌else◌}
-use Rattle.std.specs.Prelude.{Option, Some, None, unwrap_or, Result, Ok, Err}
+use Rattle.std.specs.Prelude.{ℕ, Bool, ◌&&◌, ◌||◌, List, [], ◌++◌, length, nat_lt, codes, if◌then◌else◌}
+use Rattle.std.specs.Prelude.{Option, Some, None, unwrap_or, Ok, Err}
 use Rattle.std.specs.Str.{bytes_eq}
 use Rattle.url.specs.Host.{host_text}
 use Rattle.url.specs.Parser.{Parsed, parse_url}

@@ -1,6 +1,6 @@
 -- The request of a connection's bytes, whichever way they come.
 use Rattle.std.specs.Prelude.{◌≡◌, ℕ, ◌<◌, ◌≤◌, ◌⊎◌, Bool, List, length, take, drop, codes, if◌then◌else◌}
-use Rattle.std.specs.Prelude.{Option, Some, Result, Ok, Err, MatchResult, ⊤}
+use Rattle.std.specs.Prelude.{Option, Some, Result, Err, MatchResult, ⊤}
 use Rattle.std.specs.Borrow.{Bor}
 use Rattle.httparse.specs.Grammar.{RequestHead, ReadsRequest}
 use Rattle.http_front.specs.Head.{Begins, HasNoHead, IsHopeless, IsUnfinished, Pairs, extent, pairs_of}

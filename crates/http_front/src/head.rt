@@ -4,8 +4,8 @@ ghost use Rattle.httparse.specs.Spans.{IsRequestWithin, IsHeaderWithin, header_b
 ghost use Rattle.httparse.specs.Spans.{RequestExceeds, RequestOverflows};
 ghost use Rattle.http_front.specs.Sight.{Sees, HasNoneOver, EndsInTime};
 
-use httparse::{Error, Status};
 use httparse::spans::{EMPTY_HEADER_SPAN, HeaderSpan, RequestSpans, parse_request};
+use httparse::{Error, Status};
 use portal_base::seq::Seq;
 use std::alloc::{AllocError, Global};
 

@@ -1,5 +1,5 @@
-use Rattle.std.proofs.Common.{◌≡◌, ◌∙◌, ◌++◌, List, ℕ, OnOk, OnErr, subst, sym, length}
-use Rattle.std.specs.Prelude.{codes, decimal}
+use Rattle.std.proofs.Common.{◌∙◌, ◌++◌, List, ℕ, OnOk, OnErr, subst}
+use Rattle.std.specs.Prelude.{codes}
 use Rattle.portal_base.specs.Outside.{Takes, TakesPrefix}
 use Rattle.http_front.specs.Response.{fields_and_body}
 use Rattle.http_front.proofs.response.send_fields.Goals as goal

@@ -1,4 +1,4 @@
-use Rattle.std.proofs.Common.{◌≡◌, ◌∙◌, ◌++◌, List, [], ℕ, OnOk, OnErr, subst, sym, ap}
+use Rattle.std.proofs.Common.{◌∙◌, ◌++◌, List, [], ℕ, OnOk, OnErr, subst, sym, ap}
 use Rattle.std.specs.Prelude.{codes, decimal, unwrap_or}
 use Rattle.portal_base.specs.Outside.{Takes, TakesPrefix}
 use Rattle.http_front.specs.Response.{status_line}
