@@ -1,0 +1,33 @@
+-- Worked examples, by computation.
+use Rattle.std.specs.Prelude.{◌≡◌, codes, List, ℕ, [], ◌∷◌, Some, None}
+use Rattle.std.proofs.Common.{refl}
+use Rattle.portal_words.specs.declared.command.Command.TheVariants.{Play, Serve}
+use Rattle.portal_words.specs.Commands.{command_of}
+
+-- `play` alone
+plays : command_of (codes "play" ∷ []) ≡ Some (Play (record { portal = None }))
+plays = refl
+
+-- an option in one word, and one in two, in any order
+serves_some : command_of (codes "serve" ∷ codes "--links" ∷ codes "007" ∷ codes "--portal=a=b" ∷ [])
+    ≡ Some (Serve (record { portal = Some (codes "a=b"); links = 7 }))
+serves_some = refl
+
+-- an option that is given twice
+says_twice : command_of (codes "play" ∷ codes "--portal=a" ∷ codes "--portal=a" ∷ []) ≡ None
+says_twice = refl
+
+-- a value that begins with a dash stands in one word only
+begins_with_dash_in_one : command_of (codes "play" ∷ codes "--portal=-a" ∷ [])
+    ≡ Some (Play (record { portal = Some (codes "-a") }))
+begins_with_dash_in_one = refl
+
+begins_with_dash_in_two : command_of (codes "play" ∷ codes "--portal" ∷ codes "-a" ∷ []) ≡ None
+begins_with_dash_in_two = refl
+
+-- numbers that are too small and too large
+serves_none : command_of (codes "serve" ∷ codes "--links=0" ∷ []) ≡ None
+serves_none = refl
+
+serves_too_many : command_of (codes "serve" ∷ codes "--links=1000000001" ∷ []) ≡ None
+serves_too_many = refl

@@ -1,0 +1,3 @@
+mod DraftLemmas
+mod Examples
+mod ValueLemmas

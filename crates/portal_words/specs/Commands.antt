@@ -1,0 +1,114 @@
+-- The command that words say: which commands there are, and what options each takes. A further command is a line of
+-- `command_with` and a definition as `play_with`; a further option is a line of its command's.
+use Rattle.std.specs.Prelude.{ℕ, nat_le, nat_lt, Bool, not, ◌&&◌, if◌then◌else◌, List, [], ◌∷◌, length, codes}
+use Rattle.std.specs.Prelude.{Option, Some, None, option_map, option_and_then}
+use Rattle.std.specs.Char.{is_ascii_digit}
+use Rattle.std.specs.Cmp.{IsTotalOrder}
+use Rattle.std.specs.Cmp.Lexicographic.{slice_cmp}
+use Rattle.std.specs.List.{find, list_all, list_any}
+use Rattle.std.specs.Ordering.{nat_cmp}
+use Rattle.std.specs.Str.{bytes_eq}
+use Rattle.std.specs.Str.Parse.{digits_value}
+use Rattle.std.specs.declared.cmp.Ordering.{Ordering}
+use Rattle.std.proofs.lemmas.Cmp.{on_total, nat_list_cmp_total}
+use Rattle.portal_base.specs.Ordered.{are_apart}
+use Rattle.portal_words.specs.declared.setting.Setting.{Setting}
+use Rattle.portal_words.specs.declared.command.Command.{Command}
+use Rattle.portal_words.specs.declared.command.Command.TheVariants.{Play, Serve}
+use Rattle.portal_words.specs.Grammar.{options_in}
+
+-- ---- which options are given
+
+-- by name
+abbrev pub setting_cmp : Setting → Setting → Ordering
+setting_cmp s t = slice_cmp nat_cmp s.name t.name
+
+pub setting_cmp_total : IsTotalOrder setting_cmp
+setting_cmp_total = on_total (λ s. s.name) nat_list_cmp_total
+
+-- the text is one of the list
+abbrev pub is_among : List (List ℕ) → List ℕ → Bool
+is_among names name = list_any (λ n. bytes_eq n name) names
+
+-- each option is one of these
+abbrev pub are_among : List (List ℕ) → List Setting → Bool
+are_among names given = list_all (λ s. is_among names s.name) given
+
+-- each option is one of these, and none is given twice
+abbrev pub are_allowed : List (List ℕ) → List Setting → Bool
+are_allowed names given = are_among names given && are_apart setting_cmp given
+
+-- the value that the option is given
+abbrev pub value_of : List ℕ → List Setting → Option (List ℕ)
+value_of name given = option_map (λ s. s.value) (find (λ s. bytes_eq s.name name) given)
+
+-- ---- values
+
+-- A text is any but the empty one and a dash alone.
+abbrev pub is_text : List ℕ → Bool
+is_text value = nat_lt 0 (length value) && not (bytes_eq value (codes "-"))
+
+abbrev pub text_for : Option (List ℕ) → Option (Option (List ℕ))
+text_for None = Some None
+text_for (Some value) = if is_text value then Some (Some value) else None
+
+-- the text of an option that may be absent
+abbrev pub text_of : List ℕ → List Setting → Option (Option (List ℕ))
+text_of name given = text_for (value_of name given)
+
+-- A number is 1 to 10 decimal digits of ASCII, and may begin with zeros.
+abbrev pub is_number : List ℕ → Bool
+is_number value = nat_lt 0 (length value) && nat_le (length value) 10 && list_all is_ascii_digit value
+
+abbrev pub number_spelled : List ℕ → Option ℕ
+number_spelled value = if is_number value then Some (digits_value 10 value) else None
+
+abbrev pub within : ℕ → ℕ → ℕ → Option ℕ
+within least most number = if nat_le least number && nat_le number most then Some number else None
+
+-- the number, if it is from `least` to `most`
+abbrev pub number_in : ℕ → ℕ → List ℕ → Option ℕ
+number_in least most value = option_and_then (within least most) (number_spelled value)
+
+abbrev pub number_for : ℕ → ℕ → ℕ → Option (List ℕ) → Option ℕ
+number_for least most default None = Some default
+number_for least most default (Some value) = number_in least most value
+
+-- the number of an option, from `least` to `most`, or the default where it is absent
+abbrev pub number_of : List ℕ → ℕ → ℕ → ℕ → List Setting → Option ℕ
+number_of name least most default given = number_for least most default (value_of name given)
+
+-- ---- commands
+
+-- `play`: `--portal`
+abbrev pub play_with : List Setting → Option Command
+play_with given =
+    if are_allowed (codes "portal" ∷ []) given
+    then option_map (λ portal. Play (record { portal = portal })) (text_of (codes "portal") given)
+    else None
+
+-- the most links, and how many are served where none is said
+abbrev pub most_links : ℕ
+most_links = 1000000000
+
+-- `serve`: `--portal`, and `--links` from 1 to 1,000,000,000, the most where it is absent
+abbrev pub serve_with : List Setting → Option Command
+serve_with given =
+    if are_allowed (codes "portal" ∷ codes "links" ∷ []) given
+    then option_and_then
+    (λ portal. option_map (λ links. Serve (record { portal = portal; links = links }))
+    (number_of (codes "links") 1 most_links most_links given))
+    (text_of (codes "portal") given)
+    else None
+
+-- the command of this name with these options
+abbrev pub command_with : List ℕ → List Setting → Option Command
+command_with name given =
+    if bytes_eq name (codes "play") then play_with given
+    else if bytes_eq name (codes "serve") then serve_with given
+    else None
+
+-- The command that the words say, those behind the program's name: the first word names it, and all others are options.
+abbrev pub command_of : List (List ℕ) → Option Command
+command_of [] = None
+command_of (name ∷ words) = option_and_then (command_with name) (options_in words)

@@ -1,0 +1,8 @@
+//! The words of the command line: which command they say, and with what options.
+#![tactic(auto)]
+
+pub mod command;
+mod setting;
+mod values;
+
+pub use command::{Command, PlayOptions, ServeOptions, WordsFault};
