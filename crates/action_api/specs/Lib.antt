@@ -1,3 +1,4 @@
 pub mod Error
+pub mod Query
 pub mod Reply
 pub mod Request

@@ -4,5 +4,6 @@
 pub mod early;
 mod errors;
 mod help;
+pub mod query;
 pub mod reply;
 pub mod request;
