@@ -4,8 +4,8 @@ use Rattle.std.specs.Str.{bytes_eq}
 use Rattle.portal_base.specs.Outside.{Rose, Takes, TakesPrefix}
 use Rattle.portal_cli.specs.declared.run.Status.{Status}
 use Rattle.portal_cli.specs.declared.run.Status.TheVariants.{Done, Words, ReadFault, WriteFault, OutOfMemory, DataFault}
-use Rattle.portal_serve.specs.declared.play.Stop.{Stop}
-use Rattle.portal_serve.specs.declared.play.Stop.TheVariants as stop
+use Rattle.portal_serve.specs.declared.play.PlayEnd.{PlayEnd}
+use Rattle.portal_serve.specs.declared.play.PlayEnd.TheVariants as end
 
 -- the words are the one word `play`
 abbrev pub is_play : List (List ℕ) → Bool
@@ -40,12 +40,13 @@ IsCut WriteFault = Unit {0}
 IsCut OutOfMemory = Unit {0}
 IsCut (DataFault text) = Unit {0}
 
--- the status that tells why playing stopped
-abbrev pub status_for : Stop → Status
-status_for stop.ReadFault = ReadFault
-status_for stop.WriteFault = WriteFault
-status_for stop.TooMuch = DataFault (codes "input too long")
-status_for stop.OutOfMemory = OutOfMemory
+-- the status that tells how playing ended
+abbrev pub status_for : PlayEnd → Status
+status_for end.Done = Done
+status_for end.ReadFault = ReadFault
+status_for end.WriteFault = WriteFault
+status_for end.TooLong = DataFault (codes "input too long")
+status_for end.OutOfMemory = OutOfMemory
 
 -- what tells a status behind `portal: `; that of input too long brings its text along
 abbrev pub status_text : Status → List ℕ

@@ -5,12 +5,14 @@ ghost use Rattle.portal_base.specs.Outside.{Rose, Takes, TakesPrefix};
 ghost use Rattle.portal_cli.specs.Status.{is_play, status_code, status_for, IsCut, most_begun};
 ghost use Rattle.portal_cli.specs.Status.{fault_line, status_line, TakesOrFails};
 ghost use Rattle.portal_serve.specs.Run.{devices, PlaysAll, PlaysPart, GaveTooMuch};
+ghost use Rattle.portal_core.specs.State.{State};
 ghost use Rattle.portal_serve.specs.Stated.{stated_state};
 
 use portal_base::outside::{Clock, Failed, Nonces, Sink, Source};
 use portal_base::text::Text;
 use portal_lines::write::write_whole;
-use portal_serve::play::{Stop, play};
+use portal_serve::play::{PlayEnd, play};
+use portal_serve::stated::stated_portal;
 use std::alloc::Global;
 
 /// How a run ended. Each is the process's exit status by `code`.
@@ -53,14 +55,15 @@ pub fn are_play(words: &[String]) -> bool
     words.len() == 1 && words[0].as_str() == "play"
 }
 
-fn status_of(stop: Stop) -> Status
-    ensures { result ≡ status_for stop }
+fn status_of(end: PlayEnd) -> Status
+    ensures { result ≡ status_for end }
 {
-    match stop {
-        Stop::ReadFault => Status::ReadFault,
-        Stop::WriteFault => Status::WriteFault,
-        Stop::OutOfMemory => Status::OutOfMemory,
-        Stop::TooMuch => Status::DataFault(Text::from_static("input too long")),
+    match end {
+        PlayEnd::Done => Status::Done,
+        PlayEnd::ReadFault => Status::ReadFault,
+        PlayEnd::WriteFault => Status::WriteFault,
+        PlayEnd::TooLong => Status::DataFault(Text::from_static("input too long")),
+        PlayEnd::OutOfMemory => Status::OutOfMemory,
     }
 }
 
@@ -136,12 +139,12 @@ pub fn run<S: Source, O: Sink, E: Sink, C: Clock, N: Nonces>(
     // Status 0: where input tells, it was read to its end, as many moments and numbers were drawn as the script has
     // lines that draw, and output took the transcript from the stated portal.
     ensures done { result ≡ Status.Done → (whole : List ℕ) → S.to_come input.old ≡ Some whole
-        → PlaysAll stated_state whole
+        → (after : State) × PlaysAll stated_state whole after
         (devices (S.to_come input.old) (O.taken output.old) (C.given clock.old) (N.given nonces.old))
         (devices (S.to_come input.new) (O.taken output.new) (C.given clock.new) (N.given nonces.new)) }
     // Statuses 3, 4, 6 and 9: what was drawn and what output took belong to one place in the script.
     ensures cut { IsCut result → (whole : List ℕ) → S.to_come input.old ≡ Some whole
-        → PlaysPart (most_begun result) stated_state whole
+        → (after : State) × PlaysPart (most_begun result) stated_state whole after
         (devices (S.to_come input.old) (O.taken output.old) (C.given clock.old) (N.given nonces.old))
         (devices (S.to_come input.new) (O.taken output.new) (C.given clock.new) (N.given nonces.new)) }
 
@@ -160,8 +163,10 @@ pub fn run<S: Source, O: Sink, E: Sink, C: Clock, N: Nonces>(
     if !are_play(words) {
         return told(faults, Status::Words);
     }
-    match play(alloc, input, output, clock, nonces) {
-        Ok(()) => told(faults, Status::Done),
-        Err(stop) => told(faults, status_of(stop)),
-    }
+    let mut portal = match stated_portal(alloc) {
+        Ok(portal) => portal,
+        Err(_refused) => return told(faults, Status::OutOfMemory),
+    };
+    let end = play(alloc, &mut portal, input, output, clock, nonces);
+    told(faults, status_of(end))
 }

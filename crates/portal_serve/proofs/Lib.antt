@@ -1,3 +1,5 @@
+pub mod Desking
 mod Examples
 pub mod Playing
+pub mod Serving
 pub mod Working

@@ -8,16 +8,16 @@ use Rattle.std.specs.Str.Lines.{lines}
 use Rattle.portal_base.proofs.OutsideLemmas.{Takes-none, Takes-append}
 use Rattle.portal_base.specs.Outside.{Gives, IsAtEnd}
 use Rattle.portal_lines.specs.Lines.{Reading, EndsLine, TakesLine}
-use Rattle.portal_serve.proofs.Working.{works_none, works_more, works_wrote, works_then, AreDrawn-append}
+use Rattle.portal_serve.proofs.Working.{works_none, works_more, works_wrote, works_then, works_left, AreDrawn-append}
+use Rattle.portal_serve.proofs.Working.{standing_after-append}
 use Rattle.portal_serve.proofs.Working.{DrawsAll-none, DrawsAll-more, begins_no_line}
 use Rattle.portal_serve.specs.Played.{Works, BeginsLines, StopsLines, TakesTurn, EndsTurn, StopsTurn, EndsAll}
 use Rattle.portal_serve.specs.Played.{Running, unless_empty}
 use Rattle.portal_serve.specs.Script.{script_lines, is_nonempty}
 use Rattle.portal_core.specs.State.{State}
-use Rattle.portal_serve.specs.Transcript.{AreDrawn, written_for}
+use Rattle.portal_serve.specs.Transcript.{Standing, AreDrawn, state_after, written_for}
 use Rattle.portal_serve.specs.Run.{Begins, DrawsAll, standing, Devices, Outlet, outlet_of, Stops, PlaysAll, PlaysPart}
 use Rattle.portal_serve.specs.Run.{GaveTooMuch, most_input}
-use Rattle.portal_serve.specs.Stated.{stated_state}
 use Rattle.portal_serve.specs.declared.script.TheConstants.{LONGEST_LINE}
 
 -- ---- lines
@@ -112,11 +112,11 @@ unless_empty-few line = by (is_nonempty line)
     by false = omega arith
 
 -- no line was begun
-pub stops_between : (most : ℕ) (state : State) (before reading : Reading) (old new : Devices) (bytes : List ℕ)
+pub stops_between : (most : ℕ) (state after : State) (before reading : Reading) (old new : Devices) (bytes : List ℕ)
     → Gives old.to_come bytes new.to_come
-    → reading.given ≡ before.given + length bytes → BeginsLines state [] (outlet_of old) (outlet_of new)
-    → StopsTurn most state before reading old new
-stops_between most state before reading old new bytes gives counts begun = record {
+    → reading.given ≡ before.given + length bytes → BeginsLines state [] after (outlet_of old) (outlet_of new)
+    → StopsTurn most state after before reading old new
+stops_between most state after before reading old new bytes gives counts begun = record {
   bytes = bytes;
   gives = gives;
   counts = counts;
@@ -129,13 +129,13 @@ stops_between most state before reading old new bytes gives counts begun = recor
 }
 
 -- work on a line stopped, and with it the turn
-pub stops_turn : (most : ℕ) (state : State) (before reading : Reading) (old new : Devices) (line : List ℕ)
+pub stops_turn : (most : ℕ) (state after : State) (before reading : Reading) (old new : Devices) (line : List ℕ)
     (t : TakesLine before old.to_come line reading new.to_come)
-    → 1 ≤ most → StopsLines state (unless_empty line) (outlet_of old) (outlet_of new)
-    → StopsTurn most state before reading old new
-stops_turn most state before reading old new line t one (inl none) =
-    stops_between most state before reading old new t.bytes t.gives t.counts none
-stops_turn most state before reading old new line t one (inr begun) =
+    → 1 ≤ most → StopsLines state (unless_empty line) after (outlet_of old) (outlet_of new)
+    → StopsTurn most state after before reading old new
+stops_turn most state after before reading old new line t one (inl none) =
+    stops_between most state after before reading old new t.bytes t.gives t.counts none
+stops_turn most state after before reading old new line t one (inr begun) =
     let is : script_lines t.front ≡ unless_empty line = ap (filter is_nonempty) t.only in
     record {
       bytes = t.bytes;
@@ -146,7 +146,7 @@ stops_turn most state before reading old new line t one (inr begun) =
       splits = t.splits;
       ended = line_ends t.front line reading.held new.to_come t.only t.ended;
       few = omega (arith, ap length is, unless_empty-few line, one);
-      begun = subst (λ ls. BeginsLines state ls (outlet_of old) (outlet_of new)) (sym is) begun;
+      begun = subst (λ ls. BeginsLines state ls after (outlet_of old) (outlet_of new)) (sym is) begun;
     }
 
 -- ---- the run so far
@@ -213,22 +213,40 @@ Begins-after : (front part whole : List ℕ) → Begins part whole → Begins (f
 Begins-after front part whole b = (b.0, append_assoc front part b.0 ∙ ap (λ x. front ++ x) b.1)
 
 -- lines that were worked, and lines that were begun
-stops_after : (most : ℕ) (first state : State) (script begun : List (List ℕ)) (ms later : List ℤ)
+stops_after : (most : ℕ) (first state after : State) (script begun : List (List ℕ)) (ms later : List ℤ)
     (ns others written part : List ℕ)
     → Works first script ms ns written state → length begun ≤ most → AreDrawn begun later → AreDrawn begun others
     → Begins part (written_for (standing state later others) begun)
-    → Stops most first (script ++ begun) (ms ++ later) (ns ++ others) (written ++ part)
-stops_after most first state script begun ms later ns others written part works few moments nonces begins = record {
-  worked = script;
-  begun = begun;
-  splits = refl;
-  few = few;
-  moments_drawn = AreDrawn-append script begun ms later works.moments_drawn moments;
-  nonces_drawn = AreDrawn-append script begun ns others works.nonces_drawn nonces;
-  holds = (part, ap (λ w. w ++ part) (works_wrote first state script ms later ns others written works));
-  begins = subst (λ w. Begins (written ++ part) w)
-      (sym (works_then first state script begun ms later ns others written works)) (Begins-after written part _ begins);
-}
+    → (after ≡ state) ⊎ (after ≡ state_after (standing state later others) begun)
+    → Stops most first (script ++ begun) (ms ++ later) (ns ++ others) (written ++ part) after
+stops_after most first state after script begun ms later ns others written part works few moments nonces begins
+    leaves = record {
+      worked = script;
+      begun = begun;
+      splits = refl;
+      few = few;
+      moments_drawn = AreDrawn-append script begun ms later works.moments_drawn moments;
+      nonces_drawn = AreDrawn-append script begun ns others works.nonces_drawn nonces;
+      holds = (part, ap (λ w. w ++ part) (works_wrote first state script ms later ns others written works));
+      begins = subst (λ w. Begins (written ++ part) w)
+          (sym (works_then first state script begun ms later ns others written works)) (Begins-after written part _ begins);
+      leaves = leaves_both leaves;
+    }
+  where
+    left : state_after (standing first (ms ++ later) (ns ++ others)) script ≡ state
+    left = ap (λ (z : Standing). z.state) (works_left first state script ms later ns others written works)
+
+    left_all : state_after (standing first (ms ++ later) (ns ++ others)) (script ++ begun)
+        ≡ state_after (standing state later others) begun
+    left_all = ap (λ (z : Standing). z.state)
+        (standing_after-append (standing first (ms ++ later) (ns ++ others)) script begun)
+        ∙ ap (λ (z : Standing). state_after z begun) (works_left first state script ms later ns others written works)
+
+    leaves_both : (after ≡ state) ⊎ (after ≡ state_after (standing state later others) begun)
+        → (after ≡ state_after (standing first (ms ++ later) (ns ++ others)) script)
+        ⊎ (after ≡ state_after (standing first (ms ++ later) (ns ++ others)) (script ++ begun))
+    leaves_both (inl kept) = inl (kept ∙ sym left)
+    leaves_both (inr made) = inr (made ∙ sym left_all)
 
 -- the lines of the whole, where a front ends so
 whole_lines : (whole front after : List ℕ) → whole ≡ front ++ after → EndsAll front ⊎ (after ≡ [])
@@ -240,11 +258,11 @@ whole_lines whole front after is ended =
     ∙ filter-append is_nonempty (lines front) (lines after)
 
 -- A turn stopped, and with it the run.
-pub plays_part : (most : ℕ) (first : State) (whole : List ℕ) (old mid new : Devices) (state : State)
+pub plays_part : (most : ℕ) (first : State) (whole : List ℕ) (old mid new : Devices) (state after : State)
     (before reading : Reading)
-    → Running first whole old mid state before → StopsTurn most state before reading mid new
-    → PlaysPart most first whole old new
-plays_part most first whole old mid new state before reading r t =
+    → Running first whole old mid state before → StopsTurn most state after before reading mid new
+    → PlaysPart most first whole after old new
+plays_part most first whole old mid new state after before reading r t =
     let g : Gave r.rest t.bytes new.to_come = gave r.rest t.bytes mid.to_come new.to_come r.input t.gives in
     let a : Advances whole r.front t.front (t.ahead ++ g.more) =
     advances whole r.front before.held r.rest t.bytes g.more t.front t.ahead new.to_come r.splits r.ended g.splits
@@ -268,17 +286,17 @@ plays_part most first whole old mid new state before reading r t =
       first_lines = whole_lines whole (r.front ++ t.front) (t.ahead ++ g.more) a.splits a.ended;
       stops =
           subst (λ ls. Stops most first ls (r.moments ++ t.begun.moments) (r.nonces ++ t.begun.nonces)
-          (r.written ++ t.begun.written)) (sym a.both)
-          (stops_after most first state (script_lines r.front) (script_lines t.front) r.moments t.begun.moments
+          (r.written ++ t.begun.written) after) (sym a.both)
+          (stops_after most first state after (script_lines r.front) (script_lines t.front) r.moments t.begun.moments
           r.nonces t.begun.nonces r.written t.begun.written
-          r.works t.few t.begun.moments_drawn t.begun.nonces_drawn t.begun.begins);
+          r.works t.few t.begun.moments_drawn t.begun.nonces_drawn t.begun.begins t.begun.leaves);
     }
 
 -- No line was left, and the run is at its end.
 pub plays_all : (first : State) (whole : List ℕ) (old mid new : Devices) (state after : State)
     (before reading : Reading)
     → Running first whole old mid state before → EndsTurn state after before reading mid new
-    → reading.given ≤ most_input → PlaysAll first whole old new
+    → reading.given ≤ most_input → PlaysAll first whole after old new
 plays_all first whole old mid new state after before reading r t few =
     let over : r.rest ≡ [] = subst IsAtEnd r.input t.finds.at_end in
     let none : before.held ++ r.rest ≡ [] = ap (λ h. h ++ r.rest) t.finds.held_before ∙ over in
@@ -305,71 +323,70 @@ plays_all first whole old mid new state after before reading r t few =
       nonces = subst (λ b. AreDrawn (script_lines b) r.nonces) (sym all) r.works.nonces_drawn;
       transcript =
           sym (ap (λ b. written_for (standing first r.moments r.nonces) (script_lines b)) all ∙ r.works.output);
+      leaves = t.same_state
+          ∙ sym (ap (λ b. state_after (standing first r.moments r.nonces) (script_lines b)) all ∙ r.works.leaves);
     }
 
 -- ---- what the loop over the lines keeps
 
-pub record Keeps (old new : Devices) (state : State) (reading : Reading) : Type 0 where
+pub record Keeps (first : State) (old new : Devices) (state : State) (reading : Reading) : Type 0 where
   pub longest : reading.longest ≡ LONGEST_LINE
   pub most : reading.most ≡ most_input
-  pub running : (whole : List ℕ) → old.to_come ≡ Some whole → Running stated_state whole old new state reading
+  pub running : (whole : List ℕ) → old.to_come ≡ Some whole → Running first whole old new state reading
 
-pub keeps_start : (old : Devices) (state : State) (reading : Reading) → state ≡ stated_state
+pub keeps_start : (first : State) (old : Devices) (reading : Reading)
     → reading ≡ record { held = []; line = []; given = 0; longest = LONGEST_LINE; most = most_input }
-    → Keeps old old state reading
-keeps_start old state reading first new = record {
+    → Keeps first old old first reading
+keeps_start first old reading new = record {
   longest = ap (λ (r : Reading). r.longest) new;
   most = ap (λ (r : Reading). r.most) new;
-  running = λ whole told.
-      subst (λ s. Running stated_state whole old old s reading) (sym first)
-      (running_start stated_state whole old reading told (ap (λ (r : Reading). r.held) new)
-      (ap (λ (r : Reading). r.given) new));
+  running = λ whole told. running_start first whole old reading told (ap (λ (r : Reading). r.held) new)
+      (ap (λ (r : Reading). r.given) new);
 }
 
-pub keeps_turn : (old mid new : Devices) (state after : State) (before reading : Reading) → Keeps old mid state before
-    → TakesTurn state after before reading mid new
-    → reading.longest ≡ before.longest → reading.most ≡ before.most → Keeps old new after reading
-keeps_turn old mid new state after before reading k t longest most = record {
+pub keeps_turn : (first : State) (old mid new : Devices) (state after : State) (before reading : Reading)
+    → Keeps first old mid state before → TakesTurn state after before reading mid new
+    → reading.longest ≡ before.longest → reading.most ≡ before.most → Keeps first old new after reading
+keeps_turn first old mid new state after before reading k t longest most = record {
   longest = longest ∙ k.longest;
   most = most ∙ k.most;
-  running = λ whole told. running_turn stated_state whole old mid new state after before reading
-      (k.running whole told) t;
+  running = λ whole told. running_turn first whole old mid new state after before reading (k.running whole told) t;
 }
 
-pub keeps_all : (old mid new : Devices) (state after : State) (before reading : Reading) → Keeps old mid state before
-    → EndsTurn state after before reading mid new
+pub keeps_all : (first : State) (old mid new : Devices) (state after : State) (before reading : Reading)
+    → Keeps first old mid state before → EndsTurn state after before reading mid new
     → reading.most ≡ before.most → reading.given ≤ reading.most → (whole : List ℕ) → old.to_come ≡ Some whole
-    → PlaysAll stated_state whole old new
-keeps_all old mid new state after before reading k t most within whole told =
-    plays_all stated_state whole old mid new state after before reading (k.running whole told) t
+    → PlaysAll first whole after old new
+keeps_all first old mid new state after before reading k t most within whole told =
+    plays_all first whole old mid new state after before reading (k.running whole told) t
     (omega (arith, within, most, k.most))
 
-pub keeps_part : (most : ℕ) (old mid new : Devices) (state : State) (before reading : Reading)
-    → Keeps old mid state before
-    → StopsTurn most state before reading mid new → (whole : List ℕ) → old.to_come ≡ Some whole
-    → PlaysPart most stated_state whole old new
-keeps_part most old mid new state before reading k t whole told =
-    plays_part most stated_state whole old mid new state before reading (k.running whole told) t
+pub keeps_part : (most : ℕ) (first : State) (old mid new : Devices) (state after : State) (before reading : Reading)
+    → Keeps first old mid state before
+    → StopsTurn most state after before reading mid new → (whole : List ℕ) → old.to_come ≡ Some whole
+    → PlaysPart most first whole after old new
+keeps_part most first old mid new state after before reading k t whole told =
+    plays_part most first whole old mid new state after before reading (k.running whole told) t
 
 -- how many bytes of the whole were read
-left_of_whole : (old mid new : Devices) (state : State) (before reading : Reading) (most : ℕ)
-    → Keeps old mid state before
-    → StopsTurn most state before reading mid new → (whole : List ℕ) → old.to_come ≡ Some whole
+left_of_whole : (first : State) (old mid new : Devices) (state after : State) (before reading : Reading) (most : ℕ)
+    → Keeps first old mid state before
+    → StopsTurn most state after before reading mid new → (whole : List ℕ) → old.to_come ≡ Some whole
     → (rest : List ℕ) × (new.to_come ≡ Some rest) × (reading.given + length rest ≡ length whole)
-left_of_whole old mid new state before reading most k t whole told =
+left_of_whole first old mid new state after before reading most k t whole told =
     let r = k.running whole told in
     let g : Gave r.rest t.bytes new.to_come = gave r.rest t.bytes mid.to_come new.to_come r.input t.gives in
     let total : length r.rest ≡ length t.bytes + length g.more = ap length g.splits ∙ length-append t.bytes g.more in
     (g.more, g.told, omega (arith, total, t.counts, r.given))
 
 -- Where the count of bytes given passed the most, the whole is that much longer, and where it didn't, it isn't.
-pub gave_too_much : (old mid new : Devices) (state : State) (before reading : Reading) (most : ℕ)
-    → Keeps old mid state before
-    → StopsTurn most state before reading mid new → reading.most ≡ before.most → (whole : List ℕ)
+pub gave_too_much : (first : State) (old mid new : Devices) (state after : State) (before reading : Reading) (most : ℕ)
+    → Keeps first old mid state before
+    → StopsTurn most state after before reading mid new → reading.most ≡ before.most → (whole : List ℕ)
     → old.to_come ≡ Some whole
     → (reading.most < reading.given) ↔ GaveTooMuch whole new.to_come
-gave_too_much old mid new state before reading most k t same whole told =
-    let left = left_of_whole old mid new state before reading most k t whole told in (
+gave_too_much first old mid new state after before reading most k t same whole told =
+    let left = left_of_whole first old mid new state after before reading most k t whole told in (
       λ much. (left.0, left.1, omega (arith, left.2, much, same, k.most)),
       λ gave.
           let rests : gave.0 ≡ left.0 = some_is gave.0 left.0 (sym gave.1 ∙ left.1) in
@@ -380,9 +397,9 @@ gave_too_much old mid new state before reading most k t same whole told =
     some_is a b e = cc
 
 -- what was read to its end wasn't too much
-pub gave_within : (state : State) (whole : List ℕ) (old new : Devices) → PlaysAll state whole old new
+pub gave_within : (state after : State) (whole : List ℕ) (old new : Devices) → PlaysAll state whole after old new
     → GaveTooMuch whole new.to_come → ⊥
-gave_within state whole old new all gave = omega (arith, all.small, gave.2)
+gave_within state after whole old new all gave = omega (arith, all.small, gave.2)
 
 -- the same fault of another result
 pub same_err : {A B E : Type 0} (x y : E) → (let r : Result A E = Err x in r) ≡ Err y
@@ -390,13 +407,13 @@ pub same_err : {A B E : Type 0} (x y : E) → (let r : Result A E = Err x in r) 
 same_err x y is = let same : x ≡ y = cc in ap (λ e. Err e) same
 
 -- nothing passed where nothing was tried
-pub plays_nothing : (most : ℕ) (old : Devices) (whole : List ℕ) → old.to_come ≡ Some whole
-    → PlaysPart most stated_state whole old old
-plays_nothing most old whole told =
-    plays_part most stated_state whole old old old stated_state unread unread
-    (running_start stated_state whole old unread told refl refl)
-    (stops_between most stated_state unread unread old old [] gives refl
-    (begins_no_line stated_state (outlet_of old) (outlet_of old) refl))
+pub plays_nothing : (most : ℕ) (first : State) (old : Devices) (whole : List ℕ) → old.to_come ≡ Some whole
+    → PlaysPart most first whole first old old
+plays_nothing most first old whole told =
+    plays_part most first whole old old old first first unread unread
+    (running_start first whole old unread told refl refl)
+    (stops_between most first first unread unread old old [] gives refl
+    (begins_no_line first (outlet_of old) (outlet_of old) refl))
   where
     unread : Reading
     unread = record { held = []; line = []; given = 0; longest = 0; most = 0 }

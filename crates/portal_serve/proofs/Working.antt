@@ -1,6 +1,6 @@
 -- Scripts worked line by line: what the lines so far wrote and left, and one line more.
-use Rattle.std.proofs.Common.{◌≡◌, ℕ, ◌+◌, ◌<◌, ◌≤◌, ℤ, List, [], ◌∷◌, ◌++◌, length, ◌==◌, ltb, cond, true, false}
-use Rattle.std.proofs.Common.{Option, Some, None, Result, Ok, Err, OnErr, IfErr, refl, sym, ap, subst, ◌∙◌}
+use Rattle.std.proofs.Common.{◌≡◌, ◌⊎◌, ℕ, ◌+◌, ◌<◌, ◌≤◌, ℤ, List, [], ◌∷◌, ◌++◌, length, ◌==◌, ltb, cond, true, false}
+use Rattle.std.proofs.Common.{Option, Some, None, Result, Ok, Err, OnErr, IfOk, IfErr, refl, sym, ap, subst, ◌∙◌}
 use Rattle.std.proofs.Common.{append_assoc, append-nil, length-append, take, drop, take-append-drop, inl, inr, arith}
 use Rattle.std.specs.Prelude.{filter}
 use Rattle.std.proofs.lemmas.List.Elements.{filter-append}
@@ -8,25 +8,26 @@ use Rattle.portal_base.specs.Outside.{Takes, TakesPrefix, Draws, Rose}
 use Rattle.portal_base.proofs.OutsideLemmas.{Takes-none}
 use Rattle.portal_serve.specs.Played.{Works, WorksLines, BeginsLines, StopsLines, unless_empty}
 use Rattle.action_api.specs.declared.early.Early.{Early}
-use Rattle.action_api.specs.declared.early.Early.TheVariants.{TooLong}
+use Rattle.action_api.specs.declared.early.Early.TheVariants.{TooLong, OutOfMemory}
 use Rattle.portal_serve.specs.Script.{ScriptCall, call_of_line, call_of_reading}
 use Rattle.portal_base.specs.Json.{json_reading}
+use Rattle.portal_base.specs.declared.json_value.Json.{Json}
 use Rattle.portal_serve.specs.declared.script.TheConstants.{LONGEST_LINE}
 use Rattle.std.proofs.lemmas.Bool.{lt-ltb}
 use Rattle.std.proofs.lemmas.Bool.Decides.{nat_tests}
 use Rattle.portal_core.specs.State.{State}
+use Rattle.portal_serve.specs.Replied.{Replied, call_of, replied_for}
 use Rattle.portal_serve.specs.Transcript.{Standing, AreDrawn, asks, draws, turn, turn_of, standing_after, written_for}
-use Rattle.portal_serve.specs.Transcript.{Replied, replied_on, replied_to, reply_line, early_line}
+use Rattle.portal_serve.specs.Transcript.{replied_to, reply_line, early_line, state_after}
 use Rattle.action_api.specs.Request.{request_for}
 use Rattle.portal_base.specs.declared.caller.Caller.{Caller}
 use Rattle.portal_calls.specs.declared.call.Request.{Request}
 use Rattle.portal_core.specs.Opened.{known_caller}
-use Rattle.portal_core.specs.Step.{call_step}
 use Rattle.portal_core.specs.declared.event.Reply.{Reply}
 use Rattle.portal_serve.specs.Run.{Begins, DrawsAll, standing, Outlet}
 use Rattle.portal_serve.specs.Stopped.{IsOfLine, begun_at}
 use Rattle.portal_serve.specs.declared.play.Stop.{Stop}
-use Rattle.portal_serve.specs.declared.play.Stop.TheVariants.{ReadFault, WriteFault, TooMuch, OutOfMemory}
+use Rattle.portal_serve.specs.declared.play.Stop.TheVariants as stop
 
 pub written_for-append : (s : Standing) (ls more : List (List ℕ))
     → written_for s (ls ++ more) ≡ written_for s ls ++ written_for (standing_after s ls) more
@@ -189,27 +190,34 @@ begins_nothing whole = (whole, refl)
 pub begins_take : (count : ℕ) (piece : List ℕ) → Begins (take count piece) piece
 begins_take count piece = (drop count piece, take-append-drop count piece)
 
--- what is replied where an action has the name
-pub replied_known : (state after : State) (said : ScriptCall) (size : ℕ) (m : ℤ) (n : ℕ) (request : Request)
-    (who : Caller) (reply : Reply)
-    → request_for said.action said.body ≡ Ok request → who ≡ known_caller state.people said.caller
-    → reply ≡
-    (call_step state
-    (record { caller = who; request = request; size = size; moment = m; nonce = record { 0 = n } })).reply
-    → (let r : Result Reply Early = Ok reply in r) ≡ (replied_to state said size m n).reply
-replied_known state after said size m n request who reply is known replied =
-    rw (replied, known) (sym (ap (λ r. (replied_on state said size m n r).reply) is))
+-- what is replied to the call of a line, whose caller and request were made first
+pub replied_known : (state : State) (said : ScriptCall) (size : ℕ) (m : ℤ) (n : ℕ) (request : Result Request Early)
+    (who : Caller) (reply : Result Reply Early)
+    → request ≡ request_for said.action said.body → who ≡ known_caller state.people said.caller
+    → reply ≡ (replied_for state who size m n request).reply
+    → reply ≡ (replied_to state said size m n).reply
+replied_known state said size m n request who reply is known replied =
+    replied ∙ ap (λ r. (replied_for state who size m n r).reply) is
+    ∙ ap (λ w. (replied_for state w size m n (request_for said.action said.body)).reply) known
 
 -- the state after it
-pub left_known : (state after : State) (said : ScriptCall) (size : ℕ) (m : ℤ) (n : ℕ) (request : Request)
+pub left_known : (state after : State) (said : ScriptCall) (size : ℕ) (m : ℤ) (n : ℕ) (request : Result Request Early)
     (who : Caller)
-    → request_for said.action said.body ≡ Ok request → who ≡ known_caller state.people said.caller
-    → after ≡
-    (call_step state
-    (record { caller = who; request = request; size = size; moment = m; nonce = record { 0 = n } })).state
+    → request ≡ request_for said.action said.body → who ≡ known_caller state.people said.caller
+    → after ≡ (replied_for state who size m n request).state
     → after ≡ (replied_to state said size m n).state
 left_known state after said size m n request who is known left =
-    rw (left, known) (sym (ap (λ r. (replied_on state said size m n r).state) is))
+    left ∙ ap (λ r. (replied_for state who size m n r).state) is
+    ∙ ap (λ w. (replied_for state w size m n (request_for said.action said.body)).state) known
+
+-- a request that was made, or a fault other than want of memory, is that of the name and the body
+pub request_made : (name : List ℕ) (body : Json) (request : Result Request Early)
+    → IfOk request (λ r. request_for name body ≡ Ok r)
+    → IfErr request (λ e. (e ≡ OutOfMemory) ⊎ (request_for name body ≡ Err e))
+    → (request ≡ Err OutOfMemory → ⊥) → request ≡ request_for name body
+request_made name body (Ok r) value fault known = sym value
+request_made name body (Err e) value (inl wanting) known = absurd (known (ap (λ f. Err f) wanting))
+request_made name body (Err e) value (inr is) known = sym is
 
 -- the line of what is replied to a call whose action was read twice
 pub line_written : (state : State) (said : ScriptCall) (size : ℕ) (m : ℤ) (n : ℕ) (first second : List ℕ)
@@ -246,7 +254,7 @@ works_lines state after script ms ns text old new w clock numbers takes =
 pub stops_in_writing : (state after : State) (script : List (List ℕ)) (ms : List ℤ) (ns text : List ℕ)
     (old new : Outlet)
     → Works state script ms ns text after → DrawsAll old.moments ms new.moments → DrawsAll old.nonces ns new.nonces
-    → TakesPrefix old.taken text new.taken → StopsLines state script old new
+    → TakesPrefix old.taken text new.taken → StopsLines state script after old new
 stops_in_writing state after script ms ns text old new w clock numbers part = inr (record {
   written = take part.0 text;
   moments = ms;
@@ -254,35 +262,44 @@ stops_in_writing state after script ms ns text old new w clock numbers part = in
   moments_drawn = w.moments_drawn;
   nonces_drawn = w.nonces_drawn;
   begins = subst (λ t. Begins (take part.0 text) t) (sym w.output) (begins_take part.0 text);
+  leaves = inr (sym w.leaves);
   output = part.2;
   clock = clock;
   numbers = numbers;
 })
 
 -- nothing was begun
-pub begins_no_line : (state : State) (old new : Outlet) → new ≡ old → BeginsLines state [] old new
-begins_no_line state old new same = subst (λ o. BeginsLines state [] old o) (sym same) (record {
+pub begins_no_line : (state : State) (old new : Outlet) → new ≡ old → BeginsLines state [] state old new
+begins_no_line state old new same = subst (λ o. BeginsLines state [] state old o) (sym same) (record {
   written = [];
   moments = [];
   nonces = [];
   moments_drawn = refl;
   nonces_drawn = refl;
   begins = begins_nothing [];
+  leaves = inl refl;
   output = Takes-none old.taken;
   clock = DrawsAll-none old.moments;
   numbers = DrawsAll-none old.nonces;
 })
 
 -- work stopped before the lines were begun
-pub stops_before : (state : State) (script : List (List ℕ)) (old : Outlet) → StopsLines state script old old
+pub stops_before : (state : State) (script : List (List ℕ)) (old : Outlet) → StopsLines state script state old old
 stops_before state script old = inl (begins_no_line state old old refl)
 
+-- the state is as before, or the one that a call leaves
+left_by_call : (state after left last : State) → last ≡ left → (after ≡ state) ⊎ (after ≡ left)
+    → (after ≡ state) ⊎ (after ≡ last)
+left_by_call state after left last is (inl kept) = inl kept
+left_by_call state after left last is (inr made) = inr (made ∙ sym is)
+
 -- A call's line was begun, and work stopped before it wrote.
-pub stops_before_writing : (state : State) (line : List ℕ) (said : ScriptCall) (m : ℤ) (n : ℕ) (old new : Outlet)
-    → call_of_line line ≡ Ok said
+pub stops_before_writing : (state after : State) (line : List ℕ) (said : ScriptCall) (m : ℤ) (n : ℕ)
+    (old new : Outlet) → call_of_line line ≡ Ok said
+    → (after ≡ state) ⊎ (after ≡ (replied_to state said (length line) m n).state)
     → new.taken ≡ old.taken → DrawsAll old.moments (m ∷ []) new.moments → DrawsAll old.nonces (n ∷ []) new.nonces
-    → StopsLines state (line ∷ []) old new
-stops_before_writing state line said m n old new is same clock numbers =
+    → StopsLines state (line ∷ []) after old new
+stops_before_writing state after line said m n old new is leaves same clock numbers =
     let w = works_call state line said m n is in
     inr (record {
       written = [];
@@ -291,17 +308,18 @@ stops_before_writing state line said m n old new is same clock numbers =
       moments_drawn = w.moments_drawn;
       nonces_drawn = w.nonces_drawn;
       begins = begins_nothing _;
+      leaves = left_by_call state after _ _ w.leaves leaves;
       output = same ∙ Takes-none old.taken;
       clock = clock;
       numbers = numbers;
     })
 
 -- work on a line stops after the line was begun
-pub begun_in_line : (stop : Stop) → IsOfLine stop → 1 ≤ begun_at stop
-begun_in_line ReadFault of_line = absurd of_line
-begun_in_line WriteFault of_line = omega arith
-begun_in_line TooMuch of_line = absurd of_line
-begun_in_line OutOfMemory of_line = omega arith
+pub begun_in_line : (why : Stop) → IsOfLine why → 1 ≤ begun_at why
+begun_in_line stop.ReadFault of_line = absurd of_line
+begun_in_line stop.WriteFault of_line = omega arith
+begun_in_line stop.TooLong of_line = absurd of_line
+begun_in_line stop.OutOfMemory of_line = omega arith
 
 pub on_err_always : {T E P : Type 0} (r : Result T E) → P → OnErr r P
 on_err_always (Ok x) p = tt
@@ -345,9 +363,9 @@ pub takes_no_prefix : (taken : Option (List ℕ)) (piece : List ℕ) → TakesPr
 takes_no_prefix taken piece = (0, omega arith, Takes-none taken)
 
 -- the same line under another name
-pub stops_same_line : (state : State) (l m : List ℕ) (old new : Outlet) → l ≡ m
-    → StopsLines state (unless_empty l) old new → StopsLines state (unless_empty m) old new
-stops_same_line state l m old new e s = subst (λ x. StopsLines state (unless_empty x) old new) e s
+pub stops_same_line : (state after : State) (l m : List ℕ) (old new : Outlet) → l ≡ m
+    → StopsLines state (unless_empty l) after old new → StopsLines state (unless_empty m) after old new
+stops_same_line state after l m old new e s = subst (λ x. StopsLines state (unless_empty x) after old new) e s
 
 -- ---- counts of faults
 

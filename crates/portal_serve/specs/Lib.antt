@@ -1,7 +1,11 @@
+pub mod Desk
 pub mod Played
+pub mod Replied
 pub mod Run
 pub mod Script
 pub mod Seen
+pub mod Served
 pub mod Stated
 pub mod Stopped
+pub mod Tokens
 pub mod Transcript

@@ -6,7 +6,7 @@ use Rattle.portal_base.specs.Outside.{Gives, Takes, IsAtEnd}
 use Rattle.portal_serve.specs.Run.{Begins, Devices, Outlet, outlet_of, DrawsAll, standing}
 use Rattle.portal_serve.specs.Script.{script_lines, is_nonempty}
 use Rattle.portal_core.specs.State.{State}
-use Rattle.portal_serve.specs.Transcript.{AreDrawn, standing_after, written_for}
+use Rattle.portal_serve.specs.Transcript.{AreDrawn, state_after, written_for}
 
 -- Lines, worked from a state, drew these moments and numbers, wrote this and left that state.
 pub record Works (state : State) (script : List (List ℕ)) (moments : List ℤ) (nonces written : List ℕ)
@@ -14,7 +14,7 @@ pub record Works (state : State) (script : List (List ℕ)) (moments : List ℤ)
   pub moments_drawn : AreDrawn script moments
   pub nonces_drawn : AreDrawn script nonces
   pub output : written_for (standing state moments nonces) script ≡ written
-  pub leaves : (standing_after (standing state moments nonces) script).state ≡ after
+  pub leaves : state_after (standing state moments nonces) script ≡ after
 
 -- The lines were worked: output took what they write, and what they draw was drawn.
 pub record WorksLines (state : State) (script : List (List ℕ)) (after : State) (old new : Outlet) : Type 0 where
@@ -26,21 +26,23 @@ pub record WorksLines (state : State) (script : List (List ℕ)) (after : State)
   pub clock : DrawsAll old.moments moments new.moments
   pub numbers : DrawsAll old.nonces nonces new.nonces
 
--- Lines were begun: what they draw was drawn, and output took the beginning of what they write.
-pub record BeginsLines (state : State) (script : List (List ℕ)) (old new : Outlet) : Type 0 where
+-- Lines were begun: what they draw was drawn, and output took the beginning of what they write. The state is as before,
+-- or the one that they leave.
+pub record BeginsLines (state : State) (script : List (List ℕ)) (after : State) (old new : Outlet) : Type 0 where
   pub written : List ℕ
   pub moments : List ℤ
   pub nonces : List ℕ
   pub moments_drawn : AreDrawn script moments
   pub nonces_drawn : AreDrawn script nonces
   pub begins : Begins written (written_for (standing state moments nonces) script)
+  pub leaves : (after ≡ state) ⊎ (after ≡ state_after (standing state moments nonces) script)
   pub output : Takes old.taken written new.taken
   pub clock : DrawsAll old.moments moments new.moments
   pub numbers : DrawsAll old.nonces nonces new.nonces
 
 -- Work on the lines stopped before they were begun, or after.
-abbrev pub StopsLines : State → List (List ℕ) → Outlet → Outlet → Type 0
-StopsLines state script old new = BeginsLines state [] old new ⊎ BeginsLines state script old new
+abbrev pub StopsLines : State → List (List ℕ) → State → Outlet → Outlet → Type 0
+StopsLines state script after old new = BeginsLines state [] after old new ⊎ BeginsLines state script after old new
 
 -- the line, unless it is empty
 abbrev pub unless_empty : List ℕ → List (List ℕ)
@@ -64,7 +66,7 @@ EndsAll front = (more : List ℕ) → lines (front ++ more) ≡ lines front ++ l
 
 -- The turn stopped. Input gave some bytes. Of all that was in hand some bytes in front are those of the lines that were
 -- begun, at most `most`, with their ends.
-pub record StopsTurn (most : ℕ) (state : State) (before : Reading) (reading : Reading) (old new : Devices) : Type 0
+pub record StopsTurn (most : ℕ) (state after : State) (before : Reading) (reading : Reading) (old new : Devices) : Type 0
   where
     pub bytes : List ℕ
     pub gives : Gives old.to_come bytes new.to_come
@@ -74,7 +76,7 @@ pub record StopsTurn (most : ℕ) (state : State) (before : Reading) (reading : 
     pub splits : before.held ++ bytes ≡ front ++ ahead
     pub ended : EndsAll front ⊎ ((ahead ≡ []) × IsAtEnd new.to_come)
     pub few : length (script_lines front) ≤ most
-    pub begun : BeginsLines state (script_lines front) (outlet_of old) (outlet_of new)
+    pub begun : BeginsLines state (script_lines front) after (outlet_of old) (outlet_of new)
 
 -- The run so far on an input that tells: what was worked at the front of the whole, what is in hand and what is to
 -- come.

@@ -1,10 +1,10 @@
 -- What passes the devices where a script is played.
-use Rattle.std.specs.Prelude.{◌≡◌, ℕ, ℤ, ◌+◌, ◌^◌, ◌<◌, ◌≤◌, List, [], ◌++◌, length, Option, Some, IfSome}
+use Rattle.std.specs.Prelude.{◌≡◌, ◌⊎◌, ℕ, ℤ, ◌+◌, ◌^◌, ◌<◌, ◌≤◌, List, [], ◌++◌, length, Option, Some, IfSome}
 use Rattle.std.specs.Option.{IsSomeAnd}
 use Rattle.portal_base.specs.Outside.{Takes}
 use Rattle.portal_serve.specs.Script.{script_lines}
 use Rattle.portal_core.specs.State.{State}
-use Rattle.portal_serve.specs.Transcript.{Standing, AreDrawn, written_for}
+use Rattle.portal_serve.specs.Transcript.{Standing, AreDrawn, state_after, written_for}
 
 -- the most bytes that input may give
 abbrev pub most_input : ℕ
@@ -63,20 +63,21 @@ pub record Passed (whole : List ℕ) (old new : Devices) : Type 0 where
   pub numbers : DrawsAll old.nonces nonces new.nonces
 
 -- Input was read to its end, of at most 2^40 bytes. As many moments and as many numbers were drawn as the script has
--- lines that draw, and output took its transcript.
-pub record PlaysAll (state : State) (whole : List ℕ) (old new : Devices) : Type 0 where
+-- lines that draw, output took its transcript, and this is the state in which the script ends.
+pub record PlaysAll (state : State) (whole : List ℕ) (after : State) (old new : Devices) : Type 0 where
   pub passed : Passed whole old new
   pub at_end : passed.rest ≡ []
   pub small : length whole ≤ most_input
   pub moments : AreDrawn (script_lines whole) passed.moments
   pub nonces : AreDrawn (script_lines whole) passed.nonces
   pub transcript : passed.written ≡ transcript_of state whole passed.moments passed.nonces
+  pub leaves : after ≡ state_after (standing state passed.moments passed.nonces) (script_lines whole)
 
 -- Work on the lines stopped. They were worked but for the last ones, at most `most`, which were begun: as many moments
 -- and numbers were drawn as all of them draw, and what was written is what the worked ones write, and a beginning of
--- what the begun ones write.
-pub record Stops (most : ℕ) (state : State) (script : List (List ℕ)) (moments : List ℤ) (nonces written : List ℕ) :
-    Type 0 where
+-- what the begun ones write. The state is the one behind the worked ones, or behind all.
+pub record Stops (most : ℕ) (state : State) (script : List (List ℕ)) (moments : List ℤ) (nonces written : List ℕ)
+    (after : State) : Type 0 where
   pub worked : List (List ℕ)
   pub begun : List (List ℕ)
   pub splits : script ≡ worked ++ begun
@@ -85,17 +86,19 @@ pub record Stops (most : ℕ) (state : State) (script : List (List ℕ)) (moment
   pub nonces_drawn : AreDrawn script nonces
   pub holds : Begins (written_for (standing state moments nonces) worked) written
   pub begins : Begins written (written_for (standing state moments nonces) script)
+  pub leaves : (after ≡ state_after (standing state moments nonces) worked)
+      ⊎ (after ≡ state_after (standing state moments nonces) script)
 
 -- The run stopped at a place in the script. The lines in front of it were worked, but for at most `most` of them that
 -- were begun. Input may have been read further.
-pub record PlaysPart (most : ℕ) (state : State) (whole : List ℕ) (old new : Devices) : Type 0 where
+pub record PlaysPart (most : ℕ) (state : State) (whole : List ℕ) (after : State) (old new : Devices) : Type 0 where
   pub passed : Passed whole old new
   -- the bytes in front of the place, and those that were read after it
   pub front : List ℕ
   pub ahead : List ℕ
   pub splits : passed.read ≡ front ++ ahead
   pub first_lines : script_lines whole ≡ script_lines front ++ script_lines (ahead ++ passed.rest)
-  pub stops : Stops most state (script_lines front) passed.moments passed.nonces passed.written
+  pub stops : Stops most state (script_lines front) passed.moments passed.nonces passed.written after
 
 -- Input gave more than 2^40 bytes of the whole: what it still has to give is that much shorter.
 abbrev pub GaveTooMuch : List ℕ → Option (List ℕ) → Type 0

@@ -1,11 +1,12 @@
--- The opening that every run begins with.
-use Rattle.std.specs.Prelude.{ℕ, List, [], ◌∷◌, Bool, true, false, codes, pos}
+-- The stated portal, with which a run begins where no portal file is named.
+use Rattle.std.specs.Prelude.{ℕ, List, [], ◌∷◌, ◌++◌, map, Bool, true, false, codes, pos}
 use Rattle.org_roles.specs.declared.entry.User.{User}
 use Rattle.org_roles.specs.declared.entry.Org.{Org}
 use Rattle.org_roles.specs.declared.entry.Membership.{Membership}
 use Rattle.org_roles.specs.declared.role.Role.{Role}
 use Rattle.org_roles.specs.declared.role.Role.TheVariants.{Member, Editor, Admin}
 use Rattle.portal_core.specs.State.{State}
+use Rattle.portal_serve.specs.Tokens.{Digests, digest_of}
 
 abbrev pub a_user : List ℕ → Bool → User
 a_user name sysadmin = record { name = name; sysadmin = sysadmin }
@@ -34,3 +35,11 @@ stated_state = record {
   datasets = [];
   spent = [];
 }
+
+-- a user's token is `token-` and the name
+abbrev pub stated_digest : User → List ℕ × List ℕ
+stated_digest user = (user.name, digest_of (codes "token-" ++ user.name))
+
+-- the digests of their tokens
+abbrev pub stated_digests : Digests
+stated_digests = map stated_digest stated_users

@@ -5,12 +5,10 @@ use Rattle.action_api.specs.Reply.{reply_text}
 use Rattle.action_api.specs.Request.{request_for}
 use Rattle.action_api.specs.declared.early.Early.{Early}
 use Rattle.portal_core.specs.Opened.{known_caller}
+use Rattle.portal_serve.specs.Replied.{Replied, replied_for}
 use Rattle.portal_serve.specs.Script.{ScriptCall, call_of_line}
 use Rattle.portal_core.specs.State.{State}
-use Rattle.portal_core.specs.Step.{Outcome, call_step}
 use Rattle.portal_core.specs.declared.event.Reply.{Reply}
-use Rattle.portal_calls.specs.declared.call.Call.{Call}
-use Rattle.portal_calls.specs.declared.call.Request.{Request}
 
 -- a line asks for a call
 abbrev pub asks : Result ScriptCall Early → Bool
@@ -37,11 +35,6 @@ pub record Turn : Type 0 where
   pub after : Standing
   pub written : List ℕ
 
--- what is replied to the call of a line, and the state after it
-pub record Replied : Type 0 where
-  pub reply : Result Reply Early
-  pub state : State
-
 -- a line of the transcript: the status, a space, the text, a line feed
 abbrev pub line_of : ℕ × List ℕ → List ℕ
 line_of text = decimal text.0 ++ 32 ∷ (text.1 ++ 10 ∷ [])
@@ -54,30 +47,11 @@ reply_line action reply = line_of (reply_text action reply)
 abbrev pub early_line : Early → List ℕ
 early_line early = reply_line None (Err early)
 
--- the call of a line, made with what was drawn for it; its size is the line's length
-abbrev pub drawn_call : State → ScriptCall → Request → ℕ → ℤ → ℕ → Call
-drawn_call state said request size moment nonce =
-    record {
-      caller = known_caller state.people said.caller;
-      request = request;
-      size = size;
-      moment = moment;
-      nonce = record { 0 = nonce };
-    }
-
-abbrev pub replied_by : Outcome → Replied
-replied_by outcome = record { reply = Ok outcome.reply; state = outcome.state }
-
--- the step of the call, if an action has the name; else the fault, which leaves the state
-abbrev pub replied_on : State → ScriptCall → ℕ → ℤ → ℕ → Result Request Early → Replied
-replied_on state said size moment nonce (Ok request) =
-    replied_by (call_step state (drawn_call state said request size moment nonce))
-replied_on state said size moment nonce (Err early) = record { reply = Err early; state = state }
-
--- what is replied to the call of a line, with the moment and the number that were drawn for it
+-- what is replied to the call of a line, with the moment and the number that were drawn for it; its size is the line's
+-- length
 abbrev pub replied_to : State → ScriptCall → ℕ → ℤ → ℕ → Replied
 replied_to state said size moment nonce =
-    replied_on state said size moment nonce (request_for said.action said.body)
+    replied_for state (known_caller state.people said.caller) size moment nonce (request_for said.action said.body)
 
 abbrev pub turn_of_reply : ScriptCall → Replied → List ℤ → List ℕ → Turn
 turn_of_reply said replied moments nonces =
@@ -113,3 +87,7 @@ standing_after standing (line ∷ lines) = standing_after (turn standing line).a
 abbrev pub written_for : Standing → List (List ℕ) → List ℕ
 written_for standing [] = []
 written_for standing (line ∷ lines) = (turn standing line).written ++ written_for (turn standing line).after lines
+
+-- the state in which these lines end
+abbrev pub state_after : Standing → List (List ℕ) → State
+state_after standing lines = (standing_after standing lines).state

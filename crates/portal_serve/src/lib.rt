@@ -1,8 +1,12 @@
 //! Scripts: the calls that they ask a portal for, and the transcripts of what it replies.
 #![tactic(auto)]
 
+mod calling;
+pub mod desk;
 pub mod laws;
 mod line;
 pub mod play;
 mod script;
+pub mod serve;
 pub mod stated;
+pub mod tokens;

@@ -1,31 +1,26 @@
 //! Playing a script: the loop over its lines, which holds one line and the portal.
-ghost use Rattle.std.specs.Prelude.{◌≡◌, ◌↔◌, ◌<◌, ◌≤◌, ℕ, List, [], ◌∷◌, true, false, Some, Ok, Err, length, IfOk};
-ghost use Rattle.std.specs.Prelude.{IfErr, OnOk, OnErr};
+ghost use Rattle.std.specs.Prelude.{◌≡◌, ◌≢◌, ◌⊎◌, ◌↔◌, ◌<◌, ◌≤◌, ℕ, List, [], ◌∷◌, true, false, Some, Ok, Err};
+ghost use Rattle.std.specs.Prelude.{length, IfOk, IfErr, OnOk, OnErr};
 ghost use Rattle.portal_base.specs.Outside.{Rose, Takes, TakesPrefix};
-ghost use Rattle.portal_core.specs.Step.{step_of};
 ghost use Rattle.portal_serve.specs.Played.{WorksLines, StopsLines, TakesTurn, EndsTurn, StopsTurn, unless_empty};
-ghost use Rattle.portal_serve.specs.Stopped.{IsOfLine, stop_for, begun_at};
+ghost use Rattle.portal_serve.specs.Stopped.{IsOfLine, end_of, stop_for, begun_at, most_begun};
 ghost use Rattle.portal_serve.specs.Run.{outlet, devices};
 ghost use Rattle.portal_lines.specs.Lines.{bytes_left};
 ghost use Rattle.portal_serve.specs.Transcript.{early_line, replied_to, reply_line};
 ghost use Rattle.portal_serve.specs.Run.{PlaysAll, PlaysPart, GaveTooMuch};
 ghost use Rattle.portal_serve.specs.Script.{call_of_line};
-ghost use Rattle.portal_serve.specs.Stated.{stated_state};
 ghost use Rattle.portal_serve.specs.Seen.{asked};
 
+use crate::calling::{Drawn, replied};
 use crate::line::line_of_reply;
 use crate::script::{LONGEST_LINE, ScriptCall, read_call};
-use crate::stated::stated_portal;
 use action_api::early::Early;
 use action_api::request::request_on;
 use portal_base::caller::Caller;
 use portal_base::json_value::Json;
-use portal_base::moment::Moment;
-use portal_base::nonce::Nonce;
 use portal_base::outside::{Clock, Nonces, Sink, Source};
 use portal_base::seq::Seq;
-use portal_calls::call::Call;
-use portal_core::event::{Event, Refusal, Reply};
+use portal_core::event::Reply;
 use portal_core::portal::Portal;
 use portal_lines::lines::{LineFault, LineReader, NextLine};
 use portal_lines::write::write_whole;
@@ -34,16 +29,27 @@ use std::alloc::{AllocError, Global};
 /// The most bytes that input may give: 2^40.
 const MOST_INPUT: u64 = 1 << 40;
 
-/// Why a run ended before the end of its input.
+/// How playing a script ended.
 #[derive(Clone, Copy, Debug, PartialEq, Eq)]
-pub enum Stop {
+pub enum PlayEnd {
+    /// Input was read to its end.
+    Done,
     /// Input's count of faults rose.
     ReadFault,
     /// Output's count of faults rose.
     WriteFault,
     /// Input gave more than 2^40 bytes.
-    TooMuch,
+    TooLong,
     /// Want of memory.
+    OutOfMemory,
+}
+
+/// Why playing stopped before the end of its input.
+#[derive(Clone, Copy, Debug, PartialEq, Eq)]
+enum Stop {
+    ReadFault,
+    WriteFault,
+    TooLong,
     OutOfMemory,
 }
 
@@ -72,59 +78,24 @@ fn write_line<O: Sink>(output: &mut O, line: &[u8]) -> Result<(), Stop>
     }
 }
 
-/// Works an event, and stops for want of memory.
-fn act_or_stop(portal: &mut Portal, event: &Event) -> Result<Reply, Stop>
-    ensures reply { IfOk result (λ reply. reply ≡ (step_of portal.old event.now).reply) }
-    ensures state { OnOk result (portal.new ≡ (step_of portal.old event.now).state) }
-    ensures stop { OnErr result (result ≡ Err Stop.OutOfMemory) }
-{
-    match portal.act(event) {
-        Reply::Refused(Refusal::OutOfMemory) => Err(Stop::OutOfMemory),
-        reply => Ok(reply),
-    }
-}
-
-/// What comes with the call of a line: its size, and the moment and the number that were drawn for it.
-#[derive(Drop)]
-struct Drawn {
-    size: u64,
-    moment: Moment,
-    nonce: Nonce,
-}
-
 /// What is replied to the call of a caller for an action with a body.
-fn replied(
+fn replied_to(
     alloc: Global,
     portal: &mut Portal,
     caller: Caller,
     action: &str,
     body: Json,
     drawn: Drawn,
-) -> Result<Result<Reply, Early>, Stop>
+) -> Result<Result<Reply, Early>, AllocError>
     ensures reply { IfOk result (λ reply. reply ≡ (replied_to portal.old
         (record { caller = caller; action = action.now; body = body }) drawn.size drawn.moment drawn.nonce.0).reply) }
     ensures state { OnOk result (portal.new ≡ (replied_to portal.old
         (record { caller = caller; action = action.now; body = body }) drawn.size drawn.moment drawn.nonce.0).state) }
-    ensures stop { OnErr result (result ≡ Err Stop.OutOfMemory) }
+    ensures kept { OnErr result (portal.new ≡ portal.old) }
 {
-    let request = match request_on(alloc, action, body) {
-        Ok(request) => request,
-        Err(Early::OutOfMemory) => return Err(Stop::OutOfMemory),
-        Err(early) => return Ok(Err(early)),
-    };
-    let Drawn {
-        size,
-        moment,
-        nonce,
-    } = drawn;
-    let event = Event::Call(Call {
-        caller: portal.known(caller),
-        request,
-        size,
-        moment,
-        nonce,
-    });
-    Ok(Ok(act_or_stop(portal, &event)?))
+    let caller = portal.known(caller);
+    let request = request_on(alloc, action, body);
+    replied(portal, caller, request, drawn)
 }
 
 /// Works the call that a line asks for, and makes the line that is written for it.
@@ -133,21 +104,21 @@ fn work_call(
     portal: &mut Portal,
     said: ScriptCall,
     drawn: Drawn,
-) -> Result<Seq<u8>, Stop>
+) -> Result<Seq<u8>, AllocError>
     ensures line { IfOk result (λ line. line ≡ reply_line (Some said.action)
         (replied_to portal.old (asked said) drawn.size drawn.moment drawn.nonce.0).reply) }
     ensures state { OnOk result (portal.new
         ≡ (replied_to portal.old (asked said) drawn.size drawn.moment drawn.nonce.0).state) }
-    ensures stop { OnErr result (result ≡ Err Stop.OutOfMemory) }
+    ensures stopped { OnErr result ((portal.new ≡ portal.old) ⊎ (portal.new
+        ≡ (replied_to portal.old (asked said) drawn.size drawn.moment drawn.nonce.0).state)) }
 {
     let ScriptCall {
         caller,
         action,
         body,
     } = said;
-    let reply = replied(alloc, portal, caller, action.as_str(), body, drawn)?;
-    let line = line_of_reply(alloc, Some(action.as_str()), &reply)?;
-    Ok(line)
+    let reply = replied_to(alloc, portal, caller, action.as_str(), body, drawn)?;
+    line_of_reply(alloc, Some(action.as_str()), &reply)
 }
 
 /// Plays the call that a line asks for.
@@ -164,7 +135,7 @@ fn play_call<O: Sink, C: Clock, N: Nonces>(
     ensures ok { OnOk result (WorksLines portal.old (line.now ∷ []) portal.new
         (outlet (O.taken output.old) (C.given clock.old) (N.given nonces.old))
         (outlet (O.taken output.new) (C.given clock.new) (N.given nonces.new))) }
-    ensures cut { OnErr result (StopsLines portal.old (line.now ∷ [])
+    ensures cut { OnErr result (StopsLines portal.old (line.now ∷ []) portal.new
         (outlet (O.taken output.old) (C.given clock.old) (N.given nonces.old))
         (outlet (O.taken output.new) (C.given clock.new) (N.given nonces.new))) }
     ensures fault { result ≡ Err Stop.WriteFault → Rose (O.faults output.old) (O.faults output.new) }
@@ -174,16 +145,12 @@ fn play_call<O: Sink, C: Clock, N: Nonces>(
     let moment = clock.now();
     let nonce = nonces.next();
     let size = line.len() as u64;
-    let text = work_call(
-        alloc,
-        portal,
-        said,
-        Drawn {
-            size,
-            moment,
-            nonce,
-        },
-    )?;
+    let drawn = Drawn {
+        size,
+        moment,
+        nonce,
+    };
+    let text = work_call(alloc, portal, said, drawn)?;
     write_line(output, text.as_slice())
 }
 
@@ -212,7 +179,7 @@ fn play_full_line<O: Sink, C: Clock, N: Nonces>(
     ensures ok { OnOk result (WorksLines portal.old (line.now ∷ []) portal.new
         (outlet (O.taken output.old) (C.given clock.old) (N.given nonces.old))
         (outlet (O.taken output.new) (C.given clock.new) (N.given nonces.new))) }
-    ensures cut { OnErr result (StopsLines portal.old (line.now ∷ [])
+    ensures cut { OnErr result (StopsLines portal.old (line.now ∷ []) portal.new
         (outlet (O.taken output.old) (C.given clock.old) (N.given nonces.old))
         (outlet (O.taken output.new) (C.given clock.new) (N.given nonces.new))) }
     ensures fault { result ≡ Err Stop.WriteFault → Rose (O.faults output.old) (O.faults output.new) }
@@ -239,7 +206,7 @@ fn play_line<O: Sink, C: Clock, N: Nonces>(
     ensures ok { OnOk result (WorksLines portal.old (unless_empty line.now) portal.new
         (outlet (O.taken output.old) (C.given clock.old) (N.given nonces.old))
         (outlet (O.taken output.new) (C.given clock.new) (N.given nonces.new))) }
-    ensures cut { OnErr result (StopsLines portal.old (unless_empty line.now)
+    ensures cut { OnErr result (StopsLines portal.old (unless_empty line.now) portal.new
         (outlet (O.taken output.old) (C.given clock.old) (N.given nonces.old))
         (outlet (O.taken output.new) (C.given clock.new) (N.given nonces.new))) }
     ensures fault { result ≡ Err Stop.WriteFault → Rose (O.faults output.old) (O.faults output.new) }
@@ -258,7 +225,7 @@ fn stop_of(fault: LineFault) -> Stop
 {
     match fault {
         LineFault::Failed => Stop::ReadFault,
-        LineFault::TooMuch => Stop::TooMuch,
+        LineFault::TooMuch => Stop::TooLong,
         LineFault::OutOfMemory => Stop::OutOfMemory,
     }
 }
@@ -286,12 +253,13 @@ fn play_next<S: Source, O: Sink, C: Clock, N: Nonces>(
         (devices (S.to_come input.new) (O.taken output.new) (C.given clock.new) (N.given nonces.new)) }
     ensures within { OnOk result (reader.new.given ≤ reader.new.most) }
 
-    ensures cut { IfErr result (λ stop. StopsTurn (begun_at stop) portal.old reader.old reader.new
+    ensures cut { IfErr result (λ stop. StopsTurn (begun_at stop) portal.old portal.new
+        reader.old reader.new
         (devices (S.to_come input.old) (O.taken output.old) (C.given clock.old) (N.given nonces.old))
         (devices (S.to_come input.new) (O.taken output.new) (C.given clock.new) (N.given nonces.new))) }
     ensures read_fault { result ≡ Err Stop.ReadFault → Rose (S.faults input.old) (S.faults input.new) }
     ensures write_fault { result ≡ Err Stop.WriteFault → Rose (O.faults output.old) (O.faults output.new) }
-    ensures too_much { (result ≡ Err Stop.TooMuch) ↔ (reader.new.most < reader.new.given) }
+    ensures too_long { (result ≡ Err Stop.TooLong) ↔ (reader.new.most < reader.new.given) }
     ensures reads { S.faults input.old ≤ S.faults input.new }
     ensures writes { O.faults output.old ≤ O.faults output.new }
 {
@@ -309,46 +277,80 @@ fn play_next<S: Source, O: Sink, C: Clock, N: Nonces>(
     }
 }
 
-/// Plays the script on input from the stated portal, and writes its transcript to output.
-pub fn play<S: Source, O: Sink, C: Clock, N: Nonces>(
+/// Works the lines of input in order.
+fn play_lines<S: Source, O: Sink, C: Clock, N: Nonces>(
     alloc: Global,
+    portal: &mut Portal,
     input: &mut S,
     output: &mut O,
     clock: &mut C,
     nonces: &mut N,
 ) -> Result<(), Stop>
-    // Where input tells, all of it was read, and output took its transcript.
-    ensures done { OnOk result ((whole : List ℕ) → S.to_come input.old ≡ Some whole → PlaysAll stated_state whole
+    ensures done { OnOk result ((whole : List ℕ) → S.to_come input.old ≡ Some whole
+        → PlaysAll portal.old whole portal.new
         (devices (S.to_come input.old) (O.taken output.old) (C.given clock.old) (N.given nonces.old))
         (devices (S.to_come input.new) (O.taken output.new) (C.given clock.new) (N.given nonces.new))) }
     ensures cut { IfErr result (λ stop. (whole : List ℕ) → S.to_come input.old ≡ Some whole
-        → PlaysPart (begun_at stop) stated_state whole
+        → PlaysPart (begun_at stop) portal.old whole portal.new
         (devices (S.to_come input.old) (O.taken output.old) (C.given clock.old) (N.given nonces.old))
         (devices (S.to_come input.new) (O.taken output.new) (C.given clock.new) (N.given nonces.new))) }
 
     ensures read_fault { result ≡ Err Stop.ReadFault → Rose (S.faults input.old) (S.faults input.new) }
     ensures write_fault { result ≡ Err Stop.WriteFault → Rose (O.faults output.old) (O.faults output.new) }
-    ensures too_much { (whole : List ℕ) → S.to_come input.old ≡ Some whole →
-        ((result ≡ Err Stop.TooMuch) ↔ GaveTooMuch whole (S.to_come input.new)) }
+    ensures too_long { (whole : List ℕ) → S.to_come input.old ≡ Some whole →
+        ((result ≡ Err Stop.TooLong) ↔ GaveTooMuch whole (S.to_come input.new)) }
 {
-    let mut portal = stated_portal(alloc)?;
     let mut reader = match LineReader::new(alloc, LONGEST_LINE, MOST_INPUT) {
         Ok(reader) => reader,
         Err(_refused) => return Err(Stop::OutOfMemory),
     };
     'lines: loop {
-        match play_next(
-            alloc,
-            &mut portal,
-            &mut reader,
-            input,
-            output,
-            clock,
-            nonces,
-        ) {
+        match play_next(alloc, portal, &mut reader, input, output, clock, nonces) {
             Ok(true) => {}
             Ok(false) => return Ok(()),
             Err(stop) => return Err(stop),
         }
     }
+}
+
+fn end_of(ended: Result<(), Stop>) -> PlayEnd
+    ensures { result ≡ end_of ended }
+{
+    match ended {
+        Ok(()) => PlayEnd::Done,
+        Err(Stop::ReadFault) => PlayEnd::ReadFault,
+        Err(Stop::WriteFault) => PlayEnd::WriteFault,
+        Err(Stop::TooLong) => PlayEnd::TooLong,
+        Err(Stop::OutOfMemory) => PlayEnd::OutOfMemory,
+    }
+}
+
+/// Plays the script on input, and writes its transcript to output. Of the input it holds one line and what was read at
+/// once.
+pub fn play<S: Source, O: Sink, C: Clock, N: Nonces>(
+    alloc: Global,
+    portal: &mut Portal,
+    input: &mut S,
+    output: &mut O,
+    clock: &mut C,
+    nonces: &mut N,
+) -> PlayEnd
+    // Where input tells, all of it was read, output took its transcript, and the portal is in the state in which the
+    // script ends.
+    ensures done { result ≡ PlayEnd.Done → (whole : List ℕ) → S.to_come input.old ≡ Some whole
+        → PlaysAll portal.old whole portal.new
+        (devices (S.to_come input.old) (O.taken output.old) (C.given clock.old) (N.given nonces.old))
+        (devices (S.to_come input.new) (O.taken output.new) (C.given clock.new) (N.given nonces.new)) }
+    // Else what was drawn, what output took and the portal's state belong to one place in the script.
+    ensures cut { result ≢ PlayEnd.Done → (whole : List ℕ) → S.to_come input.old ≡ Some whole
+        → PlaysPart (most_begun result) portal.old whole portal.new
+        (devices (S.to_come input.old) (O.taken output.old) (C.given clock.old) (N.given nonces.old))
+        (devices (S.to_come input.new) (O.taken output.new) (C.given clock.new) (N.given nonces.new)) }
+
+    ensures read_fault { result ≡ PlayEnd.ReadFault → Rose (S.faults input.old) (S.faults input.new) }
+    ensures write_fault { result ≡ PlayEnd.WriteFault → Rose (O.faults output.old) (O.faults output.new) }
+    ensures too_long { (whole : List ℕ) → S.to_come input.old ≡ Some whole →
+        ((result ≡ PlayEnd.TooLong) ↔ GaveTooMuch whole (S.to_come input.new)) }
+{
+    end_of(play_lines(alloc, portal, input, output, clock, nonces))
 }

@@ -1,7 +1,11 @@
-//! The portal that every run begins with: five users and one organization.
-ghost use Rattle.std.specs.Prelude.{◌≡◌, [], ◌∷◌, pos, IfOk};
+//! The stated portal, with which a run begins where no portal file is named: five users with their tokens, and one
+//! organization.
+ghost use Rattle.std.specs.Prelude.{◌≡◌, [], ◌∷◌, ◌++◌, codes, pos, IfOk};
 ghost use Rattle.portal_serve.specs.Stated.{a_user, city_role, stated_users, stated_org, stated_roles, stated_state};
+ghost use Rattle.portal_serve.specs.Stated.{stated_digests};
+ghost use Rattle.portal_serve.specs.Tokens.{digest_of};
 
+use crate::tokens::{Tokens, digest_of};
 use org_roles::entry::{Membership, Org, User};
 use org_roles::role::Role;
 use portal_base::moment::Moment;
@@ -88,4 +92,27 @@ pub fn stated_portal(alloc: Global) -> Result<Portal, AllocError>
         Ok(portal) => Ok(portal),
         Err(_fault) => Err(AllocError),
     }
+}
+
+/// A user of the stated portal with the digest of its token, which is `token-` and the name.
+fn stated_digest(alloc: Global, name: &str) -> Result<(Text, Text), AllocError>
+    ensures { IfOk result (λ pair. pair ≡ (name.now, digest_of (codes "token-" ++ name.now))) }
+{
+    let token = format!(in alloc; "token-{name}")?;
+    let digest = digest_of(alloc, token.as_str())?;
+    let user = Text::from_str(alloc, name)?;
+    Ok((user, Text::from(digest)))
+}
+
+/// The tokens of the stated portal's users.
+pub fn stated_tokens(alloc: Global) -> Result<Tokens, AllocError>
+    ensures { IfOk result (λ tokens. tokens ≡ stated_digests) }
+{
+    let mut pairs = Vec::with_capacity(alloc, 5)?;
+    pairs.push(stated_digest(alloc, "ann")?)?;
+    pairs.push(stated_digest(alloc, "bob")?)?;
+    pairs.push(stated_digest(alloc, "cyn")?)?;
+    pairs.push(stated_digest(alloc, "dan")?)?;
+    pairs.push(stated_digest(alloc, "root")?)?;
+    Ok(Tokens::new(Seq::from(pairs)))
 }

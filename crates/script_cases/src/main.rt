@@ -1,16 +1,21 @@
-//! Worked examples of scripts: what playing them in memory writes, and how it ends.
+//! Worked examples of scripts and of links: what playing the one and serving the others in memory writes, and how it
+//! ends.
 //!
 //! Each file `NAME.script` of the folder that the program runs in is played, and `NAME.transcript` has what is wanted:
 //! the lines that are written, and behind them `status N` where the run ends with another status than 0. So a further
-//! case is two files.
+//! case is two files. So it is for links: each `NAME.request` is what comes over one, and `NAME.response` what is
+//! written to it; they are served one after another, by their names, on one portal.
 #![tactic(auto)]
+
+mod links;
 
 use cases::Tally;
 use cases::tally::Place;
 use portal_base::counted::{CountNonces, ScriptClock};
 use portal_base::memory::{MemorySink, MemorySource};
 use portal_base::seq::Seq;
-use portal_serve::play::{Stop, play};
+use portal_serve::play::{PlayEnd, play};
+use portal_serve::stated::stated_portal;
 use std::alloc::{AllocError, Global};
 use std::process::ExitCode;
 use std::{fs, io};
@@ -25,14 +30,14 @@ struct Played {
     written: Vec<u8>,
 }
 
-/// Why playing stopped, as the program's status tells it; 0 where it came to the end.
-fn code_of(played: Result<(), Stop>) -> u8 {
-    match played {
-        Ok(()) => 0,
-        Err(Stop::ReadFault) => 3,
-        Err(Stop::WriteFault) => 4,
-        Err(Stop::OutOfMemory) => 6,
-        Err(Stop::TooMuch) => 9,
+/// How playing ended, as the program's status tells it.
+fn code_of(end: PlayEnd) -> u8 {
+    match end {
+        PlayEnd::Done => 0,
+        PlayEnd::ReadFault => 3,
+        PlayEnd::WriteFault => 4,
+        PlayEnd::OutOfMemory => 6,
+        PlayEnd::TooLong => 9,
     }
 }
 
@@ -40,8 +45,10 @@ fn code_of(played: Result<(), Stop>) -> u8 {
 fn play_in_memory(alloc: Global, script: &[u8]) -> Result<Played, AllocError> {
     let mut input = MemorySource::new(Seq::from(script.to_vec(alloc)?), Seq::new(alloc));
     let mut output = MemorySink::new(alloc, ROOM, Seq::new(alloc))?;
+    let mut portal = stated_portal(alloc)?;
     let ended = play(
         alloc,
+        &mut portal,
         &mut input,
         &mut output,
         &mut ScriptClock::new(),
@@ -63,7 +70,7 @@ fn transcript(alloc: Global, script: &[u8]) -> io::Result<Vec<u8>> {
 }
 
 /// The line of the first byte in which the two differ, the first one 1.
-fn line_of_difference(wanted: &[u8], found: &[u8]) -> u64 {
+pub fn line_of_difference(wanted: &[u8], found: &[u8]) -> u64 {
     let mut line: u64 = 1;
     for (one, other) in wanted.iter().zip(found.iter()) {
         if one != other {
@@ -90,12 +97,12 @@ fn check_script(rt: &HostRuntime, tally: &mut Tally, name: &str) -> io::Result<(
     tally.compare(rt, place, wanted.as_slice(), found.as_slice())
 }
 
-/// The names of the folder's scripts, ascending.
-fn script_names(rt: &HostRuntime) -> io::Result<Vec<String>> {
+/// What stands before the ending in the names of the folder's files with it, ascending.
+pub fn names_with(rt: &HostRuntime, ending: &str) -> io::Result<Vec<String>> {
     let mut names = Vec::new(rt.alloc());
     for entry in fs::read_dir(rt, ".")? {
         let entry = entry?;
-        if let Some(name) = entry.file_name().strip_suffix(".script") {
+        if let Some(name) = entry.file_name().strip_suffix(ending) {
             names.push(String::from_str(rt.alloc(), name)?)?;
         }
     }
@@ -105,8 +112,9 @@ fn script_names(rt: &HostRuntime) -> io::Result<Vec<String>> {
 
 fn main(rt: HostRuntime) -> io::Result<ExitCode> {
     let mut tally = Tally::new();
-    for name in script_names(&rt)?.iter() {
+    for name in names_with(&rt, ".script")?.iter() {
         check_script(&rt, &mut tally, name.as_str())?;
     }
+    links::check_links(&rt, &mut tally)?;
     tally.end(&rt)
 }

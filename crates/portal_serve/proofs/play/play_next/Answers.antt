@@ -8,9 +8,9 @@ use Rattle.portal_serve.proofs.play.play_next.Goals as goal
 
 pub returns-in-Err-play_line-clause-cut : goal.returns-in-Err-play_line-clause-cut
 returns-in-Err-play_line-clause-cut g c =
-    stops_turn _ _ _ _ _ _ _ (c.next.ensures.line (c.in-Ok-Line.is ∙ ap Ok c.in-Ok-Line.field-0-is))
+    stops_turn _ _ _ _ _ _ _ _ (c.next.ensures.line (c.in-Ok-Line.is ∙ ap Ok c.in-Ok-Line.field-0-is))
     (begun_in_line _ c.in-Err-play_line.ensures.stop)
-    (stops_same_line _ _ _ _ _ c.line.ensures c.in-Err-play_line.ensures.cut)
+    (stops_same_line _ _ _ _ _ _ c.line.ensures c.in-Err-play_line.ensures.cut)
 
 pub returns-in-Ok-write_early-clause-more : goal.returns-in-Ok-write_early-clause-more
 returns-in-Ok-write_early-clause-more g c =
@@ -27,11 +27,11 @@ pub returns-in-Err-write_early-clause-cut : goal.returns-in-Err-write_early-clau
 returns-in-Err-write_early-clause-cut g c =
     let skips = c.next.ensures.long (c.in-Ok-TooLong.is ∙ ap Ok c.in-Ok-TooLong.field-0-is) in
     let long : LONGEST_LINE < length skips.0 = subst (λ n. n < length skips.0) c.requires skips.2 in
-    stops_turn _ _ _ _ _ _ skips.0 skips.1 (begun_in_line _ c.in-Err-write_early.ensures.stop)
+    stops_turn _ _ _ _ _ _ _ skips.0 skips.1 (begun_in_line _ c.in-Err-write_early.ensures.stop)
     (stops_in_writing _ _ _ _ _ _ _ _ (works_too_long _ skips.0 long) (DrawsAll-none _) (DrawsAll-none _)
     c.in-Err-write_early.ensures.failed)
 
 pub returns-in-Err-clause-cut : goal.returns-in-Err-clause-cut
 returns-in-Err-clause-cut g c =
     let received = c.in-Err.ensures.received in
-    stops_between _ _ _ _ _ _ received.0 received.1 received.2 (begins_no_line _ _ _ refl)
+    stops_between _ _ _ _ _ _ _ received.0 received.1 received.2 (begins_no_line _ _ _ refl)

@@ -2,12 +2,12 @@ use Rattle.std.proofs.Common.{◌≤◌}
 use Rattle.portal_lines.specs.Lines.{bytes_left}
 use Rattle.portal_serve.proofs.Playing.{Keeps}
 use Rattle.portal_serve.specs.Run.{devices}
-use Rattle.portal_serve.proofs.play.play.Given as goal
+use Rattle.portal_serve.proofs.play.play_lines.Given as goal
 
 -- what the lines so far did, and that no count of faults fell
 abbrev pub invariant-lines : goal.invariant-lines
 invariant-lines g l = record {
-  kept : Keeps
+  kept : Keeps l.fn.portal
       (devices (g.S.Source.to_come l.fn.input) (g.O.Sink.taken l.fn.output) (g.C.Clock.given l.fn.clock)
       (g.N.Nonces.given l.fn.nonces))
       (devices (g.S.Source.to_come l.input) (g.O.Sink.taken l.output) (g.C.Clock.given l.clock)

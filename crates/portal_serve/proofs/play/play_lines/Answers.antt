@@ -1,19 +1,15 @@
 -- Each turn carries the run on, and the last one ends it.
 use Rattle.std.proofs.Common.{ap, Ok, ◌∙◌, arith}
-use Rattle.portal_serve.proofs.Working.{if_err_always}
 use Rattle.portal_serve.proofs.Playing.{keeps_start, keeps_turn, keeps_all, keeps_part, gave_too_much, gave_within}
 use Rattle.portal_serve.proofs.Playing.{same_err, plays_nothing}
-use Rattle.portal_serve.proofs.play.play.Goals as goal
-
-pub returns-in_err-portal-clause-cut : goal.returns-in_err-portal-clause-cut
-returns-in_err-portal-clause-cut g c = if_err_always c.from_residual.result (λ stop. plays_nothing _ _)
+use Rattle.portal_serve.proofs.play.play_lines.Goals as goal
 
 pub returns-in-Err-clause-cut : goal.returns-in-Err-clause-cut
-returns-in-Err-clause-cut g c = plays_nothing _ _
+returns-in-Err-clause-cut g c = plays_nothing _ _ _
 
 pub lines-init : goal.lines-init
 lines-init g c = record {
-  kept = keeps_start _ _ _ c.in_ok-portal.ensures c.in-Ok.ensures;
+  kept = keeps_start _ _ _ c.in-Ok.ensures;
   reads = omega arith;
   writes = omega arith;
 }
@@ -22,7 +18,7 @@ pub lines-preserved : goal.lines-preserved
 lines-preserved g c =
     let one_more = c.in-Ok-true.is ∙ ap Ok c.in-Ok-true.field-0-test in
     record {
-      kept = keeps_turn _ _ _ _ _ _ _ c.lines.invariant.kept (c.play_next.ensures.more one_more)
+      kept = keeps_turn _ _ _ _ _ _ _ _ c.lines.invariant.kept (c.play_next.ensures.more one_more)
           c.play_next.ensures.longest c.play_next.ensures.most;
       reads = omega (arith, c.lines.invariant.reads, c.play_next.ensures.reads);
       writes = omega (arith, c.lines.invariant.writes, c.play_next.ensures.writes);
@@ -30,28 +26,28 @@ lines-preserved g c =
 
 pub returns-in-Ok-false-clause-done : goal.returns-in-Ok-false-clause-done
 returns-in-Ok-false-clause-done g c =
-    keeps_all _ _ _ _ _ _ _ c.lines.invariant.kept
+    keeps_all _ _ _ _ _ _ _ _ c.lines.invariant.kept
     (c.play_next.ensures.end (c.in-Ok-false.is ∙ ap Ok c.in-Ok-false.field-0-test)) c.play_next.ensures.most
     c.in-Ok-false.ensures.within
 
 pub returns-in-Err-play_next-clause-cut : goal.returns-in-Err-play_next-clause-cut
-returns-in-Err-play_next-clause-cut g c = keeps_part _ _ _ _ _ _ _ c.lines.invariant.kept c.in-Err-play_next.ensures.cut
+returns-in-Err-play_next-clause-cut g c = keeps_part _ _ _ _ _ _ _ _ _ c.lines.invariant.kept c.in-Err-play_next.ensures.cut
 
-pub returns-in-Ok-false-clause-too_much : goal.returns-in-Ok-false-clause-too_much
-returns-in-Ok-false-clause-too_much g c =
+pub returns-in-Ok-false-clause-too_long : goal.returns-in-Ok-false-clause-too_long
+returns-in-Ok-false-clause-too_long g c =
     λ whole told.
     let all =
-    keeps_all _ _ _ _ _ _ _ c.lines.invariant.kept
+    keeps_all _ _ _ _ _ _ _ _ c.lines.invariant.kept
     (c.play_next.ensures.end (c.in-Ok-false.is ∙ ap Ok c.in-Ok-false.field-0-test)) c.play_next.ensures.most
     c.in-Ok-false.ensures.within whole told in
-    (λ is. absurd (cc), λ gave. absurd (gave_within _ _ _ _ all gave))
+    (λ is. absurd (cc), λ gave. absurd (gave_within _ _ _ _ _ all gave))
 
-pub returns-in-Err-play_next-clause-too_much : goal.returns-in-Err-play_next-clause-too_much
-returns-in-Err-play_next-clause-too_much g c =
+pub returns-in-Err-play_next-clause-too_long : goal.returns-in-Err-play_next-clause-too_long
+returns-in-Err-play_next-clause-too_long g c =
     λ whole told.
-    let much = gave_too_much _ _ _ _ _ _ _ c.lines.invariant.kept c.in-Err-play_next.ensures.cut
+    let much = gave_too_much _ _ _ _ _ _ _ _ _ c.lines.invariant.kept c.in-Err-play_next.ensures.cut
     c.play_next.ensures.most whole told in (
-      λ is. much.0 (c.in-Err-play_next.ensures.too_much.0 (same_err _ _ is)),
+      λ is. much.0 (c.in-Err-play_next.ensures.too_long.0 (same_err _ _ is)),
       λ gave. same_err _ _
-          (c.in-Err-play_next.ensures.too_much.1 (much.1 gave)),
+          (c.in-Err-play_next.ensures.too_long.1 (much.1 gave)),
     )

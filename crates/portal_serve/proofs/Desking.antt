@@ -1,0 +1,242 @@
+-- Links that a desk served after others.
+use Rattle.std.proofs.Common.{◌≡◌, ◌⊎◌, ℕ, zero, suc, ◌+◌, ◌≤◌, List, [], ◌∷◌, ◌++◌, length, Bool, true, false, Result, Option, Some, None, Ok, Err}
+use Rattle.std.proofs.Common.{map, refl, sym, ap, subst, ◌∙◌, append_assoc, append-nil, length-append, arith}
+use Rattle.std.proofs.Common.{inl, inr}
+use Rattle.std.specs.Prelude.{option_map, IsTrue}
+use Rattle.std.proofs.lemmas.List.{map-append}
+use Rattle.portal_base.specs.Counted.{next_count}
+use Rattle.portal_base.specs.Outside.{GivesOne, Rose}
+use Rattle.portal_base.specs.declared.outside.Failed.{Failed}
+use Rattle.portal_core.specs.State.{State}
+use Rattle.portal_serve.proofs.Working.{DrawsAll-none, DrawsAll-more, Rose-before}
+use Rattle.portal_serve.specs.Desk.{Visit, DeskSight, ServesAll, ServesLinks, ServesNext, ServesDesk, GivesAll}
+use Rattle.portal_serve.specs.Desk.{TakesAll}
+use Rattle.portal_serve.specs.Desk.{counted}
+use Rattle.portal_serve.specs.Run.{DrawsAll}
+use Rattle.portal_serve.specs.Served.{LinkSight, Serves}
+use Rattle.portal_serve.specs.Tokens.{Digests}
+use Rattle.portal_serve.specs.declared.serve.Served.{Served}
+
+serves_all_more : {Peer : Type 0} (sight : Peer → LinkSight) (digests : Digests) (state middle after : State)
+    (visits more : List (Visit Peer))
+    → ServesAll sight digests state visits middle → ServesAll sight digests middle more after
+    → ServesAll sight digests state (visits ++ more) after
+serves_all_more sight digests state middle after [] more first second =
+    subst (λ s. ServesAll sight digests s more after) first second
+serves_all_more sight digests state middle after (v ∷ visits) more first second =
+    (first.0, first.1, first.2, serves_all_more sight digests first.0 middle after visits more first.3 second)
+
+gives_none : {X : Type 0} (o : Option (List X)) → GivesAll o [] o
+gives_none None = refl
+gives_none (Some xs) = (xs, refl, refl)
+
+gives_more : {X : Type 0} (a b c : Option (List X)) (xs ys : List X) → GivesAll a xs b → GivesAll b ys c
+    → GivesAll a (xs ++ ys) c
+gives_more None b c xs ys first second = subst (λ o. GivesAll o ys c) first second
+gives_more (Some all) b c xs ys first second =
+    let rest = subst (λ o. GivesAll o ys c) first.1 second in
+    (rest.0, rest.1, first.2 ∙ ap (λ r. xs ++ r) rest.2 ∙ sym (append_assoc xs ys rest.0))
+
+takes_none : {X : Type 0} (o : Option (List X)) → TakesAll o [] o
+takes_none None = refl
+takes_none (Some xs) = ap (λ l. Some l) (sym (append-nil xs))
+
+takes_more : {X : Type 0} (a b c : Option (List X)) (xs ys : List X) → TakesAll a xs b → TakesAll b ys c
+    → TakesAll a (xs ++ ys) c
+takes_more None b c xs ys first second = second ∙ ap (option_map (λ all. all ++ ys)) first
+takes_more (Some all) b c xs ys first second =
+    second ∙ ap (option_map (λ l. l ++ ys)) first ∙ ap (λ l. Some l) (append_assoc all xs ys)
+
+counted_more : (m n count : ℕ) → counted (m + n) count ≡ counted n (counted m count)
+counted_more zero n count = let none : 0 + n ≡ n = omega arith in ap (λ k. counted k count) none
+counted_more (suc m) n count =
+    let one : suc m + n ≡ suc (m + n) = omega arith in
+    ap (λ k. counted k count) one ∙ counted_more m n (next_count count)
+
+-- what served links, and how many
+abbrev pub Counted : {Peer : Type 0} → (Peer → LinkSight) → Digests → State → ℕ → DeskSight Peer → DeskSight Peer
+    → State → ℕ → Type 0
+Counted sight digests state most old new after count =
+    (s : ServesLinks sight digests state most old new after) × (length s.visits ≡ count)
+
+-- no link was served, and nothing but the count of faults changed
+pub serves_none : {Peer : Type 0} (sight : Peer → LinkSight) (digests : Digests) (state : State) (most : ℕ)
+    (old new : DeskSight Peer) → new.to_come ≡ old.to_come → new.taken_back ≡ old.taken_back → new.count ≡ old.count
+    → new.moments ≡ old.moments → new.nonces ≡ old.nonces → Counted sight digests state most old new state 0
+serves_none sight digests state most old new to_come taken_back count moments nonces = (
+  record {
+    visits = [];
+    serves = refl;
+    few = omega arith;
+    came = subst (λ o. GivesAll old.to_come [] o) (sym to_come) (gives_none old.to_come);
+    back = taken_back ∙ takes_none old.taken_back;
+    count = count;
+    clock = subst (λ o. DrawsAll old.moments [] o) (sym moments) (DrawsAll-none old.moments);
+    numbers = subst (λ o. DrawsAll old.nonces [] o) (sym nonces) (DrawsAll-none old.nonces);
+  },
+  refl,
+)
+
+pub gives_one : {X : Type 0} (old new : Option (List X)) (x : X) → GivesOne old x new → GivesAll old (x ∷ []) new
+gives_one None new x gave = gave
+gives_one (Some all) None x gave = absurd gave
+gives_one (Some all) (Some rest) x gave = (rest, refl, gave)
+
+-- one link was served
+pub serves_one : {Peer : Type 0} (sight : Peer → LinkSight) (digests : Digests) (state after : State) (end : Served)
+    (old new : DeskSight Peer) (v : Visit Peer)
+    → Serves digests state v.moment v.nonce (sight v.link) (sight v.back) end after
+    → GivesAll old.to_come (v.link ∷ []) new.to_come → TakesAll old.taken_back (v.back ∷ []) new.taken_back
+    → new.count ≡ next_count old.count → DrawsAll old.moments (v.moment ∷ []) new.moments
+    → DrawsAll old.nonces (v.nonce ∷ []) new.nonces → Counted sight digests state 1 old new after 1
+serves_one sight digests state after end old new v serves came back count clock numbers = (
+  record {
+    visits = v ∷ [];
+    serves = (after, end, serves, refl);
+    few = omega arith;
+    came = came;
+    back = back;
+    count = count;
+    clock = clock;
+    numbers = numbers;
+  },
+  refl,
+)
+
+-- links were served, and then others
+pub serves_more : {Peer : Type 0} (sight : Peer → LinkSight) (digests : Digests) (state middle after : State)
+    (first second most m n : ℕ) (a b c : DeskSight Peer)
+    → m + n ≤ most → Counted sight digests state first a b middle m → Counted sight digests middle second b c after n
+    → Counted sight digests state most a c after (m + n)
+serves_more {Peer} sight digests state middle after first second most m n a b c both xs ys =
+    let x = xs.0 in
+    let y = ys.0 in
+    let total : length (x.visits ++ y.visits) ≡ length x.visits + length y.visits = length-append x.visits y.visits in (
+      record {
+        visits = x.visits ++ y.visits;
+        serves = serves_all_more sight digests state middle after x.visits y.visits x.serves y.serves;
+        few = omega (arith, total, both, xs.1, ys.1);
+        came = subst (λ l. GivesAll a.to_come l c.to_come) (sym (map-append (λ v. v.link) x.visits y.visits))
+            (gives_more a.to_come b.to_come c.to_come (map (λ v. v.link) x.visits) (map (λ v. v.link) y.visits) x.came
+            y.came);
+        back = subst (λ l. TakesAll a.taken_back l c.taken_back) (sym (map-append (λ v. v.back) x.visits y.visits))
+            (takes_more a.taken_back b.taken_back c.taken_back (map (λ v. v.back) x.visits)
+            (map (λ v. v.back) y.visits) x.back y.back);
+        count = y.count ∙ ap (counted (length y.visits)) x.count
+            ∙ sym (ap (λ k. counted k a.count) total ∙ counted_more (length x.visits) (length y.visits) a.count);
+        clock = subst (λ l. DrawsAll a.moments l c.moments) (sym (map-append (λ v. v.moment) x.visits y.visits))
+            (DrawsAll-more a.moments b.moments c.moments (map (λ v. v.moment) x.visits)
+            (map (λ v. v.moment) y.visits) x.clock y.clock);
+        numbers = subst (λ l. DrawsAll a.nonces l c.nonces) (sym (map-append (λ v. v.nonce) x.visits y.visits))
+            (DrawsAll-more a.nonces b.nonces c.nonces (map (λ v. v.nonce) x.visits) (map (λ v. v.nonce) y.visits)
+            x.numbers y.numbers);
+      },
+      omega (arith, total, xs.1, ys.1),
+    )
+
+-- a greater most
+pub serves_within : {Peer : Type 0} (sight : Peer → LinkSight) (digests : Digests) (state after : State)
+    (first most m : ℕ) (a b : DeskSight Peer) → m ≤ most → Counted sight digests state first a b after m
+    → Counted sight digests state most a b after m
+serves_within sight digests state after first most m a b within xs =
+    let x = xs.0 in (
+      record {
+        visits = x.visits;
+        serves = x.serves;
+        few = omega (arith, within, xs.1);
+        came = x.came;
+        back = x.back;
+        count = x.count;
+        clock = x.clock;
+        numbers = x.numbers;
+      },
+      xs.1,
+    )
+
+-- ---- one turn of a desk
+
+-- the listener failed
+pub next_failed : {Peer : Type 0} (sight : Peer → LinkSight) (digests : Digests) (state : State)
+    (old new : DeskSight Peer) (fault : Failed) → new.to_come ≡ old.to_come → new.taken_back ≡ old.taken_back
+    → new.count ≡ old.count → new.moments ≡ old.moments → new.nonces ≡ old.nonces → Rose old.faults new.faults
+    → ServesNext sight digests state old new state (Err fault)
+next_failed sight digests state old new fault to_come taken_back count moments nonces rose = record {
+  served = (serves_none sight digests state 1 old new to_come taken_back count moments nonces).0;
+  one = λ is. absurd (cc);
+  ended = λ is. absurd (cc);
+  failed = rose;
+}
+
+-- there was no link
+pub next_none : {Peer : Type 0} (sight : Peer → LinkSight) (digests : Digests) (state : State)
+    (old new : DeskSight Peer) → new.to_come ≡ old.to_come → new.taken_back ≡ old.taken_back
+    → new.count ≡ old.count → new.moments ≡ old.moments → new.nonces ≡ old.nonces → IsTrue new.is_at_end
+    → ServesNext sight digests state old new state (Ok false)
+next_none sight digests state old new to_come taken_back count moments nonces at_end = record {
+  served = (serves_none sight digests state 1 old new to_come taken_back count moments nonces).0;
+  one = λ is. absurd (cc);
+  ended = λ is. at_end;
+  failed = tt;
+}
+
+-- a link was served; between, the listener had these still to come, these taken back, and so many
+pub next_one : {Peer : Type 0} (sight : Peer → LinkSight) (digests : Digests) (state after : State) (end : Served)
+    (old new : DeskSight Peer) (v : Visit Peer) (to_come taken_back : Option (List Peer)) (count : ℕ)
+    → Serves digests state v.moment v.nonce (sight v.link) (sight v.back) end after
+    → GivesOne old.to_come v.link to_come → new.to_come ≡ to_come
+    → taken_back ≡ old.taken_back → TakesAll taken_back (v.back ∷ []) new.taken_back
+    → count ≡ old.count → new.count ≡ next_count count
+    → DrawsAll old.moments (v.moment ∷ []) new.moments → DrawsAll old.nonces (v.nonce ∷ []) new.nonces
+    → ServesNext sight digests state old new after (Ok true)
+next_one sight digests state after end old new v to_come taken_back count serves gave left kept back same one clock
+    numbers =
+    let served = serves_one sight digests state after end old new v serves
+    (subst (λ o. GivesAll old.to_come (v.link ∷ []) o) (sym left) (gives_one old.to_come to_come v.link gave))
+    (subst (λ o. TakesAll o (v.back ∷ []) new.taken_back) kept back) (one ∙ ap next_count same) clock numbers in
+    record { served = served.0; one = λ is. served.1; ended = λ is. absurd (cc); failed = tt }
+
+-- ---- the turns of a desk
+
+-- there was no link any more
+pub desk_ends : {Peer : Type 0} (sight : Peer → LinkSight) (digests : Digests) (first state after : State)
+    (most m : ℕ) (a b c : DeskSight Peer) (result : Result Bool Failed) → result ≡ Ok false → suc m ≤ most
+    → Counted sight digests first m a b state m → ServesNext sight digests state b c after result
+    → ServesDesk sight digests first most a c after (Ok tt)
+desk_ends sight digests first state after most m a b c result none more so_far next =
+    let within : m + length next.served.visits ≤ most = omega (arith, more, next.served.few) in
+    record {
+      served = (serves_more sight digests first state after m 1 most m (length next.served.visits) a b c within so_far
+          (next.served, refl)).0;
+      ended = λ is. inl (next.ended none);
+      failed = tt;
+    }
+
+-- the listener failed
+pub desk_fails : {Peer : Type 0} (sight : Peer → LinkSight) (digests : Digests) (first state after : State)
+    (most m : ℕ) (a b c : DeskSight Peer) (fault : Failed) → suc m ≤ most → a.faults ≤ b.faults
+    → Counted sight digests first m a b state m
+    → ServesNext sight digests state b c after (Err fault) → ServesDesk sight digests first most a c after (Err fault)
+desk_fails sight digests first state after most m a b c fault more faults so_far next =
+    let within : m + length next.served.visits ≤ most = omega (arith, more, next.served.few) in
+    record {
+      served = (serves_more sight digests first state after m 1 most m (length next.served.visits) a b c within so_far
+          (next.served, refl)).0;
+      ended = λ is. absurd (cc);
+      failed = Rose-before a.faults b.faults c.faults faults next.failed;
+    }
+
+-- one link more
+pub desk_goes_on : {Peer : Type 0} (sight : Peer → LinkSight) (digests : Digests) (first state after : State)
+    (m : ℕ) (a b c : DeskSight Peer) (result : Result Bool Failed) → result ≡ Ok true
+    → Counted sight digests first m a b state m → ServesNext sight digests state b c after result
+    → Counted sight digests first (m + 1) a c after (m + 1)
+desk_goes_on sight digests first state after m a b c result one so_far next =
+    serves_more sight digests first state after m 1 (m + 1) m 1 a b c (omega arith) so_far (next.served, next.one one)
+
+-- the most links were served
+pub desk_is_full : {Peer : Type 0} (sight : Peer → LinkSight) (digests : Digests) (first after : State)
+    (most m : ℕ) (a b : DeskSight Peer) → m ≡ most → Counted sight digests first m a b after m
+    → ServesDesk sight digests first most a b after (Ok tt)
+desk_is_full sight digests first after most m a b full so_far =
+    let all = serves_within sight digests first after m most m a b (omega (arith, full)) so_far in
+    record { served = all.0; ended = λ is. inr (all.1 ∙ full); failed = tt }

@@ -1,0 +1,198 @@
+-- What is written to a connection, piece by piece.
+use Rattle.std.proofs.Common.{◌≡◌, ◌≢◌, ◌⊎◌, ℕ, ◌≤◌, List, [], ◌∷◌, Bool, true, false, Result, Ok, Err, Option, Some, None}
+use Rattle.std.proofs.Common.{refl, sym, ap, subst, ◌∙◌, take, Bor}
+use Rattle.std.proofs.Common.{rules, inl, inr}
+use Rattle.std.specs.Prelude.{IsSome, IfSome, codes}
+use Rattle.http.specs.StatusCode.{reason_phrase}
+use Rattle.serde_json.specs.Data.{boolean, string, object, no_members, member}
+use Rattle.serde_json.specs.Written.{compact_text}
+use Rattle.serde_json.proofs.OnLiterals.{serde_json_on_literals}
+use Rattle.httparse.specs.Grammar.{RequestHead}
+use Rattle.action_api.specs.Error.{bad_request, error_dictionary, memory_dictionary}
+use Rattle.action_api.specs.Query.{reads}
+use Rattle.action_api.specs.Reply.{failure_dictionary, reply_status}
+use Rattle.action_api.specs.declared.early.Early.{Early}
+use Rattle.action_api.specs.declared.early.Early.TheVariants.{TooLong, NotJson, Fraction, UnknownAction}
+use Rattle.action_api.specs.declared.early.Early.TheVariants.{OutOfMemory as no_memory}
+use Rattle.http_front.specs.Response.{response_bytes}
+use Rattle.http_front.specs.Head.{Pairs, extent, pairs_of}
+use Rattle.http_front.specs.Request.{AnswersAt, AsksOf, IsReceived, IsWanted, UnlessFails}
+use Rattle.http_front.specs.declared.fault.FrontFault.{FrontFault}
+use Rattle.http_front.specs.declared.fault.FrontFault.TheVariants as front
+use Rattle.http_front.specs.declared.incoming.Incoming.{Incoming}
+use Rattle.http_front.specs.declared.wanted.Wanted.{Wanted}
+use Rattle.portal_base.specs.Json.{data_of}
+use Rattle.portal_base.specs.Outside.{Rose, Takes, TakesPrefix}
+use Rattle.portal_base.specs.declared.json_value.Json.{the_lemmas}
+use Rattle.portal_core.specs.declared.event.Refusal.{Refusal}
+use Rattle.portal_core.specs.declared.event.Refusal.TheVariants.{NotFound, NotAuthorized, Validation, NameInUse}
+use Rattle.portal_core.specs.declared.event.Refusal.TheVariants.{OutOfMemory}
+use Rattle.portal_core.specs.declared.event.Reply.{Reply}
+use Rattle.portal_core.specs.declared.event.Reply.TheVariants.{Accepted, Shown, Refused}
+use Rattle.portal_core.specs.State.{State}
+use Rattle.portal_serve.proofs.Working.{Rose-before}
+use Rattle.portal_serve.specs.Replied.{Replied}
+use Rattle.portal_serve.specs.Served.{Answers, LinkSight, Reading, Writes, WritesFault, answer_text, error_text, fault_text}
+use Rattle.portal_serve.specs.Served.{memory_text}
+use Rattle.portal_serve.specs.declared.serve.Served.{Served}
+use Rattle.portal_serve.specs.declared.serve.Served.TheVariants as served
+
+-- ---- texts that stand in the program
+
+error_data : (kind message : List ℕ)
+    → data_of (failure_dictionary [] (error_dictionary kind message))
+    ≡ object (member (codes "error")
+    (object (member (codes "__type") (string kind) (member (codes "message") (string message) no_members)))
+    (member (codes "help") (string []) (member (codes "success") (boolean false) no_members)))
+error_data kind message = search (rules, the_lemmas)
+
+pub memory_text_is : codes "{\"error\":{\"__type\":\"Memory Error\",\"message\":\"Want of memory\"},\"help\":\"\",\"success\":false}"
+    ≡ error_text memory_dictionary
+unfolding serde_json_on_literals
+memory_text_is = sym (ap compact_text (error_data (codes "Memory Error") (codes "Want of memory")))
+
+pub head_text_is : codes "{\"error\":{\"__type\":\"Bad Request\",\"message\":\"Bad request head\"},\"help\":\"\",\"success\":false}"
+    ≡ error_text (bad_request (codes "Bad request head"))
+unfolding serde_json_on_literals
+head_text_is = sym (ap compact_text (error_data (codes "Bad Request") (codes "Bad request head")))
+
+pub length_text_is : codes "{\"error\":{\"__type\":\"Bad Request\",\"message\":\"Length required\"},\"help\":\"\",\"success\":false}"
+    ≡ error_text (bad_request (codes "Length required"))
+unfolding serde_json_on_literals
+length_text_is = sym (ap compact_text (error_data (codes "Bad Request") (codes "Length required")))
+
+pub body_text_is : codes "{\"error\":{\"__type\":\"Bad Request\",\"message\":\"Body too long\"},\"help\":\"\",\"success\":false}"
+    ≡ error_text (bad_request (codes "Body too long"))
+unfolding serde_json_on_literals
+body_text_is = sym (ap compact_text (error_data (codes "Bad Request") (codes "Body too long")))
+
+pub page_text_is : codes "{\"error\":{\"__type\":\"Not Found Error\",\"message\":\"No such page\"},\"help\":\"\",\"success\":false}"
+    ≡ error_text (error_dictionary (codes "Not Found Error") (codes "No such page"))
+unfolding serde_json_on_literals
+page_text_is = sym (ap compact_text (error_data (codes "Not Found Error") (codes "No such page")))
+
+pub method_text_is : codes "{\"error\":{\"__type\":\"Bad Request\",\"message\":\"Method not allowed\"},\"help\":\"\",\"success\":false}"
+    ≡ error_text (bad_request (codes "Method not allowed"))
+unfolding serde_json_on_literals
+method_text_is = sym (ap compact_text (error_data (codes "Bad Request") (codes "Method not allowed")))
+
+-- a reply of a status with a text
+abbrev pub reply_with : ℕ → List ℕ → Option (ℕ × List ℕ)
+reply_with status text = Some (status, text)
+
+-- ---- statuses
+
+-- each status of a reply has a phrase
+pub has_phrase : (reply : Result Reply Early) → IsSome (reason_phrase (reply_status reply))
+has_phrase (Ok (Accepted value)) = refl
+has_phrase (Ok (Shown value)) = refl
+has_phrase (Ok (Refused (NotFound kind))) = refl
+has_phrase (Ok (Refused (NotAuthorized right))) = refl
+has_phrase (Ok (Refused (Validation faults))) = refl
+has_phrase (Ok (Refused (NameInUse key))) = refl
+has_phrase (Ok (Refused OutOfMemory)) = refl
+has_phrase (Err TooLong) = refl
+has_phrase (Err NotJson) = refl
+has_phrase (Err Fraction) = refl
+has_phrase (Err (UnknownAction name)) = refl
+has_phrase (Err no_memory) = refl
+
+-- ---- a link that was read before it was written to
+
+-- what was written since reading ended was written since before it
+pub writes_since : (text : ℕ × List ℕ) (old middle new : LinkSight) (end : Served) → middle.taken ≡ old.taken
+    → old.faults ≤ middle.faults → Writes text middle new end → Writes text old new end
+writes_since text old middle new (served.Replied status) same rose w =
+    (w.0, subst (λ t. Takes t (response_bytes text.0 text.1) new.taken) same w.1)
+writes_since text old middle new served.EndedEarly same rose w = w
+writes_since text old middle new served.LinkFault same rose w = (
+  Rose-before old.faults middle.faults new.faults rose w.0,
+  subst (λ t. TakesPrefix t (response_bytes text.0 text.1) new.taken) same w.1,
+)
+
+-- so was the answer to what was received
+pub answers_since : (incoming : Incoming) (replied : Replied) (state : State) (old middle new : LinkSight) (end : Served)
+    (after : State) → middle.taken ≡ old.taken → old.faults ≤ middle.faults
+    → Answers incoming replied state middle new end after → Answers incoming replied state old new end after
+answers_since incoming replied state old middle new end after same rose (inl a) =
+    inl (writes_since (answer_text incoming replied) old middle new end same rose a.0, a.1)
+answers_since incoming replied state old middle new end after same rose (inr a) =
+    inr (writes_since memory_text old middle new end same rose a.0, a.1)
+
+-- and the reply to a fault
+pub fault_since : (fault : FrontFault) (old middle new : LinkSight) (end : Served) → middle.taken ≡ old.taken
+    → old.faults ≤ middle.faults → (fault ≡ front.LinkFault → Rose old.faults middle.faults)
+    → (fault ≢ front.LinkFault → WritesFault fault (fault_text fault) middle new end)
+    → (fault ≡ front.LinkFault → (end ≡ served.LinkFault) × (new ≡ middle))
+    → WritesFault fault (fault_text fault) old new end
+fault_since front.BadHead old middle new end same rose failed w none =
+    writes_since _ old middle new end same rose (w (λ e. absurd (cc)))
+fault_since front.NoLength old middle new end same rose failed w none =
+    writes_since _ old middle new end same rose (w (λ e. absurd (cc)))
+fault_since front.TooLong old middle new end same rose failed w none =
+    writes_since _ old middle new end same rose (w (λ e. absurd (cc)))
+fault_since front.NoRoute old middle new end same rose failed w none =
+    writes_since _ old middle new end same rose (w (λ e. absurd (cc)))
+fault_since front.Method old middle new end same rose failed w none =
+    writes_since _ old middle new end same rose (w (λ e. absurd (cc)))
+fault_since front.OutOfMemory old middle new end same rose failed w none =
+    writes_since _ old middle new end same rose (w (λ e. absurd (cc)))
+fault_since front.EndedEarly old middle new end same rose failed w none =
+    let nothing = w (λ e. absurd (cc)) in (nothing.0, nothing.1 ∙ same)
+fault_since front.LinkFault old middle new end same rose failed w none =
+    let n = none refl in
+    (n.0, ap (λ (s : LinkSight). s.taken) n.1 ∙ same, subst (λ (s : LinkSight). Rose old.faults s.faults) (sym n.1) (failed refl))
+
+-- ---- what was received, by how names are looked up
+
+asks_reading : (says : Bor (List ℕ) → Option Bool → Type 0)
+    → ((name : Bor (List ℕ)) (answer : Option Bool) → says name answer → answer ≡ reads name.now)
+    → (method target : List ℕ) (fields : Pairs) (wanted : Result Wanted FrontFault)
+    → AsksOf (AnswersAt says) method target fields wanted → AsksOf Reading method target fields wanted
+asks_reading says all method target fields wanted a = (
+  a.0,
+  λ name route get. let s = a.1 name route get in all s.0 a.0 s.2 ∙ ap reads s.1,
+  a.2,
+)
+
+wanted_reading : (says : Bor (List ℕ) → Option Bool → Type 0)
+    → ((name : Bor (List ℕ)) (answer : Option Bool) → says name answer → answer ≡ reads name.now)
+    → (text : List ℕ) (mark : RequestHead) (wanted : Result Wanted FrontFault)
+    → IsWanted (AnswersAt says) text mark wanted → IsWanted Reading text mark wanted
+wanted_reading says all text mark wanted (inl w) =
+    inl (w.0, w.1, w.2, w.3, asks_reading says all w.0.method w.0.target (pairs_of w.0) wanted w.4)
+wanted_reading says all text mark wanted (inr w) = inr w
+
+received_reading : (says : Bor (List ℕ) → Option Bool → Type 0)
+    → ((name : Bor (List ℕ)) (answer : Option Bool) → says name answer → answer ≡ reads name.now)
+    → (bytes : List ℕ) (result : Result Incoming FrontFault)
+    → IsReceived (AnswersAt says) bytes result → IsReceived Reading bytes result
+received_reading says all bytes result (inl r) = inl (record {
+  head = r.head;
+  wanted = r.wanted;
+  begins = r.begins;
+  asks = wanted_reading says all (take (extent r.head) bytes) r.head r.wanted r.asks;
+  gives = r.gives;
+})
+received_reading says all bytes result (inr n) = inr n
+
+unless_fails : {P Q : Type 0} (result : Result Incoming FrontFault) → (P → Q) → UnlessFails result P
+    → UnlessFails result Q
+unless_fails (Ok incoming) f p = f p
+unless_fails (Err front.BadHead) f p = f p
+unless_fails (Err front.NoLength) f p = f p
+unless_fails (Err front.TooLong) f p = f p
+unless_fails (Err front.NoRoute) f p = f p
+unless_fails (Err front.Method) f p = f p
+unless_fails (Err front.EndedEarly) f p = f p
+unless_fails (Err front.LinkFault) f p = p
+unless_fails (Err front.OutOfMemory) f p = p
+
+-- What is received where names are looked up by such a function, is what is received where they are looked up by `reads`.
+pub receives_reading : (says : Bor (List ℕ) → Option Bool → Type 0)
+    → ((name : Bor (List ℕ)) (answer : Option Bool) → says name answer → answer ≡ reads name.now)
+    → (told : Option (List ℕ)) (result : Result Incoming FrontFault)
+    → IfSome told (λ bytes. UnlessFails result (IsReceived (AnswersAt says) bytes result))
+    → IfSome told (λ bytes. UnlessFails result (IsReceived Reading bytes result))
+receives_reading says all None result r = r
+receives_reading says all (Some bytes) result r = unless_fails result (received_reading says all bytes result) r

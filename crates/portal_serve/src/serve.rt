@@ -1,0 +1,240 @@
+//! Serving one connection: a request is read off a link, worked, and answered by one response.
+ghost use Rattle.std.specs.Prelude.{◌≡◌, ◌≢◌, ◌⊎◌, ◌≤◌, Ok, Err, IfOk, IfErr, OnOk, OnErr, IsSome, option_map};
+ghost use Rattle.std.specs.Option.{option_copied};
+ghost use Rattle.http.specs.StatusCode.{reason_phrase};
+ghost use Rattle.portal_base.specs.Outside.{Rose};
+ghost use Rattle.portal_serve.specs.Served.{answered, answer_text, body_or_empty, fault_text, link_sight, memory_text};
+ghost use Rattle.portal_serve.specs.Served.{name_in, request_in, size_in, token_in};
+ghost use Rattle.portal_serve.specs.Served.{Answers, Serves, Writes, WritesFault};
+ghost use Rattle.portal_serve.specs.Seen.{fixed_text};
+
+use crate::calling::{Drawn, replied};
+use crate::tokens::Tokens;
+use action_api::early::Early;
+use action_api::query::{is_reading, request_of_query};
+use action_api::reply::reply_text;
+use action_api::request::request;
+use http_front::fault::FrontFault;
+use http_front::incoming::Incoming;
+use http_front::receive::receive;
+use http_front::response::send;
+use portal_base::moment::Moment;
+use portal_base::nonce::Nonce;
+use portal_base::outside::Link;
+use portal_base::seq::Seq;
+use portal_calls::call::Request;
+use portal_core::portal::Portal;
+use std::alloc::{AllocError, Global};
+
+/// How serving a link ended.
+#[derive(Clone, Copy, Debug, PartialEq, Eq)]
+pub enum Served {
+    /// A whole response of this status was written.
+    Replied(u16),
+    /// The input ended before the request did, and nothing was written.
+    EndedEarly,
+    /// The link's count of faults rose.
+    LinkFault,
+}
+
+/// A status with the text of a reply that stands in the program.
+#[derive(Clone, Copy)]
+struct FixedReply {
+    status: u16,
+    text: &'static str,
+}
+
+/// The reply for want of memory.
+fn memory_reply() -> FixedReply
+    ensures { fixed_text result ≡ memory_text }
+{
+    FixedReply {
+        status: 507,
+        text: r#"{"error":{"__type":"Memory Error","message":"Want of memory"},"help":"","success":false}"#,
+    }
+}
+
+/// The reply to a fault, if it has one. It takes no memory.
+fn fault_reply(fault: FrontFault) -> Option<FixedReply>
+    ensures { option_map fixed_text result ≡ fault_text fault }
+{
+    match fault {
+        FrontFault::BadHead => Some(FixedReply {
+            status: 400,
+            text: r#"{"error":{"__type":"Bad Request","message":"Bad request head"},"help":"","success":false}"#,
+        }),
+        FrontFault::NoLength => Some(FixedReply {
+            status: 411,
+            text: r#"{"error":{"__type":"Bad Request","message":"Length required"},"help":"","success":false}"#,
+        }),
+        FrontFault::TooLong => Some(FixedReply {
+            status: 413,
+            text: r#"{"error":{"__type":"Bad Request","message":"Body too long"},"help":"","success":false}"#,
+        }),
+        FrontFault::NoRoute => Some(FixedReply {
+            status: 404,
+            text: r#"{"error":{"__type":"Not Found Error","message":"No such page"},"help":"","success":false}"#,
+        }),
+        FrontFault::Method => Some(FixedReply {
+            status: 405,
+            text: r#"{"error":{"__type":"Bad Request","message":"Method not allowed"},"help":"","success":false}"#,
+        }),
+        FrontFault::OutOfMemory => Some(memory_reply()),
+        FrontFault::EndedEarly => None,
+        FrontFault::LinkFault => None,
+    }
+}
+
+/// The name of the action that is asked for.
+fn name_in(incoming: &Incoming) -> &str
+    ensures { result.now ≡ name_in incoming.now }
+{
+    match incoming {
+        Incoming::Post(name, _, _) => name.as_str(),
+        Incoming::Get(name, _, _) => name.as_str(),
+    }
+}
+
+fn token_in(incoming: &Incoming) -> Option<&str>
+    ensures { option_copied result ≡ token_in incoming.now }
+{
+    let token = match incoming {
+        Incoming::Post(_, _, token) => token,
+        Incoming::Get(_, _, token) => token,
+    };
+    match token {
+        Some(token) => Some(token.as_str()),
+        None => None,
+    }
+}
+
+/// How many bytes the body has, or the query.
+fn size_in(incoming: &Incoming) -> u64
+    ensures { result ≡ size_in incoming.now }
+{
+    match incoming {
+        Incoming::Post(_, body, _) => body.len() as u64,
+        Incoming::Get(_, query, _) => query.len() as u64,
+    }
+}
+
+/// The body, and the text of an empty dictionary where it is empty.
+fn body_or_empty(body: &[u8]) -> &[u8]
+    ensures { result.now ≡ body_or_empty body.now }
+{
+    if body.is_empty() { b"{}" } else { body }
+}
+
+/// The request that is asked for, or why there is none.
+fn request_in(alloc: Global, incoming: &Incoming) -> Result<Request, Early>
+    ensures value { IfOk result (λ asked. request_in incoming.now ≡ Ok asked) }
+    ensures fault { IfErr result
+        (λ early. (early ≡ Early.OutOfMemory) ⊎ (request_in incoming.now ≡ Err early)) }
+{
+    match incoming {
+        Incoming::Post(name, body, _) => {
+            request(alloc, name.as_str(), body_or_empty(body.as_slice()))
+        }
+        Incoming::Get(name, query, _) => request_of_query(alloc, name.as_str(), query.as_str()),
+    }
+}
+
+/// Works what was received, and gives the status and the text of the reply.
+fn work(
+    alloc: Global,
+    portal: &mut Portal,
+    tokens: &Tokens,
+    incoming: &Incoming,
+    moment: Moment,
+    nonce: Nonce,
+) -> Result<(u16, Seq<u8>), AllocError>
+    ensures text { IfOk result (λ text. text
+        ≡ answer_text incoming.now (answered tokens.now portal.old moment nonce.0 incoming.now)) }
+    ensures state { OnOk result (portal.new ≡ (answered tokens.now portal.old moment nonce.0 incoming.now).state) }
+    ensures stopped { OnErr result ((portal.new ≡ portal.old)
+        ⊎ (portal.new ≡ (answered tokens.now portal.old moment nonce.0 incoming.now).state)) }
+{
+    let caller = tokens.caller(alloc, token_in(incoming))?;
+    let request = request_in(alloc, incoming);
+    let drawn = Drawn {
+        size: size_in(incoming),
+        moment,
+        nonce,
+    };
+    let reply = replied(portal, caller, request, drawn)?;
+    reply_text(alloc, Some(name_in(incoming)), &reply)
+}
+
+/// Writes a response.
+fn write<K: Link>(link: &mut K, status: u16, text: &[u8]) -> Served
+    requires phrase { IsSome (reason_phrase status) }
+    ensures writes { Writes (status, text.now)
+        (link_sight (K.to_come link.old) (K.taken link.old) (K.faults link.old))
+        (link_sight (K.to_come link.new) (K.taken link.new) (K.faults link.new)) result }
+    ensures counts { K.faults link.old ≤ K.faults link.new }
+{
+    match send(link, status, text) {
+        Ok(()) => Served::Replied(status),
+        Err(_failed) => Served::LinkFault,
+    }
+}
+
+/// Works what was received, and writes the reply.
+fn answer<K: Link>(
+    alloc: Global,
+    portal: &mut Portal,
+    tokens: &Tokens,
+    link: &mut K,
+    incoming: &Incoming,
+    moment: Moment,
+    nonce: Nonce,
+) -> Served
+    ensures answers { Answers incoming.now (answered tokens.now portal.old moment nonce.0 incoming.now) portal.old
+        (link_sight (K.to_come link.old) (K.taken link.old) (K.faults link.old))
+        (link_sight (K.to_come link.new) (K.taken link.new) (K.faults link.new)) result portal.new }
+    ensures counts { K.faults link.old ≤ K.faults link.new }
+{
+    match work(alloc, portal, tokens, incoming, moment, nonce) {
+        Ok((status, text)) => write(link, status, text.as_slice()),
+        Err(_refused) => {
+            let reply = memory_reply();
+            write(link, reply.status, reply.text.as_bytes())
+        }
+    }
+}
+
+/// Writes the reply to a fault, if it has one.
+fn answer_fault<K: Link>(link: &mut K, fault: FrontFault) -> Served
+    ensures writes { fault ≢ FrontFault.LinkFault → WritesFault fault (fault_text fault)
+        (link_sight (K.to_come link.old) (K.taken link.old) (K.faults link.old))
+        (link_sight (K.to_come link.new) (K.taken link.new) (K.faults link.new)) result }
+    ensures failed { fault ≡ FrontFault.LinkFault → (result ≡ Served.LinkFault) × (link.new ≡ link.old) }
+    ensures counts { K.faults link.old ≤ K.faults link.new }
+{
+    match fault_reply(fault) {
+        Some(reply) => write(link, reply.status, reply.text.as_bytes()),
+        None if fault == FrontFault::EndedEarly => Served::EndedEarly,
+        None => Served::LinkFault,
+    }
+}
+
+/// Reads one request off the link, works it as a call of its token's user with this moment and number, and writes the
+/// reply. Want of memory is told by the reply 507, whose bytes take none.
+pub fn serve_link<K: Link>(
+    alloc: Global,
+    portal: &mut Portal,
+    tokens: &Tokens,
+    link: &mut K,
+    moment: Moment,
+    nonce: Nonce,
+) -> Served
+    ensures served { Serves tokens.now portal.old moment nonce.0
+        (link_sight (K.to_come link.old) (K.taken link.old) (K.faults link.old))
+        (link_sight (K.to_come link.new) (K.taken link.new) (K.faults link.new)) result portal.new }
+    ensures counts { K.faults link.old ≤ K.faults link.new }
+{
+    match receive(alloc, link, is_reading) {
+        Ok(incoming) => answer(alloc, portal, tokens, link, &incoming, moment, nonce),
+        Err(fault) => answer_fault(link, fault),
+    }
+}
