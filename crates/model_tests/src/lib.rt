@@ -1,8 +1,6 @@
-//! Tests of what people and datasets are kept as, of what no case shows. They stand above org_roles and packages, so
-//! that these are proved once. Everything else is tested by `sight_cases` and `call_cases`.
+//! Tests of what nothing above calls yet. They stand above org_roles, so that it is proved once. Everything else of it and
+//! of packages is tested by `call_cases`.
 #![tactic(auto)]
 
 #[cfg(test)]
 mod people;
-#[cfg(test)]
-mod shelf;
