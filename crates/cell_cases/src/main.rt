@@ -1,8 +1,10 @@
-//! Worked examples of Table Schema v1: cells of texts and of values, their order, and descriptors.
+//! Worked examples of Table Schema v1: cells of texts and of values, their order, descriptors, and rows of CSV.
 #![tactic(auto)]
 
 mod cell;
 mod descriptor;
+mod one_by_one;
+mod row;
 
 use cases::{Tally, check};
 use std::io;
@@ -16,5 +18,10 @@ fn main(rt: HostRuntime) -> io::Result<ExitCode> {
     check(&rt, &mut tally, "order", 4, cell::ordered)?;
     check(&rt, &mut tally, "descriptors", 2, descriptor::rewritten)?;
     check(&rt, &mut tally, "counts_of_fields", 2, descriptor::counted)?;
+    check(&rt, &mut tally, "headers", 3, row::rows_of)?;
+    check(&rt, &mut tally, "rows", 3, row::rows_of)?;
+    check(&rt, &mut tally, "records", 3, row::rows_of)?;
+    check(&rt, &mut tally, "failing_reads", 4, row::rows_before)?;
+    check(&rt, &mut tally, "long_files", 4, row::count_before)?;
     tally.end(&rt)
 }

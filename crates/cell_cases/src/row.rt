@@ -1,20 +1,15 @@
-//! Worked examples of rows of CSV (RFC 4180) by descriptors of Table Schema v1.
-#![tactic(auto)]
-
+//! Rows of CSV (RFC 4180) by descriptors of Table Schema v1.
 ghost use Rattle.std.specs.Prelude.{All};
 ghost use Rattle.table_schema.specs.Printed.{IsValue};
 
-mod one_by_one;
-
 use crate::one_by_one::OneByOne;
-use cases::{Case, Tally, check};
+use cases::Case;
 use portal_base::memory::MemorySource;
 use portal_base::outside::Source;
 use portal_base::seq::Seq;
 use std::alloc::{AllocError, Global};
 use std::fmt::Write;
 use std::io::{self, ErrorKind};
-use std::process::ExitCode;
 use table_schema::{Cell, Schema, cell_text};
 use typed_csv::{LoadFault, Loader};
 
@@ -129,7 +124,7 @@ fn source_of(alloc: Global, bytes: &[u8], failing: &[u64]) -> Result<MemorySourc
 }
 
 /// A descriptor and a text of CSV: its rows, read whole and byte by byte.
-fn rows_of(alloc: Global, case: &Case) -> io::Result<Vec<u8>> {
+pub(crate) fn rows_of(alloc: Global, case: &Case) -> io::Result<Vec<u8>> {
     let whole = told_of(
         alloc,
         case.bytes(0),
@@ -146,7 +141,7 @@ fn rows_of(alloc: Global, case: &Case) -> io::Result<Vec<u8>> {
 }
 
 /// A descriptor, a text of CSV that is read byte by byte, and the number of the read that fails: the rows.
-fn rows_before(alloc: Global, case: &Case) -> io::Result<Vec<u8>> {
+pub(crate) fn rows_before(alloc: Global, case: &Case) -> io::Result<Vec<u8>> {
     let inner = source_of(alloc, case.bytes(1), &[case.parsed(2)?])?;
     Ok(told_of(alloc, case.bytes(0), OneByOne { inner }, Telling::Rows)?.into_bytes())
 }
@@ -166,18 +161,8 @@ fn long_file(alloc: Global, rows: u64) -> Result<Vec<u8>, AllocError> {
 }
 
 /// A descriptor, the number of rows of a long file, and the number of the read that fails: how many rows come before.
-fn count_before(alloc: Global, case: &Case) -> io::Result<Vec<u8>> {
+pub(crate) fn count_before(alloc: Global, case: &Case) -> io::Result<Vec<u8>> {
     let bytes = long_file(alloc, case.parsed(1)?)?;
     let source = source_of(alloc, bytes.as_slice(), &[case.parsed(2)?])?;
     Ok(told_of(alloc, case.bytes(0), source, Telling::Count)?.into_bytes())
-}
-
-fn main(rt: HostRuntime) -> io::Result<ExitCode> {
-    let mut tally = Tally::new();
-    check(&rt, &mut tally, "headers", 3, rows_of)?;
-    check(&rt, &mut tally, "rows", 3, rows_of)?;
-    check(&rt, &mut tally, "records", 3, rows_of)?;
-    check(&rt, &mut tally, "failing_reads", 4, rows_before)?;
-    check(&rt, &mut tally, "long_files", 4, count_before)?;
-    tally.end(&rt)
 }
