@@ -4,6 +4,7 @@ use crate::opening::opened;
 use portal_base::caller::Caller;
 use portal_base::counted::{CountNonces, ScriptClock};
 use portal_base::json_value::Json;
+use portal_base::nonce::Nonce;
 use portal_base::outside::{Clock, Nonces};
 use portal_base::text::Text;
 use portal_calls::action::Action;
@@ -29,11 +30,11 @@ fn caller_of(alloc: Global, name: &str) -> Result<Caller, AllocError> {
     }
 }
 
-/// The caller's name, and the size of the call, where the line gives one by `NAME/SIZE`.
-fn sized(caller: &str) -> Option<(&str, Option<u64>)> {
-    match caller.split_once('/') {
-        None => Some((caller, None)),
-        Some((name, size)) => Some((name, Some(size.parse::<u64>().ok()?))),
+/// The words before the mark, and the number behind it, where there is one.
+fn marked(words: &str, mark: char) -> Option<(&str, Option<u64>)> {
+    match words.split_once(mark) {
+        None => Some((words, None)),
+        Some((before, number)) => Some((before, Some(number.parse::<u64>().ok()?))),
     }
 }
 
@@ -47,9 +48,19 @@ impl Desk {
         })
     }
 
-    /// The call of a line at the next moment and with the next number, if it is one of an action.
+    /// The number of a call: the one given, else the next.
+    fn nonce(&mut self, given: Option<u64>) -> Nonce {
+        match given {
+            Some(number) => Nonce(u128::from(number)),
+            None => self.nonces.next(),
+        }
+    }
+
+    /// The call of a line at the next moment, if it is one of an action. Its caller is `NAME`, or `NAME/SIZE` where the
+    /// line gives the size of the call; with `#NUMBER` behind, the line gives the number that is drawn.
     fn call_of(&mut self, alloc: Global, line: Line<'_>) -> Option<Call> {
-        let (name, size) = sized(line.caller)?;
+        let (words, number) = marked(line.caller, '#')?;
+        let (name, size) = marked(words, '/')?;
         let action = Action::named(line.action)?;
         let body = Json::read(alloc, line.body.as_bytes()).ok()?;
         let caller = caller_of(alloc, name).ok()?;
@@ -58,7 +69,7 @@ impl Desk {
             request: Request { action, body },
             size: size.unwrap_or(line.body.len() as u64),
             moment: self.clock.now(),
-            nonce: self.nonces.next(),
+            nonce: self.nonce(number),
         })
     }
 

@@ -1,13 +1,15 @@
-//! Worked examples of calls: what each call of a script on one portal is answered.
+//! Worked examples of calls: what each call of a script on one portal is answered, and who sees what.
 #![tactic(auto)]
 
 mod desk;
 mod line;
 mod opening;
+mod people;
 mod shown;
+mod sight;
 
-use cases::Tally;
 use cases::tally::Place;
+use cases::{Tally, check};
 use desk::Desk;
 use line::Line;
 use shown::{part_in, reply_shown, wanted_shown};
@@ -72,6 +74,9 @@ fn check_script<R: Files + AllocGlobal + Print>(
 
 fn main(rt: HostRuntime) -> io::Result<ExitCode> {
     let mut tally = Tally::new();
+    check(&rt, &mut tally, "sights", 3, sight::sights)?;
+    check(&rt, &mut tally, "classes", 2, sight::classes)?;
+    check(&rt, &mut tally, "roles", 3, sight::roles)?;
     let scripts = fs::read_to_string(&rt, "scripts")?;
     for script in scripts.as_str().lines() {
         if !is_note(script) {

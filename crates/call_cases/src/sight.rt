@@ -1,19 +1,14 @@
-//! Worked examples of sight: who sees and edits a dataset, its class, and its caller's role.
-#![tactic(auto)]
-
-mod people;
-
-use cases::{Case, Tally, check};
+//! Who sees and edits a dataset, its class, and its caller's role.
+use crate::people::people_of;
+use cases::Case;
 use org_roles::people::People;
 use org_roles::role::Role;
 use packages::package::{Package, State};
-use people::people_of;
 use portal_base::caller::Caller;
 use portal_base::moment::Moment;
 use portal_base::text::Text;
 use std::alloc::{AllocError, Global};
 use std::io::{self, ErrorKind};
-use std::process::ExitCode;
 use visibility::class::{Class, class_of};
 use visibility::sight::{may_edit, role_of_caller, sees};
 
@@ -73,7 +68,7 @@ fn sight_of(people: &People, caller: &Caller, dataset: &Package) -> &'static str
 }
 
 /// A dataset and a caller: whether the caller sees and edits it.
-fn sight(alloc: Global, case: &Case) -> io::Result<Vec<u8>> {
+pub(crate) fn sights(alloc: Global, case: &Case) -> io::Result<Vec<u8>> {
     let people = people_of(alloc)?;
     let dataset = dataset_of(alloc, case.text(0)?)?;
     let caller = caller_of(alloc, case.text(1)?)?;
@@ -82,7 +77,7 @@ fn sight(alloc: Global, case: &Case) -> io::Result<Vec<u8>> {
 }
 
 /// A dataset: its class.
-fn class(alloc: Global, case: &Case) -> io::Result<Vec<u8>> {
+pub(crate) fn classes(alloc: Global, case: &Case) -> io::Result<Vec<u8>> {
     let dataset = dataset_of(alloc, case.text(0)?)?;
     let told = match class_of(alloc, &dataset)? {
         Class::Public => String::from_str(alloc, "public")?,
@@ -99,7 +94,7 @@ fn class(alloc: Global, case: &Case) -> io::Result<Vec<u8>> {
 }
 
 /// An organization and a caller: the caller's role there.
-fn role(alloc: Global, case: &Case) -> io::Result<Vec<u8>> {
+pub(crate) fn roles(alloc: Global, case: &Case) -> io::Result<Vec<u8>> {
     let people = people_of(alloc)?;
     let org = Text::from_str(alloc, case.text(0)?)?;
     let caller = caller_of(alloc, case.text(1)?)?;
@@ -110,12 +105,4 @@ fn role(alloc: Global, case: &Case) -> io::Result<Vec<u8>> {
         Some(Role::Admin) => "admin",
     };
     Ok(told.as_bytes().to_vec(alloc)?)
-}
-
-fn main(rt: HostRuntime) -> io::Result<ExitCode> {
-    let mut tally = Tally::new();
-    check(&rt, &mut tally, "sights", 3, sight)?;
-    check(&rt, &mut tally, "classes", 2, class)?;
-    check(&rt, &mut tally, "roles", 3, role)?;
-    tally.end(&rt)
 }
