@@ -1,5 +1,5 @@
 -- The tokens of a text, by which texts are searched without regard to case: its words, each in full default case
--- folding (Unicode, section 3.13, R4). Nothing is normalized.
+-- folding (The Unicode Standard, section 3.13, "Default Case Folding"). Nothing is normalized.
 use Rattle.std.specs.Prelude.{ℕ, List, [], ◌∷◌, Bool, true, false, not, filter, map, encode_utf8_all}
 use Rattle.std.specs.List.{slice_split}
 use Rattle.std.specs.Str.{chars}
