@@ -20,8 +20,8 @@ fn push_answer(
     push_ids(alloc, shown, ids.as_slice())
 }
 
-/// A descriptor, records and the parts of a query: the page and the `_id`s that pass the filters, or what is told of the
-/// parts that can't be read.
+/// A descriptor, records and the parts of a query: the page and the `_id`s that pass the filters, or what is told of
+/// the parts that can't be read.
 pub(crate) fn told(alloc: Global, case: &Case) -> io::Result<Vec<u8>> {
     let table = table_of(alloc, case.text(0)?, case.text(1)?)?;
     let parts = parts_of(alloc, case.text(2)?)?;
