@@ -1,34 +1,34 @@
-//! Runs over devices that fail, each at every call that a run reaches, and over narrow ones.
+//! Runs over narrow devices that fail, each at every call that a run reaches, and over faulty words.
 use crate::run::run;
 use portal_base::counted::{CountNonces, ScriptClock};
 use portal_base::memory::{MemorySink, MemorySource};
 use portal_base::outside::{Failed, Sink, Source};
 use portal_base::seq::Seq;
-use std::alloc::Global;
+use std::alloc::{AllocError, Global};
 use std::test::Fail;
 
-const CREATED: &str =
-    "200 {\"help\":\"/api/3/action/help_show?name=package_create\",\"result\":{\"author\":\"\",\"creator_user_id\":\"ann\",\"id\":\"00000000-0000-0000-0000-000000000001\",\"license_id\":\"\",\"maintainer\":\"\",\"metadata_created\":\"2024-01-01T00:00:00\",\"metadata_modified\":\"2024-01-01T00:00:00\",\"name\":\"air-quality\",\"notes\":\"\",\"num_resources\":0,\"num_tags\":0,\"organization\":{\"id\":\"city\",\"name\":\"city\",\"title\":\"City\"},\"owner_org\":\"city\",\"private\":false,\"resources\":[],\"state\":\"active\",\"tags\":[],\"title\":\"Air quality\",\"type\":\"dataset\",\"url\":\"\",\"version\":\"\"},\"success\":true}\n";
+/// A change, and a call that shows it.
+const SCRIPT: &str =
+    r#"{"action":"organization_member_delete","as":"cyn","body":{"id":"city","username":"bob"}}
+{"action":"organization_list_for_user","as":"bob"}
+"#;
 
-const SHOWN: &str =
-    "200 {\"help\":\"/api/3/action/help_show?name=package_show\",\"result\":{\"author\":\"\",\"creator_user_id\":\"ann\",\"id\":\"00000000-0000-0000-0000-000000000001\",\"license_id\":\"\",\"maintainer\":\"\",\"metadata_created\":\"2024-01-01T00:00:00\",\"metadata_modified\":\"2024-01-01T00:00:00\",\"name\":\"air-quality\",\"notes\":\"\",\"num_resources\":0,\"num_tags\":0,\"organization\":{\"id\":\"city\",\"name\":\"city\",\"title\":\"City\"},\"owner_org\":\"city\",\"private\":false,\"resources\":[],\"state\":\"active\",\"tags\":[],\"title\":\"Air quality\",\"type\":\"dataset\",\"url\":\"\",\"version\":\"\"},\"success\":true}\n";
-
-const CREATE: &str =
-    "{\"action\":\"package_create\",\"as\":\"ann\",\"body\":{\"name\":\"air-quality\",\"owner_org\":\"city\",\"title\":\"Air quality\"}}\n";
-
-const SHOW: &str = "{\"action\":\"package_show\",\"body\":{\"id\":\"air-quality\"}}\n";
+const TRANSCRIPT: &str =
+    r#"200 {"help":"/api/3/action/help_show?name=organization_member_delete","result":null,"success":true}
+200 {"help":"/api/3/action/help_show?name=organization_list_for_user","result":[],"success":true}
+"#;
 
 const READ_FAULT: &str = "portal: input failed\n";
 
 const WRITE_FAULT: &str = "portal: output failed\n";
 
-/// A source that gives one byte at a time.
+/// A device that passes one byte at a time.
 #[derive(Drop)]
-struct OneByOne<S> {
-    inner: S,
+struct Narrow<D> {
+    inner: D,
 }
 
-impl<S: Source> Source for OneByOne<S> {
+impl<S: Source> Source for Narrow<S> {
     ghost use Rattle.std.specs.Prelude.{None};
 
     ghost to_come = { λ _. None };
@@ -41,12 +41,6 @@ impl<S: Source> Source for OneByOne<S> {
         }
         self.inner.read(&mut into[..1])
     }
-}
-
-/// A sink that takes one byte at a time.
-#[derive(Drop)]
-struct Narrow<O> {
-    inner: O,
 }
 
 impl<O: Sink> Sink for Narrow<O> {
@@ -64,87 +58,136 @@ impl<O: Sink> Sink for Narrow<O> {
     }
 }
 
-/// The two texts, one after the other.
-fn both(alloc: Global, first: &str, second: &str) -> Result<String, Fail> {
-    Ok(format!(in alloc; "{first}{second}")?)
+/// The calls at which devices fail, each counted from 1 and none by 0, and how much output takes.
+#[derive(Clone, Copy)]
+struct Ends {
+    read: usize,
+    write: usize,
+    room: usize,
+    line: usize,
 }
 
-fn seq_of(alloc: Global, items: &[u64]) -> Result<Seq<u64>, Fail> {
-    Ok(Seq::from(items.to_vec(alloc)?))
+/// No device fails.
+const NEVER: Ends = Ends {
+    read: 0,
+    write: 0,
+    room: TRANSCRIPT.len(),
+    line: 0,
+};
+
+/// What a run ended with.
+#[derive(Drop)]
+struct Outcome {
+    code: u8,
+    output: Narrow<MemorySink>,
+    faults: Narrow<MemorySink>,
 }
 
-/// A source in memory that fails at these calls.
-fn source(alloc: Global, script: &str, failing: &[u64]) -> Result<MemorySource, Fail> {
-    let bytes = Seq::from(script.as_bytes().to_vec(alloc)?);
-    Ok(MemorySource::new(bytes, seq_of(alloc, failing)?))
+impl Outcome {
+    /// Whether it ended with this status, the transcript's first bytes, so many, and this line.
+    fn is(&self, code: u8, written: usize, line: &[u8]) -> bool {
+        let taken = self.output.inner.taken();
+        self.code == code
+            && taken.len() == written
+            && TRANSCRIPT.as_bytes().starts_with(taken)
+            && self.faults.inner.taken() == line
+    }
 }
 
-/// A sink in memory with this room that fails at these calls.
-fn sink(alloc: Global, room: usize, failing: &[u64]) -> Result<MemorySink, Fail> {
-    Ok(MemorySink::new(alloc, room, seq_of(alloc, failing)?)?)
+fn source(alloc: Global, failing: usize) -> Result<Narrow<MemorySource>, AllocError> {
+    let bytes = Seq::from(SCRIPT.as_bytes().to_vec(alloc)?);
+    let failing = Seq::from([failing as u64].to_vec(alloc)?);
+    Ok(Narrow {
+        inner: MemorySource::new(bytes, failing),
+    })
 }
 
-/// The status of a run of `play` over these devices.
-fn status_over<S: Source, O: Sink, E: Sink>(
-    alloc: Global,
-    input: &mut S,
-    output: &mut O,
-    faults: &mut E,
-) -> Result<u8, Fail> {
-    let words = vec![in alloc; String::from_str(alloc, "play")?]?;
-    let status = run(
+fn sink(alloc: Global, room: usize, failing: usize) -> Result<Narrow<MemorySink>, AllocError> {
+    let failing = Seq::from([failing as u64].to_vec(alloc)?);
+    Ok(Narrow {
+        inner: MemorySink::new(alloc, room, failing)?,
+    })
+}
+
+/// What a run of these words over such devices ends with.
+fn ran(alloc: Global, words: &[String], ends: Ends) -> Result<Outcome, AllocError> {
+    let mut input = source(alloc, ends.read)?;
+    let mut output = sink(alloc, ends.room, ends.write)?;
+    let mut faults = sink(alloc, 100, ends.line)?;
+    let code = run(
         alloc,
-        words.as_slice(),
-        input,
-        output,
-        faults,
+        words,
+        &mut input,
+        &mut output,
+        &mut faults,
         &mut ScriptClock::new(),
         &mut CountNonces::new(),
-    );
-    Ok(status.code())
+    )
+    .code();
+    Ok(Outcome {
+        code,
+        output,
+        faults,
+    })
+}
+
+/// What playing over such devices ends with.
+fn played(alloc: Global, ends: Ends) -> Result<Outcome, AllocError> {
+    let words = vec![in alloc; String::from_str(alloc, "play")?]?;
+    ran(alloc, words.as_slice(), ends)
+}
+
+/// How many bytes the first line has.
+fn first_line_length(text: &str) -> usize {
+    match text.find('\n') {
+        Some(at) => at.saturating_add(1),
+        None => text.len(),
+    }
+}
+
+/// How many bytes are written where so many are read.
+fn written_after(read: usize) -> usize {
+    if read < first_line_length(SCRIPT) {
+        return 0;
+    }
+    if read < SCRIPT.len() {
+        return first_line_length(TRANSCRIPT);
+    }
+    TRANSCRIPT.len()
+}
+
+#[test]
+fn faulty_words_end_a_run(rt: HostRuntime) -> Result<(), Fail> {
+    let alloc = rt.alloc();
+    let line = b"portal: bad words\n";
+    assert!(rt; ran(alloc, &[], NEVER)?.is(2, 0, line));
+    for word in ["serve", "Play", "", "--help"] {
+        let words = vec![in alloc; String::from_str(alloc, word)?]?;
+        assert!(rt;
+            ran(alloc, words.as_slice(), NEVER)?.is(2, 0, line),
+            "at {word}"
+        );
+    }
+    Ok(())
 }
 
 #[test]
 fn bytes_come_and_go_one_by_one(rt: HostRuntime) -> Result<(), Fail> {
-    let alloc = rt.alloc();
-    let script = both(alloc, CREATE, SHOW)?;
-    let transcript = both(alloc, CREATED, SHOWN)?;
-    let mut input = OneByOne {
-        inner: source(alloc, script.as_str(), &[])?,
-    };
-    let mut output = Narrow {
-        inner: sink(alloc, 10_000, &[])?,
-    };
-    let mut faults = sink(alloc, 100, &[])?;
-    let code = status_over(alloc, &mut input, &mut output, &mut faults)?;
-    assert_eq!(rt; code, 0);
-    assert_eq!(rt; output.inner.taken(), transcript.as_bytes());
-    assert!(rt; faults.taken().is_empty());
+    assert!(rt; played(rt.alloc(), NEVER)?.is(0, TRANSCRIPT.len(), b""));
     Ok(())
 }
 
 // Each call of the source fails in turn, the one that finds the end too.
 #[test]
 fn each_failing_read_ends_a_run_with_3(rt: HostRuntime) -> Result<(), Fail> {
-    let alloc = rt.alloc();
-    let script = both(alloc, CREATE, SHOW)?;
-    let transcript = both(alloc, CREATED, SHOWN)?;
-    for read in 0..=script.len() {
-        let mut input = OneByOne {
-            inner: source(alloc, script.as_str(), &[(read as u64).saturating_add(1)])?,
+    for read in 0..=SCRIPT.len() {
+        let ends = Ends {
+            read: read.saturating_add(1),
+            ..NEVER
         };
-        let mut output = sink(alloc, 10_000, &[])?;
-        let mut faults = sink(alloc, 100, &[])?;
-        let code = status_over(alloc, &mut input, &mut output, &mut faults)?;
-        assert_eq!(rt; code, 3, "after {read} bytes");
-        assert_eq!(rt; faults.taken(), READ_FAULT.as_bytes(), "after {read} bytes");
+        let outcome = played(rt.alloc(), ends)?;
         assert!(rt;
-            transcript.as_bytes().starts_with(output.taken()),
-            "after {read} bytes"
-        );
-        assert_eq!(rt;
-            output.taken().len() >= CREATED.len(),
-            read >= CREATE.len(),
+            outcome.is(3, written_after(read), READ_FAULT.as_bytes()),
             "after {read} bytes"
         );
     }
@@ -154,26 +197,14 @@ fn each_failing_read_ends_a_run_with_3(rt: HostRuntime) -> Result<(), Fail> {
 // Each call of the sink fails in turn.
 #[test]
 fn each_failing_write_ends_a_run_with_4(rt: HostRuntime) -> Result<(), Fail> {
-    let alloc = rt.alloc();
-    let script = both(alloc, CREATE, SHOW)?;
-    let transcript = both(alloc, CREATED, SHOWN)?;
-    let bytes = transcript.as_bytes();
-    for taken in 0..bytes.len() {
-        let mut input = source(alloc, script.as_str(), &[])?;
-        let mut output = Narrow {
-            inner: sink(alloc, 10_000, &[(taken as u64).saturating_add(1)])?,
+    for taken in 0..TRANSCRIPT.len() {
+        let ends = Ends {
+            write: taken.saturating_add(1),
+            ..NEVER
         };
-        let mut faults = sink(alloc, 100, &[])?;
-        let code = status_over(alloc, &mut input, &mut output, &mut faults)?;
-        assert_eq!(rt; code, 4, "after {taken} bytes");
-        assert_eq!(rt;
-            faults.taken(),
-            WRITE_FAULT.as_bytes(),
-            "after {taken} bytes"
-        );
-        assert_eq!(rt;
-            output.inner.taken(),
-            &bytes[..taken],
+        let outcome = played(rt.alloc(), ends)?;
+        assert!(rt;
+            outcome.is(4, taken, WRITE_FAULT.as_bytes()),
             "after {taken} bytes"
         );
     }
@@ -182,24 +213,10 @@ fn each_failing_write_ends_a_run_with_4(rt: HostRuntime) -> Result<(), Fail> {
 
 #[test]
 fn output_is_full_after_each_byte(rt: HostRuntime) -> Result<(), Fail> {
-    let alloc = rt.alloc();
-    let script = both(alloc, CREATE, SHOW)?;
-    let transcript = both(alloc, CREATED, SHOWN)?;
-    let bytes = transcript.as_bytes();
-    for room in 0..=bytes.len() {
-        let mut input = source(alloc, script.as_str(), &[])?;
-        let mut output = sink(alloc, room, &[])?;
-        let mut faults = sink(alloc, 100, &[])?;
-        let code = status_over(alloc, &mut input, &mut output, &mut faults)?;
-        assert_eq!(rt;
-            code == 0,
-            room == bytes.len(),
-            "with room for {room} bytes"
-        );
-        assert_eq!(rt; code == 4, room < bytes.len(), "with room for {room} bytes");
-        assert_eq!(rt;
-            output.taken(),
-            &bytes[..room],
+    for room in 0..TRANSCRIPT.len() {
+        let outcome = played(rt.alloc(), Ends { room, ..NEVER })?;
+        assert!(rt;
+            outcome.is(4, room, WRITE_FAULT.as_bytes()),
             "with room for {room} bytes"
         );
     }
@@ -209,17 +226,15 @@ fn output_is_full_after_each_byte(rt: HostRuntime) -> Result<(), Fail> {
 // Each call of the sink that is to take the line fails in turn, and the status stays.
 #[test]
 fn a_line_that_fails_changes_no_status(rt: HostRuntime) -> Result<(), Fail> {
-    let alloc = rt.alloc();
     let line = READ_FAULT.as_bytes();
     for taken in 0..line.len() {
-        let mut input = source(alloc, CREATE, &[1])?;
-        let mut output = sink(alloc, 10_000, &[])?;
-        let mut faults = Narrow {
-            inner: sink(alloc, 100, &[(taken as u64).saturating_add(1)])?,
+        let ends = Ends {
+            read: 1,
+            line: taken.saturating_add(1),
+            ..NEVER
         };
-        let code = status_over(alloc, &mut input, &mut output, &mut faults)?;
-        assert_eq!(rt; code, 3, "after {taken} bytes");
-        assert_eq!(rt; faults.inner.taken(), &line[..taken], "after {taken} bytes");
+        let outcome = played(rt.alloc(), ends)?;
+        assert!(rt; outcome.is(3, 0, &line[..taken]), "after {taken} bytes");
     }
     Ok(())
 }
