@@ -4,16 +4,19 @@
 //! Each file `NAME.script` of the folder that the program runs in is played, and `NAME.transcript` has what is wanted:
 //! the lines that are written, and behind them `status N` where the run ends with another status than 0. So a further
 //! case is two files. So it is for links: each `NAME.request` is what comes over one, and `NAME.response` what is
-//! written to it; they are served one after another, by their names, on one portal.
+//! written to it; they are served one after another, by their names, on one portal. `want_of_memory.reply` has what is
+//! written for a call that wants memory, to which no script comes.
 #![tactic(auto)]
 
 mod links;
 
+use action_api::reply::reply_text;
 use cases::Tally;
 use cases::tally::Place;
 use portal_base::counted::{CountNonces, ScriptClock};
 use portal_base::memory::{MemorySink, MemorySource};
 use portal_base::seq::Seq;
+use portal_core::event::{Refusal, Reply};
 use portal_serve::play::{PlayEnd, play};
 use portal_serve::stated::stated_portal;
 use std::alloc::{AllocError, Global};
@@ -97,6 +100,21 @@ fn check_script(rt: &HostRuntime, tally: &mut Tally, name: &str) -> io::Result<(
     tally.compare(rt, place, wanted.as_slice(), found.as_slice())
 }
 
+/// Compares what is written for a call that wants memory.
+fn check_want_of_memory(rt: &HostRuntime, tally: &mut Tally) -> io::Result<()> {
+    let place = Place {
+        file: "want_of_memory.reply",
+        line: 1,
+    };
+    let wanted = fs::read(rt, place.file)?;
+    let reply = Ok(Reply::Refused(Refusal::OutOfMemory));
+    let (status, text) = reply_text(rt.alloc(), Some("package_show"), &reply)?;
+    let mut found = format!(in rt.alloc(); "{status} ")?.into_bytes();
+    found.extend_from_slice(text.as_slice())?;
+    found.push(b'\n')?;
+    tally.compare(rt, place, wanted.as_slice(), found.as_slice())
+}
+
 /// What stands before the ending in the names of the folder's files with it, ascending.
 pub fn names_with(rt: &HostRuntime, ending: &str) -> io::Result<Vec<String>> {
     let mut names = Vec::new(rt.alloc());
@@ -116,5 +134,6 @@ fn main(rt: HostRuntime) -> io::Result<ExitCode> {
         check_script(&rt, &mut tally, name.as_str())?;
     }
     links::check_links(&rt, &mut tally)?;
+    check_want_of_memory(&rt, &mut tally)?;
     tally.end(&rt)
 }
