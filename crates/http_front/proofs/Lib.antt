@@ -4,5 +4,6 @@ pub mod HeadLemmas
 pub mod PhraseLemmas
 pub mod PieceLemmas
 pub mod ReceiveLemmas
+pub mod ReplyLemmas
 pub mod RouteLemmas
 pub mod StartLemmas
