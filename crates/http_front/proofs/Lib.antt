@@ -1,6 +1,7 @@
 pub mod EndLemmas
 pub mod FieldLemmas
 pub mod HeadLemmas
+pub mod LawLemmas
 pub mod PhraseLemmas
 pub mod PieceLemmas
 pub mod ReceiveLemmas

@@ -1,9 +1,8 @@
 -- From the bytes of a response that came to all that were to come.
-use Rattle.std.proofs.Common.{◌≡◌, ℕ, ◌+◌, ◌<◌, ◌≤◌, List, [], ◌++◌, ◌∙◌, refl, sym, ap, subst, append_assoc}
-use Rattle.std.proofs.Common.{length, arith, length-append, take, take_all, drop, inl, inr, map, nat_lt, true, false}
-use Rattle.std.specs.Prelude.{Option, Some, None, Result, Ok, Err, IfSome, if◌then◌else◌}
-use Rattle.std.proofs.lemmas.List.{append-nil, drop-append-le}
-use Rattle.httparse.specs.Grammar.{ResponseHead, ReadsResponse, HasNoResponse, print_response, status_code}
+use Rattle.std.proofs.Common.{◌≡◌, ℕ, ◌<◌, ◌≤◌, List, ◌++◌, ◌∙◌, refl, sym, ap, subst}
+use Rattle.std.proofs.Common.{length, arith, length-append, take, take_all, drop, inl, inr, map}
+use Rattle.std.specs.Prelude.{Option, Some, None, Result, Ok, Err, IfSome}
+use Rattle.httparse.specs.Grammar.{ReadsResponse, HasNoResponse, print_response, status_code}
 use Rattle.httparse.specs.Spans.{ResponseOverflows, name_and_value}
 use Rattle.httparse.proofs.GrammarLemmas.{ReadsResponse-append}
 use Rattle.portal_base.specs.Outside.{Gives, IsAtEnd, Takes, TakesPrefix}
@@ -11,9 +10,9 @@ use Rattle.portal_base.specs.declared.outside.FetchFault.{FetchFault}
 use Rattle.portal_base.specs.declared.outside.FetchFault.TheVariants.{Missing}
 use Rattle.http_front.specs.declared.fault.FrontFault.{FrontFault}
 use Rattle.http_front.specs.declared.reply.Reply.{Reply}
-use Rattle.http_front.specs.Fetch.{BeginsReply, HasNoReply, IsReplyOf, IsFetched, reply_of, TellsRead}
+use Rattle.http_front.specs.Fetch.{HasNoReply, IsReplyOf, IsFetched, reply_of, TellsRead}
 use Rattle.http_front.proofs.HeadLemmas.{cut}
-use Rattle.http_front.proofs.ReceiveLemmas.{told_all, on_told, unless_map, fault_map}
+use Rattle.http_front.proofs.ReceiveLemmas.{told_all, on_told, fault_map}
 
 overflows_none : (held rest : List ℕ) → ResponseOverflows 64 held → HasNoReply (held ++ rest)
 overflows_none held rest never head after b =

@@ -1,5 +1,5 @@
 -- What the fetch of a document writes, and what it gives of the bytes that answer it (RFC 9112, sections 3, 4 and 6.3).
-use Rattle.std.specs.Prelude.{◌≡◌, ℕ, ◌≤◌, ◌<◌, ◌⊎◌, Bool, true, false, ◌==◌, nat_lt, List, [], ◌++◌, length, take, drop, map}
+use Rattle.std.specs.Prelude.{◌≡◌, ℕ, ◌≤◌, ◌⊎◌, Bool, true, false, ◌==◌, nat_lt, List, ◌++◌, length, take, drop, map}
 use Rattle.std.specs.Prelude.{codes, if◌then◌else◌, Option, Some, None, Result, Ok, Err, ⊤}
 use Rattle.portal_base.specs.declared.outside.FetchFault.{FetchFault}
 use Rattle.portal_base.specs.declared.outside.FetchFault.TheVariants.{Failed, Missing, TooLong as LongBody}

@@ -7,6 +7,7 @@ pub mod fetch;
 pub mod fields;
 pub mod head;
 pub mod incoming;
+pub mod laws;
 pub mod loopback;
 pub mod reading;
 pub mod receive;

@@ -1,4 +1,4 @@
-use Rattle.std.proofs.Common.{◌≡◌, ◌≤◌, ◌-◌, ◌∙◌, ap, subst, length, take, drop}
+use Rattle.std.proofs.Common.{◌≤◌, ◌-◌, ◌∙◌, ap, subst, length, take, drop}
 use Rattle.std.specs.Prelude.{IfSome}
 use Rattle.std.proofs.lemmas.List.{take_rest}
 use Rattle.http_front.specs.Fetch.{IsReplyOf}
