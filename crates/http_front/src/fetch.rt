@@ -76,17 +76,18 @@ fn read_to_end<K: Link>(
 fn body_of<K: Link>(
     alloc: Global,
     link: &mut K,
-    length: Option<u64>,
+    said: Option<u64>,
     begun: &[u8],
     limit: usize,
 ) -> Result<Vec<u8>, FrontFault>
     ensures gives { IfSome (K.to_come link.old) (λ bytes. TellsRead result (λ body. body.items)
-        (λ told. told ≡ body_of limit length (begun.now ++ bytes))) }
+        (λ told. told ≡ body_of limit said (begun.now ++ bytes))) }
+    ensures within { IfOk result (λ body. length body.items ≤ limit) }
     ensures taken { K.taken link.new ≡ K.taken link.old }
     ensures failed { result ≡ Err FrontFault.LinkFault → Rose (K.faults link.old) (K.faults link.new) }
     ensures counts { K.faults link.old ≤ K.faults link.new }
 {
-    let Some(count) = length else {
+    let Some(count) = said else {
         return read_to_end(alloc, link, begun, limit);
     };
     if count > limit as u64 {
@@ -105,6 +106,7 @@ fn reply_of<K: Link>(
 ) -> Result<Vec<u8>, FrontFault>
     ensures gives { IfSome (K.to_come link.old) (λ bytes. TellsRead result (λ body. body.items)
         (λ told. told ≡ reply_of limit reply.now.status reply.now.fields (begun.now ++ bytes))) }
+    ensures within { IfOk result (λ body. length body.items ≤ limit) }
     ensures taken { K.taken link.new ≡ K.taken link.old }
     ensures failed { result ≡ Err FrontFault.LinkFault → Rose (K.faults link.old) (K.faults link.new) }
     ensures counts { K.faults link.old ≤ K.faults link.new }
@@ -120,6 +122,7 @@ fn reply_of<K: Link>(
 fn fetched<K: Link>(alloc: Global, link: &mut K, limit: usize) -> Result<Vec<u8>, FrontFault>
     ensures gives { IfSome (K.to_come link.old) (λ bytes. TellsRead result (λ body. body.items)
         (IsFetched limit bytes)) }
+    ensures within { IfOk result (λ body. length body.items ≤ limit) }
     ensures taken { K.taken link.new ≡ K.taken link.old }
     ensures failed { result ≡ Err FrontFault.LinkFault → Rose (K.faults link.old) (K.faults link.new) }
     ensures counts { K.faults link.old ≤ K.faults link.new }
@@ -155,6 +158,7 @@ pub fn get_over<K: Link>(
 ) -> Result<Vec<u8>, FetchFault>
     ensures gives { IfSome (K.to_come link.old) (λ bytes. Tells result (λ body. body.items)
         (IsFetched limit bytes)) }
+    ensures within { IfOk result (λ body. length body.items ≤ limit) }
     ensures asked { UnlessNothingTold result
         (Takes (K.taken link.old) (request_bytes host.now target.now) (K.taken link.new)) }
     ensures taken { TakesPrefix (K.taken link.old) (request_bytes host.now target.now) (K.taken link.new) }

@@ -158,6 +158,7 @@ pub fn read_body<K: Link>(
 ) -> Result<Vec<u8>, FrontFault>
     ensures body { IfSome (K.to_come link.old) (λ bytes. IfOk result (λ body.
         (body.items ≡ take count (begun.now ++ bytes)) × (count ≤ length (begun.now ++ bytes)))) }
+    ensures long { IfOk result (λ body. length body.items ≡ count) }
     ensures ended { result ≡ Err FrontFault.EndedEarly → IfSome (K.to_come link.old)
         (λ bytes. length (begun.now ++ bytes) < count) }
     ensures fault { IfErr result (λ fault. (fault ≡ FrontFault.EndedEarly) ⊎ IsOutside fault) }
