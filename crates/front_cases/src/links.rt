@@ -4,6 +4,23 @@ use portal_base::outside::{Failed, Link};
 use portal_base::seq::Seq;
 use std::alloc::{AllocError, Global};
 
+/// What stands for the filler in the bytes of a case.
+const FILLED: u8 = b'$';
+
+/// The bytes, with so many letters in place of each mark.
+pub fn filled(alloc: Global, count: usize, bytes: &[u8]) -> Result<Vec<u8>, AllocError> {
+    let mut whole = Vec::new(alloc);
+    let filler = vec![in alloc; b'a'; count]?;
+    for byte in bytes {
+        if *byte == FILLED {
+            whole.extend_from_slice(filler.as_slice())?;
+        } else {
+            whole.push(*byte)?;
+        }
+    }
+    Ok(whole)
+}
+
 /// A link in memory with these bytes and this much room, which fails at the calls with these numbers.
 pub fn link_of(
     alloc: Global,

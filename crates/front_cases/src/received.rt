@@ -1,5 +1,5 @@
 //! What is received of a link.
-use crate::links::{OneByOne, link_of};
+use crate::links::{OneByOne, filled, link_of};
 use cases::Case;
 use http_front::fault::FrontFault;
 use http_front::incoming::Incoming;
@@ -9,9 +9,6 @@ use portal_base::seq::Seq;
 use portal_base::text::Text;
 use std::alloc::{AllocError, Global};
 use std::io;
-
-/// What stands for the filler in the bytes of a case.
-const FILLED: u8 = b'$';
 
 /// Three names of actions: two that only read, and one that changes something.
 fn is_reading(name: &str) -> Option<bool> {
@@ -87,20 +84,6 @@ fn both_ways(alloc: Global, bytes: &[u8]) -> Result<Vec<u8>, AllocError> {
 /// The bytes of a connection: what is received of them.
 pub fn told(alloc: Global, case: &Case) -> io::Result<Vec<u8>> {
     Ok(both_ways(alloc, case.bytes(0))?)
-}
-
-/// The bytes, with so many letters in place of each mark.
-fn filled(alloc: Global, count: usize, bytes: &[u8]) -> Result<Vec<u8>, AllocError> {
-    let mut whole = Vec::new(alloc);
-    let filler = vec![in alloc; b'a'; count]?;
-    for byte in bytes {
-        if *byte == FILLED {
-            whole.extend_from_slice(filler.as_slice())?;
-        } else {
-            whole.push(*byte)?;
-        }
-    }
-    Ok(whole)
 }
 
 /// How long the filler is, and the bytes of a connection: what is received of them.

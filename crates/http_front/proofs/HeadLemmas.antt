@@ -40,7 +40,7 @@ pub end_none : (held : List ℕ) → HasNoRequest (marked held) → HasNoHead he
 end_none held none head b = none head b.rest b.reads
 
 -- the front of a list that is written in two ways
-cut : (a b x y : List ℕ) → a ++ b ≡ x ++ y → length x ≤ length a → (z : List ℕ) × (a ≡ x ++ z)
+pub cut : (a b x y : List ℕ) → a ++ b ≡ x ++ y → length x ≤ length a → (z : List ℕ) × (a ≡ x ++ z)
 cut a b x y e l = (
   drop (length x) a,
   sym (take-append-drop (length x) a)

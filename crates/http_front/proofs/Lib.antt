@@ -1,8 +1,10 @@
 pub mod EndLemmas
 pub mod FieldLemmas
 pub mod HeadLemmas
+pub mod LawLemmas
 pub mod PhraseLemmas
 pub mod PieceLemmas
 pub mod ReceiveLemmas
+pub mod ReplyLemmas
 pub mod RouteLemmas
 pub mod StartLemmas

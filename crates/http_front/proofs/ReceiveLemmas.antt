@@ -33,7 +33,7 @@ fault_all EndedEarly p = p
 fault_all LinkFault p = tt
 fault_all OutOfMemory p = tt
 
-fault_map : {P Q : Type 0} (fault : FrontFault) → (P → Q) → UnlessOutside fault P → UnlessOutside fault Q
+pub fault_map : {P Q : Type 0} (fault : FrontFault) → (P → Q) → UnlessOutside fault P → UnlessOutside fault Q
 fault_map BadHead f p = f p
 fault_map NoLength f p = f p
 fault_map TooLong f p = f p
@@ -72,7 +72,7 @@ told_all (Some all) left held g end =
     let rest : g.0 ≡ [] = subst IsAtEnd g.1 end in
     g.2 ∙ ap (λ v. held ++ v) rest ∙ append-nil held
 
-on_told : {P Q : List ℕ → Type 0} (told : Option (List ℕ)) → ((bytes : List ℕ) → P bytes → Q bytes) → IfSome told P
+pub on_told : {P Q : List ℕ → Type 0} (told : Option (List ℕ)) → ((bytes : List ℕ) → P bytes → Q bytes) → IfSome told P
     → IfSome told Q
 on_told None f p = tt
 on_told (Some bytes) f p = f bytes p

@@ -1,3 +1,4 @@
+pub mod Fetch
 pub mod Fields
 pub mod Head
 pub mod Location

@@ -74,3 +74,7 @@ UnlessFails result P = MatchResult result (λ _. P) (λ fault. UnlessOutside fau
 -- what a function of texts may answer at a name, by what it may answer at a reference to one
 abbrev pub AnswersAt : (Bor (List ℕ) → Option Bool → Type 0) → Reads
 AnswersAt says name reads = (shown : Bor (List ℕ)) × (shown.now ≡ name) × says shown reads
+
+-- the one answer that a function has at a name
+abbrev pub AnswersBy : (List ℕ → Option Bool) → Reads
+AnswersBy reading name reads = reads ≡ reading name

@@ -29,7 +29,8 @@ pub enum Sight {
     Never,
 }
 
-const MOST_FIELDS: usize = 64;
+/// The most fields of a head.
+pub const MOST_FIELDS: usize = 64;
 
 // Whether the text has more field lines at its front than a head may have.
 fn exceeds(text: &[u8]) -> bool
@@ -107,7 +108,8 @@ fn copy_of(
     })
 }
 
-fn fields_at(alloc: Global, text: &[u8], spans: &[HeaderSpan]) -> Result<Vec<Field>, AllocError>
+/// The fields that the spans are of.
+pub fn fields_at(alloc: Global, text: &[u8], spans: &[HeaderSpan]) -> Result<Vec<Field>, AllocError>
     requires within { (end : ℕ) × (end ≤ length text.now) × All (IsHeaderWithin end) spans.now }
     ensures { IfOk result (λ fields. fields.items ≡ map (header_bytes text.now) spans.now) }
 {

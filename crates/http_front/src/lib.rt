@@ -3,12 +3,15 @@
 #![tactic(auto)]
 
 pub mod fault;
+pub mod fetch;
 pub mod fields;
 pub mod head;
 pub mod incoming;
+pub mod laws;
 pub mod loopback;
 pub mod reading;
 pub mod receive;
+pub mod reply;
 pub mod response;
 pub mod wanted;
 pub mod write;

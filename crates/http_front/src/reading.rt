@@ -13,9 +13,11 @@ use crate::head::{Sight, is_over, sight_of};
 use portal_base::outside::Link;
 use std::alloc::{AllocError, Global};
 
-const LONGEST_HEAD: usize = 16_384;
+/// The most bytes of a head.
+pub const LONGEST_HEAD: usize = 16_384;
 
-const PIECE: usize = 4096;
+/// The most bytes of a piece.
+pub const PIECE: usize = 4096;
 
 fn mark_of(byte: u8) -> u8
     ensures { result ≡ marked_byte byte }
@@ -42,8 +44,8 @@ pub fn head_in(alloc: Global, bytes: &[u8]) -> Result<Sight, AllocError>
     sight_of(alloc, marks.as_slice())
 }
 
-// Reads at most so many bytes behind those that are held, and says whether any came.
-fn read_more<K: Link>(link: &mut K, most: usize, held: &mut Vec<u8>) -> Result<bool, FrontFault>
+/// Reads at most so many bytes behind those that are held, and says whether any came.
+pub fn read_more<K: Link>(link: &mut K, most: usize, held: &mut Vec<u8>) -> Result<bool, FrontFault>
     requires some { 0 < most }
     ensures bytes { IfOk result (λ more.
         ReadsOn most (K.to_come link.old) held.old.items (K.to_come link.new) held.new.items more) }
@@ -59,9 +61,9 @@ fn read_more<K: Link>(link: &mut K, most: usize, held: &mut Vec<u8>) -> Result<b
     Ok(count > 0)
 }
 
-// A head ends in a line feed. So the bytes behind `before` are looked at where one has it, and where they are as many as
-// a head may have.
-fn is_due(held: &[u8], before: usize) -> bool
+/// A head ends in a line feed. So the bytes behind `before` are looked at where one has it, and where they are as many
+/// as a head may have.
+pub fn is_due(held: &[u8], before: usize) -> bool
     ensures { result ≡ false → length held.now < 16384 }
 {
     held.len() >= LONGEST_HEAD || held.get(before..).is_some_and(|new| new.contains(&b'\n'))
@@ -156,6 +158,7 @@ pub fn read_body<K: Link>(
 ) -> Result<Vec<u8>, FrontFault>
     ensures body { IfSome (K.to_come link.old) (λ bytes. IfOk result (λ body.
         (body.items ≡ take count (begun.now ++ bytes)) × (count ≤ length (begun.now ++ bytes)))) }
+    ensures long { IfOk result (λ body. length body.items ≡ count) }
     ensures ended { result ≡ Err FrontFault.EndedEarly → IfSome (K.to_come link.old)
         (λ bytes. length (begun.now ++ bytes) < count) }
     ensures fault { IfErr result (λ fault. (fault ≡ FrontFault.EndedEarly) ⊎ IsOutside fault) }
