@@ -1,6 +1,6 @@
 -- How words that were read in part go on, and where they end.
 use Rattle.std.proofs.Common.{◌≡◌, ◌≢◌, ℕ, suc, ◌+◌, ◌<◌, ◌≤◌, length, get_or, drop, Bool, true, false, ◌||◌, eqb, List}
-use Rattle.std.proofs.Common.{[], ◌∷◌, ◌++◌, map, Option, Some, None, IfNone, Bor, String, Global, string_bytes, refl, sym, ap}
+use Rattle.std.proofs.Common.{[], ◌∷◌, map, Option, Some, None, IfNone, Bor, String, Global, string_bytes, refl, ap}
 use Rattle.std.proofs.Common.{◌∙◌, arith}
 use Rattle.std.specs.List.{list_any}
 use Rattle.std.proofs.lemmas.Bool.{eqb-true}
