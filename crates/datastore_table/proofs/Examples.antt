@@ -1,5 +1,5 @@
 -- The definitions on worked examples: a table of a key `k` and a text `v`, and a batch of two records.
-use Rattle.std.proofs.Common.{◌≡◌, ℕ, Bool, true, false, List, [], ◌∷◌, Ok, Err, refl, rules}
+use Rattle.std.proofs.Common.{◌≡◌, ℕ, Bool, true, false, List, [], ◌∷◌, Ok, Err, length, refl, rules}
 use Rattle.std.specs.Prelude.{codes}
 use Rattle.portal_base.specs.declared.json_value.Json as json
 use Rattle.portal_base.specs.declared.json_value.Json.{Json, the_lemmas}
@@ -14,7 +14,7 @@ use Rattle.datastore_table.specs.declared.method.Method.TheVariants.{Insert, Upd
 use Rattle.datastore_table.specs.declared.row.Row.{Row}
 use Rattle.datastore_table.specs.Batch.{cut_checked, cut_rows}
 use Rattle.datastore_table.specs.Meets.{meets_schema}
-use Rattle.datastore_table.specs.Put.{grown_length, put_records}
+use Rattle.datastore_table.specs.Put.{admitted, grown_length, put_records}
 use Rattle.datastore_table.specs.Table.{TableValue}
 
 abbrev text_field : List ℕ → Bool → FieldValue
@@ -91,3 +91,18 @@ referred = refl
 
 left : cut_rows (1 ∷ 9 ∷ []) (worked []).rows ≡ row 4 (codes "b") (codes "a") ∷ []
 left = refl
+
+-- ---- how many rows a table takes
+
+-- A batch that would leave 1,000,000 rows is admitted, whatever they are, and one with a row more isn't.
+fits : (schema : SchemaValue) (rows : List Row) (given : Json) → length rows ≡ 999999
+    → admitted Insert (given ∷ []) schema rows ≡ Ok tt
+fits schema rows given all = rw all refl
+
+is_one_too_many : (schema : SchemaValue) (rows : List Row) (given : Json) → length rows ≡ 1000000
+    → admitted Insert (given ∷ []) schema rows ≡ Err fault.Full
+is_one_too_many schema rows given all = rw all refl
+
+-- A batch without records is admitted in a full table.
+adds_none : (schema : SchemaValue) (rows : List Row) → length rows ≡ 1000000 → admitted Insert [] schema rows ≡ Ok tt
+adds_none schema rows all = rw all refl
