@@ -21,5 +21,6 @@ fn main(rt: HostRuntime) -> io::Result<ExitCode> {
     check(&rt, &mut tally, "foreign", 5, two::foreign_told)?;
     check(&rt, &mut tally, "referred", 6, two::referred_told)?;
     check(&rt, &mut tally, "restored", 4, restored::told)?;
+    check(&rt, &mut tally, "random", 3, steps::told)?;
     tally.end(&rt)
 }
