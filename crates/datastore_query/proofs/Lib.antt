@@ -1,3 +1,4 @@
+mod Examples
 pub mod ListedLemmas
 pub mod OrderLemmas
 pub mod PartLemmas
