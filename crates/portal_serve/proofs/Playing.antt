@@ -1,6 +1,6 @@
 -- A run on an input that tells: how each turn carries it on, and what stands at its end.
-use Rattle.std.proofs.Common.{◌≡◌, ◌⊎◌, ℕ, ◌+◌, ◌<◌, ◌≤◌, ℤ, List, [], ◌∷◌, ◌++◌, Bool, true, false, cond, length}
-use Rattle.std.proofs.Common.{Option, Some, Result, Err, refl, sym, ap, subst, ◌∙◌, append_assoc, append-nil}
+use Rattle.std.proofs.Common.{◌≡◌, ◌≢◌, ◌⊎◌, ℕ, ◌+◌, ◌<◌, ◌≤◌, ℤ, List, [], ◌∷◌, ◌++◌, Bool, true, false, cond, length}
+use Rattle.std.proofs.Common.{Option, Some, Result, Ok, Err, IfErr, refl, sym, ap, subst, ◌∙◌, append_assoc, append-nil}
 use Rattle.std.proofs.Common.{length-append, inl, inr, arith}
 use Rattle.std.proofs.lemmas.List.Elements.{filter-append}
 use Rattle.std.specs.Prelude.{◌↔◌, filter}
@@ -18,6 +18,11 @@ use Rattle.portal_core.specs.State.{State}
 use Rattle.portal_serve.specs.Transcript.{Standing, AreDrawn, state_after, written_for}
 use Rattle.portal_serve.specs.Run.{Begins, DrawsAll, standing, Devices, Outlet, outlet_of, Stops, PlaysAll, PlaysPart}
 use Rattle.portal_serve.specs.Run.{GaveTooMuch, most_input}
+use Rattle.portal_serve.specs.Stopped.{begun_at, end_of, most_begun}
+use Rattle.portal_serve.specs.declared.play.PlayEnd.{PlayEnd}
+use Rattle.portal_serve.specs.declared.play.PlayEnd.TheVariants as playing
+use Rattle.portal_serve.specs.declared.play.Stop.{Stop}
+use Rattle.portal_serve.specs.declared.play.Stop.TheVariants as stop
 use Rattle.portal_serve.specs.declared.script.TheConstants.{LONGEST_LINE}
 
 -- ---- lines
@@ -420,3 +425,19 @@ plays_nothing most first old whole told =
 
     gives : Gives old.to_come [] old.to_come
     gives = subst (λ o. Gives o [] o) (sym told) (whole, refl, refl)
+
+-- what passed where playing was cut, by how it ended
+pub cut_by_end : {T : Type 0} (first after : State) (old new : Devices) (ended : Result T Stop) (end : PlayEnd)
+    → end ≡ end_of ended
+    → IfErr ended (λ why. (whole : List ℕ) → old.to_come ≡ Some whole → PlaysPart (begun_at why) first whole after old new)
+    → end ≢ playing.Done → (whole : List ℕ) → old.to_come ≡ Some whole
+    → PlaysPart (most_begun end) first whole after old new
+cut_by_end first after old new (Ok done) end is parts cut = absurd (cut is)
+cut_by_end first after old new (Err stop.ReadFault) end is parts cut =
+    λ whole told. subst (λ e. PlaysPart (most_begun e) first whole after old new) (sym is) (parts whole told)
+cut_by_end first after old new (Err stop.WriteFault) end is parts cut =
+    λ whole told. subst (λ e. PlaysPart (most_begun e) first whole after old new) (sym is) (parts whole told)
+cut_by_end first after old new (Err stop.TooLong) end is parts cut =
+    λ whole told. subst (λ e. PlaysPart (most_begun e) first whole after old new) (sym is) (parts whole told)
+cut_by_end first after old new (Err stop.OutOfMemory) end is parts cut =
+    λ whole told. subst (λ e. PlaysPart (most_begun e) first whole after old new) (sym is) (parts whole told)

@@ -1,6 +1,6 @@
 -- Scripts worked line by line: what the lines so far wrote and left, and one line more.
-use Rattle.std.proofs.Common.{◌≡◌, ◌⊎◌, ℕ, ◌+◌, ◌<◌, ◌≤◌, ℤ, List, [], ◌∷◌, ◌++◌, length, ◌==◌, ltb, cond, true, false}
-use Rattle.std.proofs.Common.{Option, Some, None, Result, Ok, Err, OnErr, IfOk, IfErr, refl, sym, ap, subst, ◌∙◌}
+use Rattle.std.proofs.Common.{◌≡◌, ◌≢◌, ◌⊎◌, ℕ, ◌+◌, ◌<◌, ◌≤◌, ℤ, List, [], ◌∷◌, ◌++◌, length, ◌==◌, ltb, cond, true, false}
+use Rattle.std.proofs.Common.{Option, Some, None, Result, Ok, Err, OnOk, OnErr, IfOk, IfErr, refl, sym, ap, subst, ◌∙◌}
 use Rattle.std.proofs.Common.{append_assoc, append-nil, length-append, take, drop, take-append-drop, inl, inr, arith}
 use Rattle.std.specs.Prelude.{filter}
 use Rattle.std.proofs.lemmas.List.Elements.{filter-append}
@@ -219,6 +219,34 @@ request_made name body (Ok r) value fault known = sym value
 request_made name body (Err e) value (inl wanting) known = absurd (known (ap (λ f. Err f) wanting))
 request_made name body (Err e) value (inr is) known = sym is
 
+-- what is replied where a call didn't want memory
+pub replied_in : {E : Type 0} (state : State) (said : ScriptCall) (size : ℕ) (m : ℤ) (n : ℕ)
+    (request : Result Request Early) (who : Caller) (result : Result (Result Reply Early) E)
+    → IfOk request (λ r. request_for said.action said.body ≡ Ok r)
+    → IfErr request (λ e. (e ≡ OutOfMemory) ⊎ (request_for said.action said.body ≡ Err e))
+    → who ≡ known_caller state.people said.caller
+    → IfOk result (λ reply. reply ≡ (replied_for state who size m n request).reply)
+    → OnOk result (request ≢ Err OutOfMemory)
+    → IfOk result (λ reply. reply ≡ (replied_to state said size m n).reply)
+replied_in state said size m n request who (Ok reply) value fault is replied known =
+    replied_known state said size m n request who reply (request_made said.action said.body request value fault known) is
+    replied
+replied_in state said size m n request who (Err e) value fault is replied known = tt
+
+-- the state after it
+pub left_in : {E : Type 0} (state after : State) (said : ScriptCall) (size : ℕ) (m : ℤ) (n : ℕ)
+    (request : Result Request Early) (who : Caller) (result : Result (Result Reply Early) E)
+    → IfOk request (λ r. request_for said.action said.body ≡ Ok r)
+    → IfErr request (λ e. (e ≡ OutOfMemory) ⊎ (request_for said.action said.body ≡ Err e))
+    → who ≡ known_caller state.people said.caller
+    → OnOk result (after ≡ (replied_for state who size m n request).state)
+    → OnOk result (request ≢ Err OutOfMemory)
+    → OnOk result (after ≡ (replied_to state said size m n).state)
+left_in state after said size m n request who (Ok reply) value fault is left known =
+    left_known state after said size m n request who (request_made said.action said.body request value fault known) is
+    left
+left_in state after said size m n request who (Err e) value fault is left known = tt
+
 -- the line of what is replied to a call whose action was read twice
 pub line_written : (state : State) (said : ScriptCall) (size : ℕ) (m : ℤ) (n : ℕ) (first second : List ℕ)
     (reply : Result Reply Early) (line : List ℕ)
@@ -320,6 +348,10 @@ begun_in_line stop.ReadFault of_line = absurd of_line
 begun_in_line stop.WriteFault of_line = omega arith
 begun_in_line stop.TooLong of_line = absurd of_line
 begun_in_line stop.OutOfMemory of_line = omega arith
+
+pub on_ok_always : {T E P : Type 0} (r : Result T E) → P → OnOk r P
+on_ok_always (Ok x) p = p
+on_ok_always (Err e) p = tt
 
 pub on_err_always : {T E P : Type 0} (r : Result T E) → P → OnErr r P
 on_err_always (Ok x) p = tt
