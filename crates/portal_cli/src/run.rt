@@ -11,8 +11,7 @@ ghost use Rattle.portal_serve.specs.Stated.{stated_state};
 use portal_base::outside::{Clock, Failed, Nonces, Sink, Source};
 use portal_base::text::Text;
 use portal_lines::write::write_whole;
-use portal_serve::play::{PlayEnd, play};
-use portal_serve::stated::stated_portal;
+use portal_serve::play::{PlayEnd, play_from_stated};
 use std::alloc::Global;
 
 /// How a run ended. Each is the process's exit status by `code`.
@@ -163,10 +162,6 @@ pub fn run<S: Source, O: Sink, E: Sink, C: Clock, N: Nonces>(
     if !are_play(words) {
         return told(faults, Status::Words);
     }
-    let mut portal = match stated_portal(alloc) {
-        Ok(portal) => portal,
-        Err(_refused) => return told(faults, Status::OutOfMemory),
-    };
-    let end = play(alloc, &mut portal, input, output, clock, nonces);
+    let end = play_from_stated(alloc, input, output, clock, nonces);
     told(faults, status_of(end))
 }

@@ -441,3 +441,12 @@ cut_by_end first after old new (Err stop.TooLong) end is parts cut =
     λ whole told. subst (λ e. PlaysPart (most_begun e) first whole after old new) (sym is) (parts whole told)
 cut_by_end first after old new (Err stop.OutOfMemory) end is parts cut =
     λ whole told. subst (λ e. PlaysPart (most_begun e) first whole after old new) (sym is) (parts whole told)
+
+-- the same from a state under another name
+pub all_from : (first state after : State) (whole : List ℕ) (old new : Devices) → first ≡ state
+    → PlaysAll first whole after old new → PlaysAll state whole after old new
+all_from first state after whole old new is all = subst (λ s. PlaysAll s whole after old new) is all
+
+pub part_from : (most : ℕ) (first state after : State) (whole : List ℕ) (old new : Devices) → first ≡ state
+    → PlaysPart most first whole after old new → PlaysPart most state whole after old new
+part_from most first state after whole old new is part = subst (λ s. PlaysPart most s whole after old new) is part
