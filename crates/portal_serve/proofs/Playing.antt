@@ -234,7 +234,8 @@ stops_after most first state after script begun ms later ns others written part 
       nonces_drawn = AreDrawn-append script begun ns others works.nonces_drawn nonces;
       holds = (part, ap (λ w. w ++ part) (works_wrote first state script ms later ns others written works));
       begins = subst (λ w. Begins (written ++ part) w)
-          (sym (works_then first state script begun ms later ns others written works)) (Begins-after written part _ begins);
+          (sym (works_then first state script begun ms later ns others written works))
+          (Begins-after written part _ begins);
       leaves = leaves_both leaves;
     }
   where
@@ -429,7 +430,8 @@ plays_nothing most first old whole told =
 -- what passed where playing was cut, by how it ended
 pub cut_by_end : {T : Type 0} (first after : State) (old new : Devices) (ended : Result T Stop) (end : PlayEnd)
     → end ≡ end_of ended
-    → IfErr ended (λ why. (whole : List ℕ) → old.to_come ≡ Some whole → PlaysPart (begun_at why) first whole after old new)
+    → IfErr ended (λ why. (whole : List ℕ) → old.to_come ≡ Some whole
+    → PlaysPart (begun_at why) first whole after old new)
     → end ≢ playing.Done → (whole : List ℕ) → old.to_come ≡ Some whole
     → PlaysPart (most_begun end) first whole after old new
 cut_by_end first after old new (Ok done) end is parts cut = absurd (cut is)

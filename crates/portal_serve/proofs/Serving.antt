@@ -1,5 +1,6 @@
 -- What is written to a connection, piece by piece.
-use Rattle.std.proofs.Common.{◌≡◌, ◌≢◌, ◌⊎◌, ℕ, ◌≤◌, List, [], ◌∷◌, Bool, true, false, Result, Ok, Err, Option, Some, None}
+use Rattle.std.proofs.Common.{◌≡◌, ◌≢◌, ℕ, ◌≤◌, List, [], Bool, false, Result, Ok, Err, Option}
+use Rattle.std.proofs.Common.{Some, None}
 use Rattle.std.proofs.Common.{refl, sym, ap, subst, ◌∙◌, take, Bor}
 use Rattle.std.proofs.Common.{rules, inl, inr}
 use Rattle.std.specs.Prelude.{IsSome, IfSome, codes}
@@ -24,7 +25,6 @@ use Rattle.http_front.specs.declared.wanted.Wanted.{Wanted}
 use Rattle.portal_base.specs.Json.{data_of}
 use Rattle.portal_base.specs.Outside.{Rose, Takes, TakesPrefix}
 use Rattle.portal_base.specs.declared.json_value.Json.{the_lemmas}
-use Rattle.portal_core.specs.declared.event.Refusal.{Refusal}
 use Rattle.portal_core.specs.declared.event.Refusal.TheVariants.{NotFound, NotAuthorized, Validation, NameInUse}
 use Rattle.portal_core.specs.declared.event.Refusal.TheVariants.{OutOfMemory}
 use Rattle.portal_core.specs.declared.event.Reply.{Reply}
@@ -32,8 +32,8 @@ use Rattle.portal_core.specs.declared.event.Reply.TheVariants.{Accepted, Shown, 
 use Rattle.portal_core.specs.State.{State}
 use Rattle.portal_serve.proofs.Working.{Rose-before}
 use Rattle.portal_serve.specs.Replied.{Replied}
-use Rattle.portal_serve.specs.Served.{Answers, LinkSight, Reading, Writes, WritesFault, answer_text, error_text, fault_text}
-use Rattle.portal_serve.specs.Served.{memory_text}
+use Rattle.portal_serve.specs.Served.{Answers, LinkSight, Reading, Writes, WritesFault, answer_text, error_text}
+use Rattle.portal_serve.specs.Served.{fault_text, memory_text}
 use Rattle.portal_serve.specs.declared.serve.Served.{Served}
 use Rattle.portal_serve.specs.declared.serve.Served.TheVariants as served
 
@@ -111,8 +111,8 @@ writes_since text old middle new served.LinkFault same rose w = (
 )
 
 -- so was the answer to what was received
-pub answers_since : (incoming : Incoming) (replied : Replied) (state : State) (old middle new : LinkSight) (end : Served)
-    (after : State) → middle.taken ≡ old.taken → old.faults ≤ middle.faults
+pub answers_since : (incoming : Incoming) (replied : Replied) (state : State) (old middle new : LinkSight)
+    (end : Served) (after : State) → middle.taken ≡ old.taken → old.faults ≤ middle.faults
     → Answers incoming replied state middle new end after → Answers incoming replied state old new end after
 answers_since incoming replied state old middle new end after same rose (inl a) =
     inl (writes_since (answer_text incoming replied) old middle new end same rose a.0, a.1)
@@ -140,8 +140,11 @@ fault_since front.OutOfMemory old middle new end same rose failed w none =
 fault_since front.EndedEarly old middle new end same rose failed w none =
     let nothing = w (λ e. absurd (cc)) in (nothing.0, nothing.1 ∙ same)
 fault_since front.LinkFault old middle new end same rose failed w none =
-    let n = none refl in
-    (n.0, ap (λ (s : LinkSight). s.taken) n.1 ∙ same, subst (λ (s : LinkSight). Rose old.faults s.faults) (sym n.1) (failed refl))
+    let n = none refl in (
+      n.0,
+      ap (λ (s : LinkSight). s.taken) n.1 ∙ same,
+      subst (λ (s : LinkSight). Rose old.faults s.faults) (sym n.1) (failed refl),
+    )
 
 -- ---- what was received, by how names are looked up
 
@@ -188,7 +191,8 @@ unless_fails (Err front.EndedEarly) f p = f p
 unless_fails (Err front.LinkFault) f p = p
 unless_fails (Err front.OutOfMemory) f p = p
 
--- What is received where names are looked up by such a function, is what is received where they are looked up by `reads`.
+-- What is received where names are looked up by such a function, is what is received where they are looked up by
+-- `reads`.
 pub receives_reading : (says : Bor (List ℕ) → Option Bool → Type 0)
     → ((name : Bor (List ℕ)) (answer : Option Bool) → says name answer → answer ≡ reads name.now)
     → (told : Option (List ℕ)) (result : Result Incoming FrontFault)

@@ -1,5 +1,6 @@
 -- Scripts worked line by line: what the lines so far wrote and left, and one line more.
-use Rattle.std.proofs.Common.{◌≡◌, ◌≢◌, ◌⊎◌, ℕ, ◌+◌, ◌<◌, ◌≤◌, ℤ, List, [], ◌∷◌, ◌++◌, length, ◌==◌, ltb, cond, true, false}
+use Rattle.std.proofs.Common.{◌≡◌, ◌≢◌, ◌⊎◌, ℕ, ◌+◌, ◌<◌, ◌≤◌, ℤ, List, [], ◌∷◌, ◌++◌, length, ◌==◌, ltb, cond, true}
+use Rattle.std.proofs.Common.{false}
 use Rattle.std.proofs.Common.{Option, Some, None, Result, Ok, Err, OnOk, OnErr, IfOk, IfErr, refl, sym, ap, subst, ◌∙◌}
 use Rattle.std.proofs.Common.{append_assoc, append-nil, length-append, take, drop, take-append-drop, inl, inr, arith}
 use Rattle.std.specs.Prelude.{filter}
@@ -16,9 +17,9 @@ use Rattle.portal_serve.specs.declared.script.TheConstants.{LONGEST_LINE}
 use Rattle.std.proofs.lemmas.Bool.{lt-ltb}
 use Rattle.std.proofs.lemmas.Bool.Decides.{nat_tests}
 use Rattle.portal_core.specs.State.{State}
-use Rattle.portal_serve.specs.Replied.{Replied, call_of, replied_for}
+use Rattle.portal_serve.specs.Replied.{Replied, replied_for}
 use Rattle.portal_serve.specs.Transcript.{Standing, AreDrawn, asks, draws, turn, turn_of, standing_after, written_for}
-use Rattle.portal_serve.specs.Transcript.{replied_to, reply_line, early_line, state_after}
+use Rattle.portal_serve.specs.Transcript.{replied_to, reply_line, early_line}
 use Rattle.action_api.specs.Request.{request_for}
 use Rattle.portal_base.specs.declared.caller.Caller.{Caller}
 use Rattle.portal_calls.specs.declared.call.Request.{Request}
@@ -229,8 +230,8 @@ pub replied_in : {E : Type 0} (state : State) (said : ScriptCall) (size : ℕ) (
     → OnOk result (request ≢ Err OutOfMemory)
     → IfOk result (λ reply. reply ≡ (replied_to state said size m n).reply)
 replied_in state said size m n request who (Ok reply) value fault is replied known =
-    replied_known state said size m n request who reply (request_made said.action said.body request value fault known) is
-    replied
+    replied_known state said size m n request who reply
+    (request_made said.action said.body request value fault known) is replied
 replied_in state said size m n request who (Err e) value fault is replied known = tt
 
 -- the state after it
@@ -258,8 +259,8 @@ pub line_written : (state : State) (said : ScriptCall) (size : ℕ) (m : ℤ) (n
 line_written state said size m n first second reply line one two replied wrote =
     wrote ∙ ap (λ a. reply_line (Some a) reply) two
     ∙ ap (λ r. reply_line (Some said.action) r)
-    (replied ∙ ap (λ a. (replied_to state (record { caller = said.caller; action = a; body = said.body }) size m n).reply)
-    one)
+    (replied
+    ∙ ap (λ a. (replied_to state (record { caller = said.caller; action = a; body = said.body }) size m n).reply) one)
 
 -- what the call of a line writes and leaves
 pub call_written : (state after : State) (line : List ℕ) (said : ScriptCall) (m : ℤ) (n : ℕ) (text : List ℕ)

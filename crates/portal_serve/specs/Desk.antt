@@ -1,6 +1,6 @@
 -- A desk: the links that its listener gave, served one after another, and given back.
 use Rattle.std.specs.Prelude.{◌≡◌, ◌⊎◌, ℕ, zero, suc, ℤ, ◌≤◌, Bool, true, false, IsTrue, List, [], ◌∷◌, ◌++◌, length}
-use Rattle.std.specs.Prelude.{map, Option, Some, None, MatchOption, option_map, Result, Ok, Err, OnErr}
+use Rattle.std.specs.Prelude.{map, Option, Some, None, MatchOption, option_map, Result, Ok, OnErr}
 use Rattle.portal_base.specs.Counted.{next_count}
 use Rattle.portal_base.specs.Outside.{Rose}
 use Rattle.portal_base.specs.declared.outside.Failed.{Failed}

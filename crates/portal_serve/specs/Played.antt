@@ -66,17 +66,17 @@ EndsAll front = (more : List ℕ) → lines (front ++ more) ≡ lines front ++ l
 
 -- The turn stopped. Input gave some bytes. Of all that was in hand some bytes in front are those of the lines that were
 -- begun, at most `most`, with their ends.
-pub record StopsTurn (most : ℕ) (state after : State) (before : Reading) (reading : Reading) (old new : Devices) : Type 0
-  where
-    pub bytes : List ℕ
-    pub gives : Gives old.to_come bytes new.to_come
-    pub counts : reading.given ≡ before.given + length bytes
-    pub front : List ℕ
-    pub ahead : List ℕ
-    pub splits : before.held ++ bytes ≡ front ++ ahead
-    pub ended : EndsAll front ⊎ ((ahead ≡ []) × IsAtEnd new.to_come)
-    pub few : length (script_lines front) ≤ most
-    pub begun : BeginsLines state (script_lines front) after (outlet_of old) (outlet_of new)
+pub record StopsTurn (most : ℕ) (state after : State) (before : Reading) (reading : Reading) (old new : Devices) :
+    Type 0 where
+  pub bytes : List ℕ
+  pub gives : Gives old.to_come bytes new.to_come
+  pub counts : reading.given ≡ before.given + length bytes
+  pub front : List ℕ
+  pub ahead : List ℕ
+  pub splits : before.held ++ bytes ≡ front ++ ahead
+  pub ended : EndsAll front ⊎ ((ahead ≡ []) × IsAtEnd new.to_come)
+  pub few : length (script_lines front) ≤ most
+  pub begun : BeginsLines state (script_lines front) after (outlet_of old) (outlet_of new)
 
 -- The run so far on an input that tells: what was worked at the front of the whole, what is in hand and what is to
 -- come.

@@ -1,5 +1,5 @@
 -- A script: its lines, and the call that a line asks for.
-use Rattle.std.specs.Prelude.{ℕ, List, [], ◌∷◌, Bool, nat_lt, length, filter, codes, Option, Some, None, Result, Ok}
+use Rattle.std.specs.Prelude.{ℕ, List, [], Bool, nat_lt, length, filter, codes, Option, Some, None, Result, Ok}
 use Rattle.std.specs.Prelude.{Err, option_map, option_and_then, if◌then◌else◌}
 use Rattle.std.specs.Str.Lines.{lines}
 use Rattle.portal_base.specs.Json.{json_reading, member_of}

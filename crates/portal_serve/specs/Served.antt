@@ -120,7 +120,8 @@ Answers incoming replied state old new end after =
     ⊎ (Writes memory_text old new end × ((after ≡ state) ⊎ (after ≡ replied.state)))
 
 -- What is written for what was received, and the state after it.
-abbrev pub Works : Digests → State → ℤ → ℕ → Result Incoming FrontFault → LinkSight → LinkSight → Served → State → Type 0
+abbrev pub Works : Digests → State → ℤ → ℕ → Result Incoming FrontFault → LinkSight → LinkSight → Served → State
+    → Type 0
 Works digests state moment nonce (Ok incoming) old new end after =
     Answers incoming (answered digests state moment nonce incoming) state old new end after
 Works digests state moment nonce (Err fault) old new end after =

@@ -7,4 +7,5 @@ use Rattle.action_api.proofs.query.members_in.Given as goal
 
 -- the pairs that are left, set among the members so far, make the body
 abbrev pub invariant-loop-pair : goal.invariant-loop-pair
-invariant-loop-pair l = fold with_pair l.members.entries (owned_pairs_left l.pairs) ≡ fold with_pair [] (raw_pairs l.query)
+invariant-loop-pair l =
+    fold with_pair l.members.entries (owned_pairs_left l.pairs) ≡ fold with_pair [] (raw_pairs l.query)

@@ -9,8 +9,8 @@ use Rattle.portal_serve.proofs.play.play_call.Goals as goal
 pub returns-in_err-text-clause-cut : goal.returns-in_err-text-clause-cut
 returns-in_err-text-clause-cut g c =
     on_err_always c.from_residual.result
-    (stops_before_writing _ _ _ (asked c.args.said) _ _ _ _ c.requires c.in_err-text.ensures.stopped refl (DrawsAll-one _ _ _ c.now-moment.ensures)
-    (DrawsAll-one _ _ _ c.next-nonce.ensures))
+    (stops_before_writing _ _ _ (asked c.args.said) _ _ _ _ c.requires c.in_err-text.ensures.stopped refl
+    (DrawsAll-one _ _ _ c.now-moment.ensures) (DrawsAll-one _ _ _ c.next-nonce.ensures))
 
 pub returns-clause-ok : goal.returns-clause-ok
 returns-clause-ok g c =

@@ -31,7 +31,8 @@ returns-in-Ok-false-clause-done g c =
     c.in-Ok-false.ensures.within
 
 pub returns-in-Err-play_next-clause-cut : goal.returns-in-Err-play_next-clause-cut
-returns-in-Err-play_next-clause-cut g c = keeps_part _ _ _ _ _ _ _ _ _ c.lines.invariant.kept c.in-Err-play_next.ensures.cut
+returns-in-Err-play_next-clause-cut g c =
+    keeps_part _ _ _ _ _ _ _ _ _ c.lines.invariant.kept c.in-Err-play_next.ensures.cut
 
 pub returns-in-Ok-false-clause-too_long : goal.returns-in-Ok-false-clause-too_long
 returns-in-Ok-false-clause-too_long g c =

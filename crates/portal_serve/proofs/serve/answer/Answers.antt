@@ -10,5 +10,6 @@ pub write-requires : goal.write-requires
 write-requires g c =
     record {
       phrase = subst (λ s. IsSome (reason_phrase s)) (sym (ap (λ t. t.0) c.in-Ok.ensures.text))
-          (has_phrase (answered c.args.tokens.now c.args.portal.now c.args.moment c.args.nonce.0 c.args.incoming.now).reply);
+          (has_phrase (answered c.args.tokens.now c.args.portal.now c.args.moment c.args.nonce.0
+          c.args.incoming.now).reply);
     }
