@@ -1,0 +1,27 @@
+use Rattle.std.proofs.Common.{◌≡◌, ◌∷◌, ◌++◌, [], Some, option_map, string_bytes, sym, ap, ◌∙◌}
+use Rattle.std.proofs.lemmas.Map.Iter.{rest_more}
+use Rattle.std.specs.Map.Iter.{deref_pair}
+use Rattle.std.specs.Option.{option_copied}
+use Rattle.portal_file.proofs.TableLemmas.{roles-turn}
+use Rattle.portal_file.specs.Tables.{named_role, roles_of}
+use Rattle.portal_file.proofs.orgs.roles_of.Goals as goal
+use Rattle.toml.specs.Data.{as_str}
+use Rattle.toml.specs.View.{view, members_view}
+
+pub loop-user-preserved : goal.loop-user-preserved
+loop-user-preserved c =
+    let org = c.args.org.now in
+    let front = c.loop-user.roles in
+    let user = c.in-Some.user.now in
+    let role = c.in-Some-as_str.role.now in
+    let rest : c.loop-user.user-iterator ≡ (user, c.in-Some.value.now) ∷ c.next.new.self =
+    rest_more deref_pair c.loop-user.user-iterator c.next.new.self c.next.result (c.in-Some.user, c.in-Some.value)
+    c.in-Some.is c.next.ensures.steps in
+    let said : as_str (view c.in-Some.value.now) ≡ Some role =
+    sym c.as_str.ensures ∙ ap option_copied c.in-Some-as_str.is in
+    let pushed : c.push.new.items ≡ front ++ named_role org (string_bytes user) role ∷ [] =
+    c.in_ok-push.ensures ∙ ap (λ r. front ++ r ∷ [])
+    (c.in_ok-named_role.ensures ∙ ap (λ u. named_role org u role) c.as_str-in-loop-user.ensures.value) in
+    rw pushed (roles-turn org front user c.in-Some.value.now c.next.new.self role said
+    ∙ ap (λ es. option_map (λ more. front ++ more) (roles_of org (members_view es))) (sym rest)
+    ∙ c.loop-user.invariant)

@@ -1,0 +1,126 @@
+//! A portal file as a whole.
+ghost use Rattle.std.specs.Prelude.{◌≡◌, ◌++◌, [], ◌∷◌, Some, None, Ok, Err, IfOk, IsErrOf, IfSome, IfNone, true, false};
+ghost use Rattle.std.specs.Str.{is_utf8};
+ghost use Rattle.portal_file.specs.File.{file_of, file_of_tables, file_with, memberships_of};
+ghost use Rattle.portal_file.specs.declared.rule.FileRule.{FileRule};
+ghost use Rattle.toml.specs.Parse.{parse_document};
+ghost use Rattle.toml.specs.View.{table_view};
+
+use crate::entries::{NamedRole, Orgs, Users, push};
+use crate::orgs::orgs_in;
+use crate::rule::{FileFault, FileRule, TableFault};
+use crate::rules::{broken_rule, role_named};
+use crate::users::users_in;
+use org_roles::entry::{Membership, Org, User};
+use portal_base::copy::TryClone;
+use portal_base::seq::Seq;
+use portal_base::text::Text;
+use std::alloc::{AllocError, Global};
+use toml::Table;
+
+/// What a portal file says: the users, the organizations with the roles in them, and the tokens, of a user each and as
+/// the SHA-256 digest in 64 hexadecimal digits in lower case.
+#[derive(Drop)]
+pub struct PortalFile {
+    pub users: Seq<User>,
+    pub orgs: Seq<Org>,
+    pub roles: Seq<Membership>,
+    pub tokens: Seq<(Text, Text)>,
+}
+
+impl From<TableFault> for FileFault {
+    ghost use Rattle.portal_file.specs.File.{told};
+
+    ghost from_gives = { λ fault told_fault. told_fault ≡ told fault };
+
+    fn from(fault: TableFault) -> FileFault {
+        match fault {
+            TableFault::Kind => FileFault::Rule(FileRule::Toml),
+            TableFault::OutOfMemory => FileFault::OutOfMemory,
+        }
+    }
+}
+
+/// The memberships of the roles that there are.
+fn memberships_of(alloc: Global, roles: &[NamedRole]) -> Result<Seq<Membership>, AllocError>
+    ensures { IfOk result (λ memberships. memberships ≡ memberships_of roles.now) }
+{
+    let mut memberships = Seq::new(alloc);
+    for named in roles {
+        if let Some(role) = role_named(named.role.as_str()) {
+            let org = named.org.try_clone(alloc)?;
+            let user = named.user.try_clone(alloc)?;
+            push(&mut memberships, Membership { org, user, role })?;
+        }
+    }
+    Ok(memberships)
+}
+
+/// What the users and the organizations say, or the first rule that they break.
+fn file_with(alloc: Global, users: Users, orgs: Orgs) -> Result<PortalFile, FileFault>
+    ensures ok { IfOk result (λ file. file_with users orgs ≡ Ok file) }
+    ensures rule { (rule : FileRule) → IsErrOf result (FileFault.Rule rule) → file_with users orgs ≡ Err rule }
+{
+    if let Some(rule) = broken_rule(&users, &orgs) {
+        return Err(FileFault::Rule(rule));
+    }
+    let roles = memberships_of(alloc, orgs.roles.as_slice())?;
+    Ok(PortalFile {
+        users: users.users,
+        orgs: orgs.orgs,
+        roles,
+        tokens: users.tokens,
+    })
+}
+
+/// What the tables say, or the first rule that they break.
+fn file_of_table(alloc: Global, table: &Table) -> Result<PortalFile, FileFault>
+    ensures ok { IfOk result (λ file. file_of_tables (Some (table_view table.now)) ≡ Ok file) }
+    ensures rule { (rule : FileRule) → IsErrOf result (FileFault.Rule rule) →
+        file_of_tables (Some (table_view table.now)) ≡ Err rule }
+{
+    let users = users_in(alloc, table)?;
+    let orgs = orgs_in(alloc, table)?;
+    file_with(alloc, users, orgs)
+}
+
+/// The bytes as a text, if they are UTF-8.
+fn text_in(bytes: &[u8]) -> Option<&str>
+    ensures none { IfNone result (is_utf8 bytes.now ≡ false) }
+    ensures some { IfSome result (λ text. (is_utf8 bytes.now ≡ true) × (text.now ≡ bytes.now)) }
+{
+    match std::str::from_utf8(bytes) {
+        Ok(text) => Some(text),
+        Err(_) => None,
+    }
+}
+
+/// The table that the text is.
+fn table_of(alloc: Global, text: &str) -> Result<Table, TableFault>
+    ensures ok { IfOk result (λ table. parse_document text.now ≡ Some (table_view table)) }
+    ensures kind { IsErrOf result TableFault.Kind → parse_document text.now ≡ None }
+{
+    match toml::table_from_str(alloc, text) {
+        Ok(table) => Ok(table),
+        Err(error) => if error.is_memory() {
+            Err(TableFault::OutOfMemory)
+        } else {
+            Err(TableFault::Kind)
+        },
+    }
+}
+
+impl PortalFile {
+    /// The file that the bytes are. A rule is told exactly where they break it and none before it, but for want of
+    /// memory.
+    pub fn read(alloc: Global, bytes: &[u8]) -> Result<PortalFile, FileFault>
+        ensures ok { IfOk result (λ file. file_of bytes.now ≡ Ok file) }
+        ensures rule { (rule : FileRule) → IsErrOf result (FileFault.Rule rule) → file_of bytes.now ≡ Err rule }
+    {
+        let Some(text) = text_in(bytes) else {
+            return Err(FileFault::Rule(FileRule::Toml));
+        };
+        let table = table_of(alloc, text)?;
+        file_of_table(alloc, &table)
+    }
+}
