@@ -1,3 +1,4 @@
 pub mod File
+pub mod Opening
 pub mod Rules
 pub mod Tables

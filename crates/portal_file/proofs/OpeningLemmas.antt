@@ -1,0 +1,196 @@
+-- What holds of each file that breaks no rule, as a portal that is opened with it asks.
+use Rattle.std.proofs.Common.{◌≡◌, ℕ, Bool, true, false, not, ◌&&◌, List, [], ◌∷◌, ◌++◌, Option, Some, None, IfSome, IfOk}
+use Rattle.std.proofs.Common.{arith, refl, sym, ap, ◌∙◌, length, nat_le, nat_lt, codes, option_map, Result, Ok}
+use Rattle.std.specs.Prelude.{if◌then◌else◌, option_and_then, IsTrue}
+use Rattle.std.specs.List.{list_all, list_any}
+use Rattle.std.specs.Str.{bytes_eq, chars}
+use Rattle.std.proofs.lemmas.Bool.{and_parts, and_from, lt-ltb, or_left, or_right}
+use Rattle.std.proofs.lemmas.List.Folds.{list_all-append, list_any-append}
+use Rattle.std.proofs.lemmas.Option.{none-some}
+use Rattle.std.proofs.lemmas.Str.{chars-nil}
+use Rattle.portal_base.specs.Name.{is_name_character}
+use Rattle.org_roles.proofs.PeopleLemmas.{equal}
+use Rattle.org_roles.specs.Distinct.{have_distinct_names, is_org_name_among}
+use Rattle.org_roles.specs.declared.entry.Org.{Org}
+use Rattle.org_roles.specs.declared.role.Role.{Role}
+use Rattle.portal_file.specs.declared.entries.NamedRole.{NamedRole}
+use Rattle.portal_file.specs.declared.entries.Orgs.{Orgs}
+use Rattle.portal_file.specs.declared.entries.Users.{Users}
+use Rattle.portal_file.specs.declared.file.PortalFile.{PortalFile}
+use Rattle.portal_file.specs.declared.rule.FileRule.{FileRule}
+use Rattle.portal_file.specs.declared.rule.FileRule.TheVariants as rule
+use Rattle.portal_file.specs.File.{file_if, file_with, file_with_users, file_of_tables, membership_for, memberships_of}
+use Rattle.portal_file.specs.Opening.{are_named, are_housed}
+use Rattle.portal_file.specs.Rules.{broken_rule, role_named, is_file_name, have_file_names, have_org_file_names}
+use Rattle.portal_file.specs.Rules.{have_digests, have_distinct_digests}
+use Rattle.portal_file.specs.Tables.{items_say, joined_orgs, no_orgs, named_role, roles_of, roles_for, roles_in, one_org}
+use Rattle.portal_file.specs.Tables.{org_in, org_of, orgs_of, orgs_for, orgs_in, users_in}
+use Rattle.toml.specs.Data.{Data, Items, no_items, item, Members, no_members, member, as_str, as_table, as_array}
+use Rattle.toml.specs.Data.{get_member}
+
+-- ---- users and organizations that break no rule
+
+passed : (kept : Bool) (told : FileRule) (rest : Option FileRule) → (if not kept then Some told else rest) ≡ None
+    → (kept ≡ true) × (rest ≡ None)
+passed true told rest e = (refl, e)
+passed false told rest e = absurd (none-some told (sym e))
+
+orgs_texts : (users : Users) (orgs : Orgs) → broken_rule users orgs ≡ None → have_org_file_names orgs.orgs ≡ true
+orgs_texts users orgs e =
+    let (_, e1) = passed (have_file_names users.users) rule.UserName _ e in
+    let (_, e2) = passed (have_distinct_names users.users) rule.RepeatedUser _ e1 in
+    let (_, e3) = passed (have_digests users.tokens) rule.Token _ e2 in
+    let (_, e4) = passed (have_distinct_digests users.tokens) rule.RepeatedToken _ e3 in
+    (passed (have_org_file_names orgs.orgs) rule.OrganizationName _ e4).0
+
+-- what users and organizations say that break no rule
+abbrev file_from : Users → Orgs → PortalFile
+file_from users orgs = record {
+  users = users.users;
+  orgs = orgs.orgs;
+  roles = memberships_of orgs.roles;
+  tokens = users.tokens;
+}
+
+-- What holds of a file wherever its users and its organizations break no rule holds of each file.
+module _ (P : PortalFile → Type 0) (Q : Orgs → Type 0)
+    (from : (users : Users) (orgs : Orgs) → broken_rule users orgs ≡ None → Q orgs → P (file_from users orgs)) where
+  if_unbroken : (broken : Option FileRule) (users : Users) (orgs : Orgs) → broken_rule users orgs ≡ broken → Q orgs
+      → IfOk (file_if broken users orgs) P
+  if_unbroken None users orgs e q = from users orgs e q
+  if_unbroken (Some told) users orgs e q = tt
+
+  if_told : (users : Option Users) (orgs : Option Orgs) → IfSome orgs Q → IfOk (file_with_users users orgs) P
+  if_told (Some users) (Some orgs) q = if_unbroken (broken_rule users orgs) users orgs refl q
+  if_told (Some users) None q = tt
+  if_told None (Some orgs) q = tt
+  if_told None None q = tt
+
+  pub each_file : (tables : Members) → IfSome (orgs_in tables) Q → IfOk (file_of_tables (Some tables)) P
+  each_file tables q = if_told (users_in tables) (orgs_in tables) q
+
+-- ---- names
+
+any_orgs : (orgs : Option Orgs) → IfSome orgs (λ _. true ≡ true)
+any_orgs None = tt
+any_orgs (Some orgs) = refl
+
+all_weaker : {X : Type 0} (p q : X → Bool) → ((x : X) → p x ≡ true → q x ≡ true) → (xs : List X)
+    → list_all p xs ≡ true → list_all q xs ≡ true
+all_weaker p q keep [] e = refl
+all_weaker p q keep (x ∷ xs) e =
+    let (here, more) = and_parts (p x) (list_all p xs) e in
+    and_from (q x) (list_all q xs) (keep x here) (all_weaker p q keep xs more)
+
+-- a name of a file isn't empty
+some_text : (text : List ℕ) → is_file_name text ≡ true → nat_lt 0 (length text) ≡ true
+some_text [] e =
+    ap (λ cs. (nat_le 2 (length cs) && nat_le (length cs) 100) && list_all is_name_character cs) (sym chars-nil) ∙ e
+some_text (c ∷ cs) e = lt-ltb 0 (length (c ∷ cs)) (omega arith)
+
+pub orgs_named : (tables : Members) → IfOk (file_of_tables (Some tables)) (λ file. IsTrue (are_named file.orgs))
+orgs_named tables =
+    each_file (λ file. IsTrue (are_named file.orgs)) (λ _. true ≡ true)
+    (λ users orgs e _. all_weaker (λ org. is_file_name org.name) (λ org. nat_lt 0 (length org.name))
+    (λ org. some_text org.name) orgs.orgs (orgs_texts users orgs e)) tables (any_orgs _)
+
+-- ---- roles and their organizations
+
+-- What holds of nothing, of what each item says and of two that are joined holds of what the items say.
+module _ {A : Type 0} (join : A → A → A) (nothing : A) (read : Data → Option A) (P : A → Type 0) where
+  one_more : ((a b : A) → P a → P b → P (join a b)) → (first more : Option A) → IfSome first P → IfSome more P
+      → IfSome (option_and_then (λ a. option_map (join a) more) first) P
+  one_more both None more p q = tt
+  one_more both (Some a) None p q = tt
+  one_more both (Some a) (Some b) p q = both a b p q
+
+  pub items_keep : P nothing → ((a b : A) → P a → P b → P (join a b)) → ((d : Data) → IfSome (read d) P)
+      → (items : Items) → IfSome (items_say join nothing read items) P
+  items_keep none both each no_items = none
+  items_keep none both each (item d ds) =
+      one_more both (read d) (items_say join nothing read ds) (each d) (items_keep none both each ds)
+
+-- each role is one in an organization that stands beside it
+abbrev is_housed : List Org → NamedRole → Bool
+is_housed orgs r = is_org_name_among orgs r.org
+
+abbrev AreHoused : Orgs → Type 0
+AreHoused o = list_all (is_housed o.orgs) o.roles ≡ true
+
+-- What holds of each role in the organization holds of all the roles of a table.
+module _ (org : List ℕ) (test : NamedRole → Bool)
+    (each : (user role : List ℕ) → test (named_role org user role) ≡ true) where
+  one_role : (user : List ℕ) (role : Option (List ℕ)) (more : Option (List NamedRole))
+      → IfSome more (λ rs. list_all test rs ≡ true)
+      → IfSome (option_and_then (λ role. option_map (λ others. named_role org user role ∷ others) more) role)
+      (λ rs. list_all test rs ≡ true)
+  one_role user None more q = tt
+  one_role user (Some role) None q = tt
+  one_role user (Some role) (Some rs) q = and_from _ _ (each user role) q
+
+  table_roles : (table : Members) → IfSome (roles_of org table) (λ rs. list_all test rs ≡ true)
+  table_roles no_members = refl
+  table_roles (member user value rest) = one_role user (as_str value) (roles_of org rest) (table_roles rest)
+
+  some_table : (table : Option Members)
+      → IfSome (option_and_then (roles_of org) table) (λ rs. list_all test rs ≡ true)
+  some_table None = tt
+  some_table (Some table) = table_roles table
+
+  pub all_roles : (value : Option Data) → IfSome (roles_for org value) (λ rs. list_all test rs ≡ true)
+  all_roles None = refl
+  all_roles (Some value) = some_table (as_table value)
+
+with_roles : (org : Org) (roles : Option (List NamedRole))
+    → IfSome roles (λ rs. list_all (is_housed (org ∷ [])) rs ≡ true)
+    → IfSome (option_map (λ rs. record { orgs = org ∷ []; roles = rs }) roles) AreHoused
+with_roles org None q = tt
+with_roles org (Some rs) q = q
+
+one_housed : (table : Members) (org : Option Org) → IfSome (option_and_then
+    (λ org. option_map (λ roles. record { orgs = org ∷ []; roles = roles }) (roles_in org.name table)) org) AreHoused
+one_housed table None = tt
+one_housed table (Some org) =
+    with_roles org (roles_in org.name table) (all_roles org.name (is_housed (org ∷ []))
+    (λ user role. or_left (bytes_eq org.name org.name) false (equal org.name)) (get_member (codes "roles") table))
+
+org_housed : (table : Option Members) → IfSome (option_and_then one_org table) AreHoused
+org_housed None = tt
+org_housed (Some table) = one_housed table (org_in table)
+
+joined_housed : (a b : Orgs) → AreHoused a → AreHoused b → AreHoused (joined_orgs a b)
+joined_housed a b p q =
+    list_all-append (is_housed (a.orgs ++ b.orgs)) a.roles b.roles ∙ and_from _ _
+    (all_weaker (is_housed a.orgs) (is_housed (a.orgs ++ b.orgs))
+    (λ r e. list_any-append (λ o. bytes_eq o.name r.org) a.orgs b.orgs ∙ or_left _ _ e) a.roles p)
+    (all_weaker (is_housed b.orgs) (is_housed (a.orgs ++ b.orgs))
+    (λ r e. list_any-append (λ o. bytes_eq o.name r.org) a.orgs b.orgs ∙ or_right _ _ e) b.roles q)
+
+list_housed : (list : Option Items) → IfSome (option_and_then orgs_of list) AreHoused
+list_housed None = tt
+list_housed (Some items) =
+    items_keep joined_orgs no_orgs org_of AreHoused refl joined_housed (λ d. org_housed (as_table d)) items
+
+for_housed : (value : Option Data) → IfSome (orgs_for value) AreHoused
+for_housed None = refl
+for_housed (Some value) = list_housed (as_array value)
+
+-- The memberships of roles are in the organizations of the roles.
+memberships_keep : (test : List ℕ → Bool) (rs : List NamedRole) → list_all (λ r. test r.org) rs ≡ true
+    → list_all (λ m. test m.org) (memberships_of rs) ≡ true
+memberships_keep test [] e = refl
+memberships_keep test (r ∷ rs) e =
+    let (here, more) = and_parts (test r.org) (list_all (λ r. test r.org) rs) e in
+    one (role_named r.role) here (memberships_keep test rs more)
+  where
+    one : (role : Option Role) → test r.org ≡ true → list_all (λ m. test m.org) (memberships_of rs) ≡ true
+        → list_all (λ m. test m.org) (membership_for r role ++ memberships_of rs) ≡ true
+    one None here more = more
+    one (Some role) here more = and_from _ _ here more
+
+pub roles_housed : (tables : Members)
+    → IfOk (file_of_tables (Some tables)) (λ file. IsTrue (are_housed file.orgs file.roles))
+roles_housed tables =
+    each_file (λ file. IsTrue (are_housed file.orgs file.roles)) AreHoused
+    (λ users orgs _ housed. memberships_keep (λ name. is_org_name_among orgs.orgs name) orgs.roles housed)
+    tables (for_housed (get_member (codes "organization") tables))

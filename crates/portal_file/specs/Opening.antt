@@ -1,0 +1,14 @@
+-- What else a portal that is opened with the file asks of it, where no rule of the file says so itself.
+use Rattle.std.specs.Prelude.{Bool, nat_lt, length, List}
+use Rattle.std.specs.List.{list_all}
+use Rattle.org_roles.specs.Distinct.{is_org_name_among}
+use Rattle.org_roles.specs.declared.entry.Membership.{Membership}
+use Rattle.org_roles.specs.declared.entry.Org.{Org}
+
+-- each organization has a name that isn't empty
+abbrev pub are_named : List Org → Bool
+are_named orgs = list_all (λ org. nat_lt 0 (length org.name)) orgs
+
+-- each role is one in an organization of the list
+abbrev pub are_housed : List Org → List Membership → Bool
+are_housed orgs roles = list_all (λ role. is_org_name_among orgs role.org) roles
