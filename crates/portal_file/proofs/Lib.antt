@@ -1,3 +1,4 @@
 mod FileLemmas
 mod OpeningLemmas
+mod PairLemmas
 mod TableLemmas

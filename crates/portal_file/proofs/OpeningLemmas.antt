@@ -1,16 +1,16 @@
 -- What holds of each file that breaks no rule, as a portal that is opened with it asks.
 use Rattle.std.proofs.Common.{◌≡◌, ℕ, Bool, true, false, not, ◌&&◌, List, [], ◌∷◌, ◌++◌, Option, Some, None, IfSome, IfOk}
-use Rattle.std.proofs.Common.{arith, refl, sym, ap, ◌∙◌, length, nat_le, nat_lt, codes, option_map, Result, Ok}
+use Rattle.std.proofs.Common.{arith, refl, sym, ap, ◌∙◌, length, nat_le, nat_lt, codes, option_map}
 use Rattle.std.specs.Prelude.{if◌then◌else◌, option_and_then, IsTrue}
-use Rattle.std.specs.List.{list_all, list_any}
-use Rattle.std.specs.Str.{bytes_eq, chars}
+use Rattle.std.specs.List.{list_all}
+use Rattle.std.specs.Str.{bytes_eq}
 use Rattle.std.proofs.lemmas.Bool.{and_parts, and_from, lt-ltb, or_left, or_right}
 use Rattle.std.proofs.lemmas.List.Folds.{list_all-append, list_any-append}
-use Rattle.std.proofs.lemmas.Option.{none-some}
+use Rattle.std.proofs.lemmas.Option.{MatchOption-at_some, none-some}
 use Rattle.std.proofs.lemmas.Str.{chars-nil}
 use Rattle.portal_base.specs.Name.{is_name_character}
 use Rattle.org_roles.proofs.PeopleLemmas.{equal}
-use Rattle.org_roles.specs.Distinct.{have_distinct_names, is_org_name_among}
+use Rattle.org_roles.specs.Distinct.{have_distinct_names, have_distinct_pairs, is_org_name_among}
 use Rattle.org_roles.specs.declared.entry.Org.{Org}
 use Rattle.org_roles.specs.declared.role.Role.{Role}
 use Rattle.portal_file.specs.declared.entries.NamedRole.{NamedRole}
@@ -19,8 +19,8 @@ use Rattle.portal_file.specs.declared.entries.Users.{Users}
 use Rattle.portal_file.specs.declared.file.PortalFile.{PortalFile}
 use Rattle.portal_file.specs.declared.rule.FileRule.{FileRule}
 use Rattle.portal_file.specs.declared.rule.FileRule.TheVariants as rule
-use Rattle.portal_file.specs.File.{file_if, file_with, file_with_users, file_of_tables, membership_for, memberships_of}
-use Rattle.portal_file.specs.Opening.{are_named, are_housed}
+use Rattle.portal_file.specs.File.{file_if, file_with_users, file_of_tables, membership_for, memberships_of}
+use Rattle.portal_file.specs.Opening.{ArePaired, are_named, are_housed}
 use Rattle.portal_file.specs.Rules.{broken_rule, role_named, is_file_name, have_file_names, have_org_file_names}
 use Rattle.portal_file.specs.Rules.{have_digests, have_distinct_digests}
 use Rattle.portal_file.specs.Tables.{items_say, joined_orgs, no_orgs, named_role, roles_of, roles_for, roles_in, one_org}
@@ -141,6 +141,12 @@ module _ (org : List ℕ) (test : NamedRole → Bool)
   all_roles None = refl
   all_roles (Some value) = some_table (as_table value)
 
+own_roles : (org : Org) (table : Members)
+    → IfSome (roles_in org.name table) (λ rs. list_all (is_housed (org ∷ [])) rs ≡ true)
+own_roles org table =
+    all_roles org.name (is_housed (org ∷ [])) (λ user role. or_left (bytes_eq org.name org.name) false (equal org.name))
+    (get_member (codes "roles") table)
+
 with_roles : (org : Org) (roles : Option (List NamedRole))
     → IfSome roles (λ rs. list_all (is_housed (org ∷ [])) rs ≡ true)
     → IfSome (option_map (λ rs. record { orgs = org ∷ []; roles = rs }) roles) AreHoused
@@ -150,21 +156,25 @@ with_roles org (Some rs) q = q
 one_housed : (table : Members) (org : Option Org) → IfSome (option_and_then
     (λ org. option_map (λ roles. record { orgs = org ∷ []; roles = roles }) (roles_in org.name table)) org) AreHoused
 one_housed table None = tt
-one_housed table (Some org) =
-    with_roles org (roles_in org.name table) (all_roles org.name (is_housed (org ∷ []))
-    (λ user role. or_left (bytes_eq org.name org.name) false (equal org.name)) (get_member (codes "roles") table))
+one_housed table (Some org) = with_roles org (roles_in org.name table) (own_roles org table)
 
 org_housed : (table : Option Members) → IfSome (option_and_then one_org table) AreHoused
 org_housed None = tt
 org_housed (Some table) = one_housed table (org_in table)
 
+-- Things that are in organizations are in them where both are joined with others.
+pub housed-append : {X : Type 0} (place : X → List ℕ) (os ps : List Org) (xs ys : List X)
+    → list_all (λ x. is_org_name_among os (place x)) xs ≡ true → list_all (λ y. is_org_name_among ps (place y)) ys ≡ true
+    → list_all (λ x. is_org_name_among (os ++ ps) (place x)) (xs ++ ys) ≡ true
+housed-append place os ps xs ys p q =
+    list_all-append (λ x. is_org_name_among (os ++ ps) (place x)) xs ys ∙ and_from _ _
+    (all_weaker (λ x. is_org_name_among os (place x)) (λ x. is_org_name_among (os ++ ps) (place x))
+    (λ x e. list_any-append (λ o. bytes_eq o.name (place x)) os ps ∙ or_left _ _ e) xs p)
+    (all_weaker (λ y. is_org_name_among ps (place y)) (λ y. is_org_name_among (os ++ ps) (place y))
+    (λ y e. list_any-append (λ o. bytes_eq o.name (place y)) os ps ∙ or_right _ _ e) ys q)
+
 joined_housed : (a b : Orgs) → AreHoused a → AreHoused b → AreHoused (joined_orgs a b)
-joined_housed a b p q =
-    list_all-append (is_housed (a.orgs ++ b.orgs)) a.roles b.roles ∙ and_from _ _
-    (all_weaker (is_housed a.orgs) (is_housed (a.orgs ++ b.orgs))
-    (λ r e. list_any-append (λ o. bytes_eq o.name r.org) a.orgs b.orgs ∙ or_left _ _ e) a.roles p)
-    (all_weaker (is_housed b.orgs) (is_housed (a.orgs ++ b.orgs))
-    (λ r e. list_any-append (λ o. bytes_eq o.name r.org) a.orgs b.orgs ∙ or_right _ _ e) b.roles q)
+joined_housed a b = housed-append (λ r. r.org) a.orgs b.orgs a.roles b.roles
 
 list_housed : (list : Option Items) → IfSome (option_and_then orgs_of list) AreHoused
 list_housed None = tt
@@ -194,3 +204,13 @@ roles_housed tables =
     each_file (λ file. IsTrue (are_housed file.orgs file.roles)) AreHoused
     (λ users orgs _ housed. memberships_keep (λ name. is_org_name_among orgs.orgs name) orgs.roles housed)
     tables (for_housed (get_member (codes "organization") tables))
+
+-- An organization stands alone with its roles, which are of a user each.
+pub roles_paired : (org : Org) (table : Members) (roles : List NamedRole) → roles_in org.name table ≡ Some roles
+    → have_distinct_pairs (memberships_of roles) ≡ true
+    → ArePaired (record { orgs = org ∷ []; roles = roles })
+roles_paired org table roles e pairs = (
+  memberships_keep (λ name. is_org_name_among (org ∷ []) name) roles
+      (MatchOption-at_some _ (λ rs. list_all (is_housed (org ∷ [])) rs ≡ true) roles e (own_roles org table)),
+  λ _. pairs,
+)

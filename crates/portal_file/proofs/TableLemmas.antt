@@ -4,8 +4,6 @@ use Rattle.std.proofs.Common.{ap₂, ◌∙◌, option_map, String, Global, stri
 use Rattle.std.specs.Prelude.{option_and_then}
 use Rattle.std.proofs.lemmas.List.{append-nil, append_assoc, drop_all}
 use Rattle.portal_file.specs.declared.entries.NamedRole.{NamedRole}
-use Rattle.portal_file.specs.declared.entries.Orgs.{Orgs}
-use Rattle.portal_file.specs.declared.entries.Users.{Users}
 use Rattle.portal_file.specs.Tables.{items_say, joined_users, no_users, joined_orgs, no_orgs, roles_of, named_role}
 use Rattle.toml.specs.Data.{Data, item, as_str}
 use Rattle.toml.specs.View.{view, items_view, members_view}

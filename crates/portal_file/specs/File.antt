@@ -1,5 +1,5 @@
 -- What a portal file says, or the first rule that it breaks.
-use Rattle.std.specs.Prelude.{ℕ, if◌then◌else◌, List, [], ◌∷◌, ◌++◌, Option, Some, None, option_map, option_and_then, Result, Ok, Err}
+use Rattle.std.specs.Prelude.{ℕ, if◌then◌else◌, List, [], ◌∷◌, ◌++◌, Option, Some, None, Result, Ok, Err}
 use Rattle.std.specs.Str.{is_utf8}
 use Rattle.org_roles.specs.declared.role.Role.{Role}
 use Rattle.org_roles.specs.declared.entry.Membership.{Membership}

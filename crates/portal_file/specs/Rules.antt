@@ -1,16 +1,14 @@
 -- The rules of a portal file behind the first one, each over the whole file.
-use Rattle.std.specs.Prelude.{ℕ, ◌==◌, nat_le, nat_eq, Bool, true, not, ◌&&◌, ◌||◌, if◌then◌else◌, List, [], ◌∷◌, length, codes}
+use Rattle.std.specs.Prelude.{ℕ, ◌==◌, nat_le, Bool, true, not, ◌&&◌, ◌||◌, if◌then◌else◌, List, [], ◌∷◌, length, codes}
 use Rattle.std.specs.Prelude.{Option, Some, None, is_some}
 use Rattle.std.specs.List.{list_all, list_any}
 use Rattle.std.specs.Str.{bytes_eq}
 use Rattle.portal_base.specs.Name.{has_name_length, has_name_characters}
-use Rattle.org_roles.specs.Distinct.{is_name_among, is_org_name_among, have_distinct_names, have_distinct_org_names}
-use Rattle.org_roles.specs.Distinct.{have_distinct_pairs}
+use Rattle.org_roles.specs.Distinct.{is_name_among, have_distinct_names, have_distinct_org_names}
 use Rattle.org_roles.specs.declared.role.Role.{Role}
 use Rattle.org_roles.specs.declared.role.Role.TheVariants as role
 use Rattle.org_roles.specs.declared.entry.User.{User}
 use Rattle.org_roles.specs.declared.entry.Org.{Org}
-use Rattle.org_roles.specs.declared.entry.Membership.{Membership}
 use Rattle.portal_file.specs.declared.entries.NamedRole.{NamedRole}
 use Rattle.portal_file.specs.declared.entries.Orgs.{Orgs}
 use Rattle.portal_file.specs.declared.entries.Users.{Users}

@@ -3,7 +3,6 @@
 -- say nothing.
 use Rattle.std.specs.Prelude.{ℕ, pos, Bool, false, List, [], ◌∷◌, ◌++◌, codes, Option, Some, None, option_map}
 use Rattle.std.specs.Prelude.{option_and_then}
-use Rattle.org_roles.specs.declared.entry.User.{User}
 use Rattle.org_roles.specs.declared.entry.Org.{Org}
 use Rattle.portal_file.specs.declared.entries.NamedRole.{NamedRole}
 use Rattle.portal_file.specs.declared.entries.Orgs.{Orgs}

@@ -1,9 +1,9 @@
 //! A portal file as a whole.
 ghost use Rattle.std.specs.Prelude.{◌≡◌, ◌++◌, [], ◌∷◌, Some, None, Ok, Err, IfOk, IsErrOf, IfSome, IfNone, IsTrue, true, false};
 ghost use Rattle.std.specs.Str.{is_utf8};
-ghost use Rattle.org_roles.specs.Distinct.{have_distinct_names, have_distinct_org_names};
+ghost use Rattle.org_roles.specs.Distinct.{have_distinct_names, have_distinct_org_names, have_distinct_pairs};
 ghost use Rattle.portal_file.specs.File.{file_of, file_of_tables, file_with, memberships_of};
-ghost use Rattle.portal_file.specs.Opening.{are_housed, are_named};
+ghost use Rattle.portal_file.specs.Opening.{ArePaired, are_housed, are_named};
 ghost use Rattle.portal_file.specs.declared.rule.FileRule.{FileRule};
 ghost use Rattle.toml.specs.Parse.{parse_document};
 ghost use Rattle.toml.specs.View.{table_view};
@@ -62,6 +62,7 @@ fn memberships_of(alloc: Global, roles: &[NamedRole]) -> Result<Seq<Membership>,
 fn file_with(alloc: Global, users: Users, orgs: Orgs) -> Result<PortalFile, FileFault>
     ensures ok { IfOk result (λ file. file_with users orgs ≡ Ok file) }
     ensures rule { (rule : FileRule) → IsErrOf result (FileFault.Rule rule) → file_with users orgs ≡ Err rule }
+    ensures pairs { ArePaired orgs → IfOk result (λ file. IsTrue (have_distinct_pairs file.roles)) }
 {
     if let Some(rule) = broken_rule(&users, &orgs) {
         return Err(FileFault::Rule(rule));
@@ -80,6 +81,7 @@ fn file_of_table(alloc: Global, table: &Table) -> Result<PortalFile, FileFault>
     ensures ok { IfOk result (λ file. file_of_tables (Some (table_view table.now)) ≡ Ok file) }
     ensures rule { (rule : FileRule) → IsErrOf result (FileFault.Rule rule) →
         file_of_tables (Some (table_view table.now)) ≡ Err rule }
+    ensures pairs { IfOk result (λ file. IsTrue (have_distinct_pairs file.roles)) }
 {
     let users = users_in(alloc, table)?;
     let orgs = orgs_in(alloc, table)?;
@@ -114,13 +116,14 @@ fn table_of(alloc: Global, text: &str) -> Result<Table, TableFault>
 
 impl PortalFile {
     /// The file that the bytes are. A rule is told exactly where they break it and none before it, but for want of
-    /// memory. No two users and no two organizations have one name, no organization's name is empty, and each role is
-    /// in one of the organizations, as a portal that is opened asks.
+    /// memory. A portal can be opened with the file: no two users and no two organizations have one name, no user has
+    /// two roles in an organization, no organization's name is empty, and each role is in one of the organizations.
     pub fn read(alloc: Global, bytes: &[u8]) -> Result<PortalFile, FileFault>
         ensures ok { IfOk result (λ file. file_of bytes.now ≡ Ok file) }
         ensures rule { (rule : FileRule) → IsErrOf result (FileFault.Rule rule) → file_of bytes.now ≡ Err rule }
         ensures users { IfOk result (λ file. IsTrue (have_distinct_names file.users)) }
         ensures orgs { IfOk result (λ file. IsTrue (have_distinct_org_names file.orgs)) }
+        ensures pairs { IfOk result (λ file. IsTrue (have_distinct_pairs file.roles)) }
         ensures named { IfOk result (λ file. IsTrue (are_named file.orgs)) }
         ensures housed { IfOk result (λ file. IsTrue (are_housed file.orgs file.roles)) }
     {
