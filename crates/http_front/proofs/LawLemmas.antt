@@ -1,5 +1,6 @@
 -- The definitions settle what is told of the bytes.
-use Rattle.std.proofs.Common.{◌≡◌, ℕ, ◌<◌, ◌≤◌, List, Bool, true, false, refl, sym, ap, subst, ◌∙◌, length, arith, take, drop, ◌⊎◌, inl, inr}
+use Rattle.std.proofs.Common.{◌≡◌, ℕ, ◌<◌, ◌≤◌, List, Bool, true, false, refl, sym, ap, subst, ◌∙◌}
+use Rattle.std.proofs.Common.{length, arith, take, drop, ◌⊎◌, inl, inr}
 use Rattle.std.proofs.Common.{map}
 use Rattle.std.specs.Prelude.{Option, Some, None, Result, Err, codes, if◌then◌else◌}
 use Rattle.std.specs.Str.{bytes_eq}
@@ -39,7 +40,8 @@ asked_same a b method query fields (Some name) same =
     other = if bytes_eq method (codes "POST") then post_of name fields else Err Method
 
     by_method : (is_get : Bool) → (is_get ≡ true → a ≡ b)
-        → (if is_get then get_of a name query fields else other) ≡ (if is_get then get_of b name query fields else other)
+        → (if is_get then get_of a name query fields else other)
+        ≡ (if is_get then get_of b name query fields else other)
     by_method true h = ap (λ v. get_of v name query fields) (h refl)
     by_method false h = refl
 
@@ -64,7 +66,8 @@ wanted_same A text mark one two single (inr (none, e)) (inr (none2, e2)) = e ∙
 request_same : (A : Reads) (bytes : List ℕ) (one two : Result Incoming FrontFault) → TellsOneAnswer A
     → IsRequest A bytes one → IsRequest A bytes two → one ≡ two
 request_same A bytes one two single x y =
-    let same = (request_unique (marked bytes) y.head x.head y.begins.rest x.begins.rest y.begins.reads x.begins.reads).0 in
+    let same = (request_unique (marked bytes) y.head x.head y.begins.rest x.begins.rest
+    y.begins.reads x.begins.reads).0 in
     let wanted = wanted_same A (take (extent x.head) bytes) x.head x.wanted y.wanted single x.asks
     (subst (λ v. IsWanted A (take (extent v) bytes) v y.wanted) same y.asks) in
     x.gives ∙ ap (λ v. incoming_of v (drop (extent x.head) bytes)) wanted

@@ -52,7 +52,15 @@ pub drained_long : (told left : Option (List ℕ)) (old read now : List ℕ) (li
     → now ≡ old ++ read → limit < length now → IfSome told (λ bytes. limit < length (old ++ bytes))
 drained_long None left old read now limit g e long = tt
 drained_long (Some all) left old read now limit g e long =
-    omega (arith, long, ap length e, ap length g.2, length-append old read, length-append old all, length-append read g.0)
+    omega (
+      arith,
+      long,
+      ap length e,
+      ap length g.2,
+      length-append old read,
+      length-append old all,
+      length-append read g.0,
+    )
 
 tells_map : {T : Type 0} (r : Result T FrontFault) (items : T → List ℕ) (P Q : Result (List ℕ) FetchFault → Type 0)
     → ((told : Result (List ℕ) FetchFault) → P told → Q told) → TellsRead r items P → TellsRead r items Q

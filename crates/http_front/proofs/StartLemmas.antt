@@ -1,6 +1,7 @@
 -- The start of a head, its field lines, and what a text that ends among them may still become.
 use Rattle.std.proofs.Common.{◌≡◌, ℕ, ◌+◌, ◌<◌, ◌≤◌, List, [], ◌∷◌, ◌++◌, ◌∙◌, refl, sym, ap, subst}
-use Rattle.std.proofs.Common.{append_assoc, length, arith, inl, inr, append-nil, length-append, flat_map, All, true, false, IsTrue}
+use Rattle.std.proofs.Common.{append_assoc, length, arith, inl, inr, append-nil, length-append}
+use Rattle.std.proofs.Common.{flat_map, All, true, false, IsTrue}
 use Rattle.std.proofs.Common.{get_or, zero, suc, take, length-take-le}
 use Rattle.std.specs.Prelude.{codes, Bool, Result, Ok, Err, IfOk}
 use Rattle.std.proofs.lemmas.List.{length-map}
@@ -8,7 +9,8 @@ use Rattle.std.proofs.lemmas.Bool.{cases_lt, false≢true}
 use Rattle.std.proofs.lemmas.List.Elements.{All-append, All-cons, All-nil, All-head, All-map}
 use Rattle.std.proofs.lemmas.Str.{IsUtf8-from_ascii}
 use Rattle.std.proofs.lemmas.Str.Ascii.{IsAscii-from_all}
-use Rattle.httparse.specs.Grammar.{LineEnd, crlf, lf, print_end, print_blank, print_version, Field, print_field, IsField}
+use Rattle.httparse.specs.Grammar.{LineEnd, crlf, lf, print_end, print_blank, print_version, Field}
+use Rattle.httparse.specs.Grammar.{print_field, IsField}
 use Rattle.httparse.specs.Grammar.{AllPass, is_token_byte, is_uri_byte, IsRequestHead, RequestHead, ReadsRequest}
 use Rattle.httparse.specs.Grammar.{print_request, MayBecomeRequest, EndsInTarget}
 use Rattle.httparse.specs.Pieces.{RequestStart, Section, is_newline}
@@ -29,7 +31,8 @@ start_of h =
     print_blank h.blank ++ (h.method ++ 32 ∷ (h.target ++ 32 ∷ (print_version h.minor ++ print_end h.line_end)))
 
 start_append : (h : RequestHead) (rest : List ℕ) → start_of h ++ rest
-    ≡ print_blank h.blank ++ (h.method ++ 32 ∷ (h.target ++ 32 ∷ (print_version h.minor ++ (print_end h.line_end ++ rest))))
+    ≡ print_blank h.blank ++ (h.method ++ 32 ∷ (h.target ++ 32 ∷
+    (print_version h.minor ++ (print_end h.line_end ++ rest))))
 start_append h rest =
     regroup (print_blank h.blank) h.method h.target (print_version h.minor) (print_end h.line_end) rest
   where
@@ -95,7 +98,13 @@ some_begun text y h x e cl fits =
       ap (λ v. v ++ cl.ending) e ∙ append_assoc (start_of h) y cl.ending ∙ ap (λ v. start_of h ++ v) cl.reads
           ∙ sym (print_parts head cl.rest),
     ) in
-    record { more = cl.ending; head = head; rest = cl.rest; reads = reads; few = fits cl.ending cl.is_ending head cl.rest reads }
+    record {
+      more = cl.ending;
+      head = head;
+      rest = cl.rest;
+      reads = reads;
+      few = fits cl.ending cl.is_ending head cl.rest reads;
+    }
 
 abbrev IsUri : ℕ → Type 0
 IsUri v = IsTrue (is_uri_byte v)
@@ -160,7 +169,8 @@ continues text small (inl (more, h, reads)) fits =
 
 -- a list that is longer than n, at its place n
 abbrev Cut : ℕ → List Field → Type 0
-Cut n fields = (front : List Field) × (g : Field) × (back : List Field) × (fields ≡ front ++ g ∷ back) × (length front ≡ n)
+Cut n fields = (front : List Field) × (g : Field) × (back : List Field) × (fields ≡ front ++ g ∷ back)
+    × (length front ≡ n)
 
 cut_at : (n : ℕ) (fields : List Field) → n < length fields → Cut n fields
 cut_at n [] lt = absurd (omega (arith, lt))
@@ -223,7 +233,8 @@ first_token f c y tail valid e = by_name f.name valid.name.0 valid.name.1 refl
         regroup : (a b c d : List ℕ) → ((a ++ 58 ∷ b) ++ c) ++ d ≡ a ++ 58 ∷ (b ++ (c ++ d))
         regroup a b c d = simp append_assoc
 
-        long : (bs raw : List ℕ) (end : LineEnd) → length tail + 2 ≤ length (bs ++ 58 ∷ (raw ++ (print_end end ++ tail)))
+        long : (bs raw : List ℕ) (end : LineEnd)
+            → length tail + 2 ≤ length (bs ++ 58 ∷ (raw ++ (print_end end ++ tail)))
         long bs raw crlf = rw (length-append bs (58 ∷ (raw ++ (print_end crlf ++ tail))))
             (rw (length-append raw (print_end crlf ++ tail)) (omega arith))
         long bs raw lf = rw (length-append bs (58 ∷ (raw ++ (print_end lf ++ tail))))

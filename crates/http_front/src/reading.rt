@@ -1,5 +1,6 @@
 //! Reading off a link: a head, and a body of a given length.
-ghost use Rattle.std.specs.Prelude.{◌≡◌, ◌<◌, ◌≤◌, ◌++◌, ◌⊎◌, ℕ, List, [], Bool, true, false, Err, Ok, length, map, take};
+ghost use Rattle.std.specs.Prelude.{◌≡◌, ◌<◌, ◌≤◌, ◌++◌, ◌⊎◌, ℕ, List, [], Bool, true, false, Err};
+ghost use Rattle.std.specs.Prelude.{Ok, length, map, take};
 ghost use Rattle.std.specs.Prelude.{IfOk, IfErr, IfSome, OnOk, OnErr, MatchResult};
 ghost use Rattle.portal_base.specs.Outside.{Gives, IsAtEnd, Rose};
 ghost use Rattle.httparse.specs.Grammar.{MayBecomeRequest};

@@ -1,5 +1,6 @@
 -- What holds of each file that breaks no rule, as a portal that is opened with it asks.
-use Rattle.std.proofs.Common.{◌≡◌, ℕ, Bool, true, false, not, ◌&&◌, List, [], ◌∷◌, ◌++◌, Option, Some, None, IfSome, IfOk}
+use Rattle.std.proofs.Common.{◌≡◌, ℕ, Bool, true, false, not, ◌&&◌, List, [], ◌∷◌, ◌++◌, Option}
+use Rattle.std.proofs.Common.{Some, None, IfSome, IfOk}
 use Rattle.std.proofs.Common.{arith, refl, sym, ap, ◌∙◌, length, nat_le, nat_lt, codes, option_map}
 use Rattle.std.specs.Prelude.{if◌then◌else◌, option_and_then, IsTrue}
 use Rattle.std.specs.List.{list_all}
@@ -23,7 +24,8 @@ use Rattle.portal_file.specs.File.{file_if, file_with_users, file_of_tables, mem
 use Rattle.portal_file.specs.Opening.{ArePaired, are_named, are_housed}
 use Rattle.portal_file.specs.Rules.{broken_rule, role_named, is_file_name, have_file_names, have_org_file_names}
 use Rattle.portal_file.specs.Rules.{have_digests, have_distinct_digests}
-use Rattle.portal_file.specs.Tables.{items_say, joined_orgs, no_orgs, named_role, roles_of, roles_for, roles_in, one_org}
+use Rattle.portal_file.specs.Tables.{items_say, joined_orgs, no_orgs, named_role, roles_of}
+use Rattle.portal_file.specs.Tables.{roles_for, roles_in, one_org}
 use Rattle.portal_file.specs.Tables.{org_in, org_of, orgs_of, orgs_for, orgs_in, users_in}
 use Rattle.toml.specs.Data.{Data, Items, no_items, item, Members, no_members, member, as_str, as_table, as_array}
 use Rattle.toml.specs.Data.{get_member}
@@ -164,7 +166,8 @@ org_housed (Some table) = one_housed table (org_in table)
 
 -- Things that are in organizations are in them where both are joined with others.
 pub housed-append : {X : Type 0} (place : X → List ℕ) (os ps : List Org) (xs ys : List X)
-    → list_all (λ x. is_org_name_among os (place x)) xs ≡ true → list_all (λ y. is_org_name_among ps (place y)) ys ≡ true
+    → list_all (λ x. is_org_name_among os (place x)) xs ≡ true
+    → list_all (λ y. is_org_name_among ps (place y)) ys ≡ true
     → list_all (λ x. is_org_name_among (os ++ ps) (place x)) (xs ++ ys) ≡ true
 housed-append place os ps xs ys p q =
     list_all-append (λ x. is_org_name_among (os ++ ps) (place x)) xs ys ∙ and_from _ _

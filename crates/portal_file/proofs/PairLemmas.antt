@@ -1,5 +1,6 @@
 -- No pair of organization and user stands twice among the roles of a file.
-use Rattle.std.proofs.Common.{◌≡◌, ℕ, Bool, true, false, not, ◌&&◌, ◌||◌, List, [], ◌∷◌, ◌++◌, Option, Some, None, IfSome}
+use Rattle.std.proofs.Common.{◌≡◌, ℕ, Bool, true, false, not, ◌&&◌, ◌||◌, List, [], ◌∷◌, ◌++◌}
+use Rattle.std.proofs.Common.{Option, Some, None, IfSome}
 use Rattle.std.proofs.Common.{refl, sym, ap, ◌∙◌, option_map, string_bytes, String, Global, Less, is_eq}
 use Rattle.std.specs.Prelude.{option_and_then}
 use Rattle.std.specs.List.{AllByRecursion, list_all}
@@ -7,7 +8,8 @@ use Rattle.std.specs.List.Sorted.{IsStrictlySortedBy}
 use Rattle.std.specs.Map.{keys_of}
 use Rattle.std.specs.Str.{bytes_eq}
 use Rattle.std.specs.String.{string_cmp}
-use Rattle.std.proofs.lemmas.Bool.{and_parts, and_from, and_left, and_right, false≢true, not_from_false, or_from, or_parts}
+use Rattle.std.proofs.lemmas.Bool.{and_parts, and_from, and_left, and_right, false≢true}
+use Rattle.std.proofs.lemmas.Bool.{not_from_false, or_from, or_parts}
 use Rattle.std.proofs.lemmas.List.{append_assoc}
 use Rattle.std.proofs.lemmas.List.Folds.{list_any-append}
 use Rattle.std.proofs.lemmas.Map.Text.{is_eq-slice_cmp}
@@ -151,5 +153,6 @@ joined_paired a b p q =
           ∙ housed-append (λ m. m.org) a.orgs b.orgs (memberships_of a.roles) (memberships_of b.roles) p.0 q.0,
       λ names. let (fronts, backs, apart) = org_names-parts a.orgs b.orgs names in
           ap have_distinct_pairs same
-          ∙ pairs-append a.orgs b.orgs (memberships_of a.roles) (memberships_of b.roles) apart p.0 q.0 (p.1 fronts) (q.1 backs),
+          ∙ pairs-append a.orgs b.orgs (memberships_of a.roles) (memberships_of b.roles) apart p.0 q.0
+          (p.1 fronts) (q.1 backs),
     )

@@ -1,5 +1,6 @@
 -- Items, entries and tables that were read in part.
-use Rattle.std.proofs.Common.{◌≡◌, ℕ, ◌+◌, ◌<◌, ◌≤◌, length, get_or, drop, List, [], ◌∷◌, ◌++◌, Option, Some, None, refl, sym, ap}
+use Rattle.std.proofs.Common.{◌≡◌, ℕ, ◌+◌, ◌<◌, ◌≤◌, length, get_or, drop, List, [], ◌∷◌, ◌++◌}
+use Rattle.std.proofs.Common.{Option, Some, None, refl, sym, ap}
 use Rattle.std.proofs.Common.{ap₂, ◌∙◌, option_map, String, Global, string_bytes}
 use Rattle.std.specs.Prelude.{option_and_then}
 use Rattle.std.proofs.lemmas.List.{append-nil, append_assoc, drop_all}
@@ -81,7 +82,8 @@ pub roles-turn : (org : List ℕ) (front : List NamedRole) (k : String Global) (
     ≡ option_map (λ more. front ++ more) (roles_of org (members_view ((k, v) ∷ es)))
 roles-turn org front k v es role e = rw e (step (roles_of org (members_view es)))
   where
-    step : (m : Option (List NamedRole)) → option_map (λ more. (front ++ named_role org (string_bytes k) role ∷ []) ++ more) m
+    step : (m : Option (List NamedRole))
+        → option_map (λ more. (front ++ named_role org (string_bytes k) role ∷ []) ++ more) m
         ≡ option_map (λ more. front ++ more) (option_map (λ others. named_role org (string_bytes k) role ∷ others) m)
     step None = refl
     step (Some xs) = ap Some (append_assoc front (named_role org (string_bytes k) role ∷ []) xs)

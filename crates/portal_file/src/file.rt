@@ -1,5 +1,6 @@
 //! A portal file as a whole.
-ghost use Rattle.std.specs.Prelude.{◌≡◌, ◌++◌, [], ◌∷◌, Some, None, Ok, Err, IfOk, IsErrOf, IfSome, IfNone, IsTrue, true, false};
+ghost use Rattle.std.specs.Prelude.{◌≡◌, ◌++◌, [], ◌∷◌, Some, None, Ok, Err, IfOk, IsErrOf, IfSome};
+ghost use Rattle.std.specs.Prelude.{IfNone, IsTrue, true, false};
 ghost use Rattle.std.specs.Str.{is_utf8};
 ghost use Rattle.org_roles.specs.Distinct.{have_distinct_names, have_distinct_org_names, have_distinct_pairs};
 ghost use Rattle.portal_file.specs.File.{file_of, file_of_tables, file_with, memberships_of};

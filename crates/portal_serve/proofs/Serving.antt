@@ -46,32 +46,38 @@ error_data : (kind message : List ℕ)
     (member (codes "help") (string []) (member (codes "success") (boolean false) no_members)))
 error_data kind message = search (rules, the_lemmas)
 
-pub memory_text_is : codes "{\"error\":{\"__type\":\"Memory Error\",\"message\":\"Want of memory\"},\"help\":\"\",\"success\":false}"
+pub memory_text_is
+    : codes "{\"error\":{\"__type\":\"Memory Error\",\"message\":\"Want of memory\"},\"help\":\"\",\"success\":false}"
     ≡ error_text memory_dictionary
 unfolding serde_json_on_literals
 memory_text_is = sym (ap compact_text (error_data (codes "Memory Error") (codes "Want of memory")))
 
-pub head_text_is : codes "{\"error\":{\"__type\":\"Bad Request\",\"message\":\"Bad request head\"},\"help\":\"\",\"success\":false}"
+pub head_text_is
+    : codes "{\"error\":{\"__type\":\"Bad Request\",\"message\":\"Bad request head\"},\"help\":\"\",\"success\":false}"
     ≡ error_text (bad_request (codes "Bad request head"))
 unfolding serde_json_on_literals
 head_text_is = sym (ap compact_text (error_data (codes "Bad Request") (codes "Bad request head")))
 
-pub length_text_is : codes "{\"error\":{\"__type\":\"Bad Request\",\"message\":\"Length required\"},\"help\":\"\",\"success\":false}"
+pub length_text_is
+    : codes "{\"error\":{\"__type\":\"Bad Request\",\"message\":\"Length required\"},\"help\":\"\",\"success\":false}"
     ≡ error_text (bad_request (codes "Length required"))
 unfolding serde_json_on_literals
 length_text_is = sym (ap compact_text (error_data (codes "Bad Request") (codes "Length required")))
 
-pub body_text_is : codes "{\"error\":{\"__type\":\"Bad Request\",\"message\":\"Body too long\"},\"help\":\"\",\"success\":false}"
+pub body_text_is
+    : codes "{\"error\":{\"__type\":\"Bad Request\",\"message\":\"Body too long\"},\"help\":\"\",\"success\":false}"
     ≡ error_text (bad_request (codes "Body too long"))
 unfolding serde_json_on_literals
 body_text_is = sym (ap compact_text (error_data (codes "Bad Request") (codes "Body too long")))
 
-pub page_text_is : codes "{\"error\":{\"__type\":\"Not Found Error\",\"message\":\"No such page\"},\"help\":\"\",\"success\":false}"
+pub page_text_is
+    : codes "{\"error\":{\"__type\":\"Not Found Error\",\"message\":\"No such page\"},\"help\":\"\",\"success\":false}"
     ≡ error_text (error_dictionary (codes "Not Found Error") (codes "No such page"))
 unfolding serde_json_on_literals
 page_text_is = sym (ap compact_text (error_data (codes "Not Found Error") (codes "No such page")))
 
-pub method_text_is : codes "{\"error\":{\"__type\":\"Bad Request\",\"message\":\"Method not allowed\"},\"help\":\"\",\"success\":false}"
+pub method_text_is
+    : codes "{\"error\":{\"__type\":\"Bad Request\",\"message\":\"Method not allowed\"},\"help\":\"\",\"success\":false}"
     ≡ error_text (bad_request (codes "Method not allowed"))
 unfolding serde_json_on_literals
 method_text_is = sym (ap compact_text (error_data (codes "Bad Request") (codes "Method not allowed")))

@@ -10,6 +10,7 @@ returns-in-Ok-Complete-clause-fits c is head rest reads =
     let spans = c.parse_request.new.headers in
     let room : length spans ≡ 64 = search rules in
     complete_fits text spans c.in-Ok-Complete.field-0-0 room
-    (at_complete (IsRequestOf text spans) c.in-Ok-Complete.is c.in-Ok-Complete.field-0-is c.parse_request.ensures.complete)
+    (at_complete (IsRequestOf text spans) c.in-Ok-Complete.is c.in-Ok-Complete.field-0-is
+    c.parse_request.ensures.complete)
     (at_complete (IsRequestWithin text spans) c.in-Ok-Complete.is c.in-Ok-Complete.field-0-is
     c.parse_request.ensures.within) head rest reads

@@ -10,6 +10,7 @@ loop-value-preserved c =
     let (same, paired) = c.loop-value.invariant in
     rw c.in_ok-orgs.ensures (
       items-turn joined_orgs no_orgs org_of Joins-orgs c.loop-value.orgs c.args.items.now c.loop-value.value-index
-          c.value-item.result c.in_ok-org.org c.loop-value-test.true (grind (arith, common_steps)) c.in_ok-org.ensures.ok ∙ same,
+          c.value-item.result c.in_ok-org.org c.loop-value-test.true (grind (arith, common_steps))
+          c.in_ok-org.ensures.ok ∙ same,
       joined_paired c.loop-value.orgs c.in_ok-org.org paired c.in_ok-org.ensures.pairs,
     )
