@@ -1,3 +1,8 @@
-mod DraftLemmas
+mod AllowedLemmas
 mod Examples
+mod ReadLemmas
+mod RuleLemmas
+mod TurnLemmas
 mod ValueLemmas
+mod WalkLemmas
+mod WordLemmas

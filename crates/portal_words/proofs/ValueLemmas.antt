@@ -1,18 +1,11 @@
 -- Names in lists, and the digits of numbers.
-use Rattle.std.proofs.Common.{◌≡◌, ℕ, ◌≤◌, length, Bool, true, false, ◌||◌, ◌&&◌, ltb, leb, List, [], ◌∷◌, map, Bor, refl, ap}
+use Rattle.std.proofs.Common.{◌≡◌, ℕ, ◌≤◌, length, Bool, true, false, ◌&&◌, ltb, leb, List, refl}
 use Rattle.std.proofs.Common.{arith, leb-true, le-leb}
 use Rattle.std.specs.Char.{is_ascii_digit}
-use Rattle.std.specs.List.{list_all, list_any}
-use Rattle.std.specs.Str.{bytes_eq}
+use Rattle.std.specs.List.{list_all}
 use borrow.Author.Tests.{ltb-true}
 use Rattle.portal_base.specs.Kinds.{is_digits}
-use Rattle.portal_words.specs.Commands.{is_among, is_number}
-
--- A name is among texts as it is among what is lent of them.
-pub among-lent : (name : List ℕ) (ns : List (Bor (List ℕ)))
-    → list_any (λ n. bytes_eq n.now name) ns ≡ is_among (map (λ n. n.now) ns) name
-among-lent name [] = refl
-among-lent name (n ∷ ns) = ap (λ b. bytes_eq n.now name || b) (among-lent name ns)
+use Rattle.portal_words.specs.Commands.{is_number}
 
 -- A number is digits, of which 64 bits hold every text of so few.
 pub number-digits : (text : List ℕ) → is_number text ≡ true → is_digits text ≡ true

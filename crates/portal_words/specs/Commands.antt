@@ -12,10 +12,9 @@ use Rattle.std.specs.Str.Parse.{digits_value}
 use Rattle.std.specs.declared.cmp.Ordering.{Ordering}
 use Rattle.std.proofs.lemmas.Cmp.{on_total, nat_list_cmp_total}
 use Rattle.portal_base.specs.Ordered.{are_apart}
-use Rattle.portal_words.specs.declared.setting.Setting.{Setting}
 use Rattle.portal_words.specs.declared.command.Command.{Command}
 use Rattle.portal_words.specs.declared.command.Command.TheVariants.{Play, Serve}
-use Rattle.portal_words.specs.Grammar.{options_in}
+use Rattle.portal_words.specs.Grammar.{Setting, options_in}
 
 -- ---- which options are given
 
@@ -108,7 +107,8 @@ command_with name given =
     else if bytes_eq name (codes "serve") then serve_with given
     else None
 
--- The command that the words say, those behind the program's name: the first word names it, and all others are options.
+-- The command that the words say, those behind the program's name: the first word names it, and all others are its
+-- options.
 abbrev pub command_of : List (List ℕ) → Option Command
 command_of [] = None
 command_of (name ∷ words) = option_and_then (command_with name) (options_in words)

@@ -3,12 +3,15 @@
 --     words  = *option
 --     option = "--" name "=" value      in one word; the first "=" ends the name
 --            / "--" name, value         in two words, of which the second doesn't begin with "-"
-use Rattle.std.specs.Prelude.{ℕ, ◌==◌, nat_eq, Bool, not, if◌then◌else◌, List, [], ◌∷◌, drop, codes, Option, Some, None}
-use Rattle.std.specs.Prelude.{option_map}
+use Rattle.std.specs.Prelude.{ℕ, ◌==◌, nat_eq, Bool, not, if◌then◌else◌, List, [], ◌∷◌, drop, codes, Option, Some}
+use Rattle.std.specs.Prelude.{None, option_map}
 use Rattle.std.specs.List.{list_any, starts_with, before_first, after_first}
-use Rattle.portal_words.specs.declared.setting.Setting.{Setting}
 
 -- an option with its value
+pub record Setting : Type 0 where
+  pub name : List ℕ
+  pub value : List ℕ
+
 abbrev pub setting : List ℕ → List ℕ → Setting
 setting name value = record { name = name; value = value }
 

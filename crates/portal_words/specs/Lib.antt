@@ -1,3 +1,3 @@
 pub mod Commands
-pub mod Drafts
 pub mod Grammar
+pub mod Options

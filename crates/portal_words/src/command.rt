@@ -1,9 +1,11 @@
 //! Commands, and the words that say them.
-ghost use Rattle.std.specs.Prelude.{◌≡◌, map, string_bytes, Some, None, IfOk, IsErrOf};
-ghost use Rattle.portal_words.specs.Commands.{command_of, command_with, play_with, serve_with};
+ghost use Rattle.std.specs.Prelude.{◌≡◌, map, string_bytes, option_and_then, Some, None, IfOk, IsErrOf};
+ghost use Rattle.portal_words.specs.Commands.{command_of, play_with, serve_with};
+ghost use Rattle.portal_words.specs.Grammar.{options_in};
 
-use crate::setting::{Setting, options_in};
-use crate::values::{are_allowed, number_of, text_of};
+use crate::options::options_in;
+use crate::values::{number_of, text_of};
+use clap::error::ErrorKind;
 use portal_base::text::Text;
 use std::alloc::{AllocError, Global};
 use thiserror::Error;
@@ -53,6 +55,21 @@ impl From<AllocError> for WordsFault {
     }
 }
 
+impl From<clap::Error> for WordsFault {
+    ghost use Rattle.std.specs.Prelude.{◌≡◌};
+    ghost use Rattle.clap.specs.Words.{kind_of};
+    ghost use Rattle.portal_words.specs.Options.{fault_for};
+
+    ghost from_gives = { λ error fault. fault ≡ fault_for (kind_of error) };
+
+    fn from(error: clap::Error) -> WordsFault {
+        match error.kind() {
+            ErrorKind::OutOfMemory => WordsFault::OutOfMemory,
+            _ => WordsFault::BadWords,
+        }
+    }
+}
+
 static OPTIONS_OF_PLAY: [&str; 1] = ["portal"];
 
 static OPTIONS_OF_SERVE: [&str; 2] = ["portal", "links"];
@@ -60,43 +77,31 @@ static OPTIONS_OF_SERVE: [&str; 2] = ["portal", "links"];
 /// The most links, and how many are served where none is said.
 const MOST_LINKS: u64 = 1_000_000_000;
 
-fn play_with(alloc: Global, given: &[Setting]) -> Result<Command, WordsFault>
-    ensures ok { IfOk result (λ command. play_with given.now ≡ Some command) }
-    ensures bad { IsErrOf result WordsFault.BadWords → play_with given.now ≡ None }
+/// The command `play` with the options that the words say.
+fn play(alloc: Global, words: &[String]) -> Result<Command, WordsFault>
+    ensures ok { IfOk result (λ command. option_and_then play_with (options_in (map string_bytes words.now))
+        ≡ Some command) }
+    ensures bad { IsErrOf result WordsFault.BadWords
+        → option_and_then play_with (options_in (map string_bytes words.now)) ≡ None }
 {
-    if !are_allowed(OPTIONS_OF_PLAY.as_slice(), given) {
-        return Err(WordsFault::BadWords);
-    }
-    let portal = text_of(alloc, "portal", given)?;
+    let given = options_in(alloc, OPTIONS_OF_PLAY.as_slice(), words)?;
+    let portal = text_of(alloc, given.get_str("portal"))?;
     Ok(Command::Play(PlayOptions { portal }))
 }
 
-fn serve_with(alloc: Global, given: &[Setting]) -> Result<Command, WordsFault>
-    ensures ok { IfOk result (λ command. serve_with given.now ≡ Some command) }
-    ensures bad { IsErrOf result WordsFault.BadWords → serve_with given.now ≡ None }
+/// The command `serve` with the options that the words say.
+fn serve(alloc: Global, words: &[String]) -> Result<Command, WordsFault>
+    ensures ok { IfOk result (λ command. option_and_then serve_with (options_in (map string_bytes words.now))
+        ≡ Some command) }
+    ensures bad { IsErrOf result WordsFault.BadWords
+        → option_and_then serve_with (options_in (map string_bytes words.now)) ≡ None }
 {
-    if !are_allowed(OPTIONS_OF_SERVE.as_slice(), given) {
-        return Err(WordsFault::BadWords);
-    }
-    let portal = text_of(alloc, "portal", given)?;
-    match number_of("links", 1, MOST_LINKS, MOST_LINKS, given) {
+    let given = options_in(alloc, OPTIONS_OF_SERVE.as_slice(), words)?;
+    let portal = text_of(alloc, given.get_str("portal"))?;
+    match number_of(1, MOST_LINKS, MOST_LINKS, given.get_str("links")) {
         Some(links) => Ok(Command::Serve(ServeOptions { portal, links })),
         None => Err(WordsFault::BadWords),
     }
-}
-
-/// The command of this name with these options.
-fn command_with(alloc: Global, name: &str, given: &[Setting]) -> Result<Command, WordsFault>
-    ensures ok { IfOk result (λ command. command_with name.now given.now ≡ Some command) }
-    ensures bad { IsErrOf result WordsFault.BadWords → command_with name.now given.now ≡ None }
-{
-    if name == "play" {
-        return play_with(alloc, given);
-    }
-    if name == "serve" {
-        return serve_with(alloc, given);
-    }
-    Err(WordsFault::BadWords)
 }
 
 impl Command {
@@ -109,7 +114,10 @@ impl Command {
         let Some((name, words)) = words.split_first() else {
             return Err(WordsFault::BadWords);
         };
-        let given = options_in(alloc, words)?;
-        command_with(alloc, name.as_str(), given.as_slice())
+        match name.as_str() {
+            "play" => play(alloc, words),
+            "serve" => serve(alloc, words),
+            _ => Err(WordsFault::BadWords),
+        }
     }
 }

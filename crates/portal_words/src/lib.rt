@@ -2,7 +2,7 @@
 #![tactic(auto)]
 
 pub mod command;
-mod setting;
+mod options;
 mod values;
 
 pub use command::{Command, PlayOptions, ServeOptions, WordsFault};
