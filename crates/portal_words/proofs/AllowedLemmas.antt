@@ -29,7 +29,7 @@ both-false true = refl
 both-false false = refl
 
 -- Texts are alike in both directions.
-pub alike-sym : (a b : List ℕ) → bytes_eq a b ≡ bytes_eq b a
+alike-sym : (a b : List ℕ) → bytes_eq a b ≡ bytes_eq b a
 alike-sym a b = go (bytes_eq a b) (bytes_eq b a) refl refl
   where
     go : (s t : Bool) → bytes_eq a b ≡ s → bytes_eq b a ≡ t → bytes_eq a b ≡ bytes_eq b a

@@ -137,7 +137,7 @@ told-said names words sound = told-by-walk names words ∙ walk-reads names word
 -- ---- what the answers say
 
 -- Where it answers with matches, these tell the options.
-pub matches-tell : (names words : List (List ℕ)) (m : ArgMatches) → AreWords words
+matches-tell : (names words : List (List ℕ)) (m : ArgMatches) → AreWords words
     → fault_of (app_with names) words ≡ [] → rows_of (found_of m) ≡ matches_of (app_with names) words
     → TellsOptions names words m
 matches-tell names words m sound free rows =
@@ -162,7 +162,7 @@ matches-tell names words m sound free rows =
     go (Some given) e same = allowed given (are_allowed names given) e refl (rw e at same)
 
 -- Where something is at fault, the words say no options, or others.
-pub faults-refuse : (names words : List (List ℕ)) (kind : ErrorKind) → AreWords words
+faults-refuse : (names words : List (List ℕ)) (kind : ErrorKind) → AreWords words
     → IsAmong kind (fault_of (app_with names) words) → SayOthers names words
 faults-refuse names words kind sound among given said =
     go (fault_of (app_with names) words) refl among (are_allowed names given) refl

@@ -99,7 +99,7 @@ none-by-index (n ∷ names) i = none-by-index names i
 
 -- ---- rows
 
-abbrev pub row_for : Setting → Row
+abbrev row_for : Setting → Row
 row_for s = record {
   id = s.name;
   values = s.value ∷ [];
@@ -111,7 +111,7 @@ row_for s = record {
 abbrev pub rows_for : List Setting → List Row
 rows_for given = map row_for given
 
-pub given-row : (name : List ℕ) (given : List Setting) → has_row name (rows_for given) ≡ is_given name given
+given-row : (name : List ℕ) (given : List Setting) → has_row name (rows_for given) ≡ is_given name given
 given-row name [] = refl
 given-row name (s ∷ given) = ap (λ b. bytes_eq s.name name || b) (given-row name given)
 

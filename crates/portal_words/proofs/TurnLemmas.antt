@@ -26,16 +26,12 @@ pub unless-or_else : {X : Type 0} (first second : Kinds) (x : Option X)
 unless-or_else [] second x = refl
 unless-or_else (k ∷ ks) second x = refl
 
-pub unless-none : {X : Type 0} (kinds : Kinds) → unless {X = X} kinds None ≡ None
-unless-none [] = refl
-unless-none (k ∷ ks) = refl
-
 -- ---- where the walk stands between two words
 
-abbrev pub held_with : List Setting → Option (List ℕ × List (List ℕ)) → Held
+abbrev held_with : List Setting → Option (List ℕ × List (List ℕ)) → Held
 held_with given pending = record { rows = rows_for given; pending = pending; skip = 0 }
 
-abbrev pub walk_with : Held → Waiting → Walk
+abbrev walk_with : Held → Waiting → Walk
 walk_with held waiting = record { held = held; waiting = waiting; position = 1; is_trailing = false; stopped = None }
 
 -- the option that was read last, which is settled with what comes next
@@ -65,7 +61,7 @@ IsLastAmong names None = Unit {0}
 IsLastAmong names (Some s) = is_among names s.name ≡ true
 
 -- It is a fault exactly where the options aren't allowed with it.
-pub settled-fault : (names : List (List ℕ)) (given : List Setting) (last : Option Setting)
+settled-fault : (names : List (List ℕ)) (given : List Setting) (last : Option Setting)
     → are_allowed names given ≡ true → IsLastAmong names last
     → settle_fault (built_rules names) false (held_with given (pending_for last))
     ≡ fault_if (not (are_allowed names (with_last given last)))
@@ -78,7 +74,7 @@ settled-fault names given (Some s) allowed among =
     go true = rw (allowed, among) refl
     go false = rw (allowed, among) refl
 
-pub settled-rows : (names : List (List ℕ)) (given : List Setting) (last : Option Setting)
+settled-rows : (names : List (List ℕ)) (given : List Setting) (last : Option Setting)
     → IsLastAmong names last → are_allowed names (with_last given last) ≡ true
     → settled_rows (built_rules names) (pending_for last) (rows_for given) ≡ rows_for (with_last given last)
 settled-rows names given None among allowed = refl

@@ -3,14 +3,12 @@
 use Rattle.std.specs.Prelude.{ℕ, nat_le, nat_lt, Bool, not, ◌&&◌, if◌then◌else◌, List, [], ◌∷◌, length, codes}
 use Rattle.std.specs.Prelude.{Option, Some, None, option_map, option_and_then}
 use Rattle.std.specs.Char.{is_ascii_digit}
-use Rattle.std.specs.Cmp.{IsTotalOrder}
 use Rattle.std.specs.Cmp.Lexicographic.{slice_cmp}
 use Rattle.std.specs.List.{find, list_all, list_any}
 use Rattle.std.specs.Ordering.{nat_cmp}
 use Rattle.std.specs.Str.{bytes_eq}
 use Rattle.std.specs.Str.Parse.{digits_value}
 use Rattle.std.specs.declared.cmp.Ordering.{Ordering}
-use Rattle.std.proofs.lemmas.Cmp.{on_total, nat_list_cmp_total}
 use Rattle.portal_base.specs.Ordered.{are_apart}
 use Rattle.portal_words.specs.declared.command.Command.{Command}
 use Rattle.portal_words.specs.declared.command.Command.TheVariants.{Play, Serve}
@@ -21,9 +19,6 @@ use Rattle.portal_words.specs.Grammar.{Setting, options_in}
 -- by name
 abbrev pub setting_cmp : Setting → Setting → Ordering
 setting_cmp s t = slice_cmp nat_cmp s.name t.name
-
-pub setting_cmp_total : IsTotalOrder setting_cmp
-setting_cmp_total = on_total (λ s. s.name) nat_list_cmp_total
 
 -- the text is one of the list
 abbrev pub is_among : List (List ℕ) → List ℕ → Bool
