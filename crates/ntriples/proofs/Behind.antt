@@ -5,8 +5,9 @@ use Rattle.std.proofs.lemmas.List.{drop_at, length-append}
 use Rattle.std.specs.Prelude.{nat_lt, nat_eq}
 use Rattle.std.specs.Char.{digit_value}
 use Rattle.ntriples.specs.Reading.{◌>>=◌, character}
-use Rattle.ntriples.specs.Grammar.{hex, hex4, is_scalar, scalar, short_code, long_code, uchar, echar, echar_or}
-use Rattle.ntriples.specs.Grammar.{literal_escape}
+use Rattle.ntriples.specs.Parsing.{hex, hex4, scalar, short_code, long_code, uchar, echar_or}
+use Rattle.ntriples.specs.Grammar.{is_scalar, echar}
+use Rattle.ntriples.specs.Parsing.{literal_escape}
 
 pub record EndsWith (cs rest : List ℕ) : Type 0 where
   pub front : List ℕ

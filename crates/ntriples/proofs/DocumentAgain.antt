@@ -11,7 +11,7 @@ use lib.Utf8.{scalar, scalars, encode, encodes}
 use Rattle.ntriples.specs.declared.term.Term.{Term}
 use Rattle.ntriples.specs.declared.term.Triple.{Triple}
 use Rattle.ntriples.specs.Reading.{◌>>=◌, skip_blanks, behind}
-use Rattle.ntriples.specs.Grammar.{subject, object, iriref, triple, is_end, triple_alone, line}
+use Rattle.ntriples.specs.Parsing.{subject, object, iriref, triple, is_end, triple_alone, line}
 use Rattle.ntriples.specs.Document.{is_line_end, onto_first, lines, line_of, triples_of, IsDocument}
 use Rattle.ntriples.specs.Written.{iri_text, term_text, triple_text, document_text, CanBeRead}
 use Rattle.ntriples.proofs.DocumentLemmas.{feed_line, lines_inside, lines_none, empty_line, line_of_text}

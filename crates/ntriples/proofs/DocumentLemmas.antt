@@ -14,7 +14,7 @@ use Rattle.ntriples.specs.declared.fault.NtFault.{NtFault}
 use Rattle.ntriples.specs.declared.fault.NtFault.TheVariants.{Line, OutOfMemory}
 use Rattle.ntriples.specs.declared.term.Triple.{Triple}
 use Rattle.ntriples.specs.Reading.{◌>>=◌, skip_blanks}
-use Rattle.ntriples.specs.Grammar.{line}
+use Rattle.ntriples.specs.Parsing.{line}
 use Rattle.ntriples.specs.Document.{is_line_end, onto_first, lines, line_of, given, triples_of, lines_after}
 use Rattle.ntriples.specs.Document.{after_end, begins_with_feed, IsDocument, IsFirstBadLine, IsFault}
 use Rattle.ntriples.specs.Written.{CanBeRead}

@@ -7,10 +7,12 @@ use Rattle.ntriples.specs.declared.term.Term.TheVariants.{Iri, Blank, Literal}
 use Rattle.ntriples.specs.declared.term.Triple.{Triple}
 use Rattle.ntriples.specs.Characters.{is_pn_chars_base, is_pn_chars_u, is_pn_chars, is_iri_character}
 use Rattle.ntriples.specs.Reading.{skip_blanks}
-use Rattle.ntriples.specs.Grammar.{hex, hex4, short_code, long_code, uchar, echar, literal_escape, quoted_character}
-use Rattle.ntriples.specs.Grammar.{quoted_from, iriref, run, label_rest, blank_node_label, tag_part, subtags_from}
-use Rattle.ntriples.specs.Grammar.{langtag, xsd_string, rdf_lang_string, literal_suffix, literal, subject, object}
-use Rattle.ntriples.specs.Grammar.{triple, triple_alone, line}
+use Rattle.ntriples.specs.Parsing.{hex, hex4, short_code, long_code, uchar, literal_escape, quoted_character}
+use Rattle.ntriples.specs.Grammar.{echar}
+use Rattle.ntriples.specs.Parsing.{quoted_from, iriref, run, label_rest, blank_node_label, tag_part, subtags_from}
+use Rattle.ntriples.specs.Parsing.{langtag, literal_suffix, literal, subject, object}
+use Rattle.ntriples.specs.Grammar.{xsd_string, rdf_lang_string}
+use Rattle.ntriples.specs.Parsing.{triple, triple_alone, line}
 use Rattle.ntriples.specs.Document.{lines, line_of, triples_of, IsDocument, IsFirstBadLine}
 use Rattle.ntriples.specs.Written.{iri_byte, literal_byte, iri_text, quoted_text, suffix_text, term_text, triple_text}
 use Rattle.ntriples.specs.Written.{document_text}

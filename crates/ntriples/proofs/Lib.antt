@@ -9,4 +9,5 @@ pub mod Readings
 pub mod Again
 pub mod NamesAgain
 pub mod TermsAgain
+pub mod Pieces
 pub mod DocumentAgain

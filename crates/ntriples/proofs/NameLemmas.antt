@@ -13,7 +13,7 @@ use Rattle.ntriples.specs.declared.names.Class.{Class}
 use Rattle.ntriples.specs.declared.names.Class.TheVariants.{Alphanumerics, Label, Dots}
 use Rattle.ntriples.specs.Characters.{is_pn_chars_base, is_pn_chars_u, is_pn_chars}
 use Rattle.ntriples.specs.Reading.{Fails, onto, with_front, behind}
-use Rattle.ntriples.specs.Grammar.{is_in, begins_in, run, some_of, tag_part, subtags_from, dotted, label_rest}
+use Rattle.ntriples.specs.Parsing.{is_in, begins_in, run, some_of, tag_part, subtags_from, dotted, label_rest}
 use Rattle.ntriples.proofs.Behind.{EndsWith, Ends, ends_same, ends_more, ends_at, ends_drop, ends_shorter}
 
 pub run_cons : (class : Class) (c : ℕ) (cs : List ℕ) → is_in class c ≡ true

@@ -10,8 +10,8 @@ use Rattle.ntriples.specs.declared.names.Class.TheVariants.{Letters, Alphanumeri
 use Rattle.ntriples.specs.Characters.{is_digit, is_letter, is_pn_chars_base, is_pn_chars_u, is_pn_chars}
 use Rattle.ntriples.specs.Document.{is_line_end}
 use Rattle.ntriples.specs.Reading.{◌>>=◌, onto, with_front, character, behind}
-use Rattle.ntriples.specs.Grammar.{is_in, begins_in, run, dotted, label_rest, blank_node_label, some_of, tag_part}
-use Rattle.ntriples.specs.Grammar.{subtags_from, langtag}
+use Rattle.ntriples.specs.Parsing.{is_in, begins_in, run, dotted, label_rest, blank_node_label, some_of, tag_part}
+use Rattle.ntriples.specs.Parsing.{subtags_from, langtag}
 use Rattle.ntriples.proofs.NameLemmas.{run_cons, run_none, dot_label, other_label, subtags_cons}
 use Rattle.ntriples.proofs.Encoded.{no_ends, no_ends-append, scalars-append}
 use Rattle.ntriples.proofs.Readings.{Makes, makes_bind, makes_cond, makes_behind, character_makes}

@@ -9,7 +9,7 @@ use Rattle.ntriples.specs.declared.fault.Refusal.TheVariants.{Malformed, OutOfMe
 use Rattle.ntriples.specs.declared.quoted.QuoteKind.{QuoteKind}
 use Rattle.ntriples.specs.declared.quoted.QuoteKind.TheVariants.{Iri, Literal}
 use Rattle.ntriples.specs.Reading.{◌>>=◌, Fails, with_front}
-use Rattle.ntriples.specs.Grammar.{closing, is_plain, escape, quoted_character, quoted_from, quoted}
+use Rattle.ntriples.specs.Parsing.{closing, is_plain, escape, quoted_character, quoted_from, quoted}
 use Rattle.ntriples.proofs.Behind.{Ends, ends_same, ends_at, ends_bind, ends_cond, ends_drop, ends_shorter}
 use Rattle.ntriples.proofs.Behind.{uchar_ends, literal_escape_ends}
 

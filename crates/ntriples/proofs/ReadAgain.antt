@@ -8,8 +8,9 @@ use Rattle.ntriples.specs.declared.quoted.QuoteKind.{QuoteKind}
 use Rattle.ntriples.specs.declared.quoted.QuoteKind.TheVariants.{Iri, Literal}
 use Rattle.ntriples.specs.Characters.{is_iri_character}
 use Rattle.ntriples.specs.Reading.{with_front}
-use Rattle.ntriples.specs.Grammar.{hex, hex4, is_scalar, short_code, uchar, echar, literal_escape, closing, is_plain}
-use Rattle.ntriples.specs.Grammar.{quoted_character, quoted}
+use Rattle.ntriples.specs.Parsing.{hex, hex4, short_code, uchar, literal_escape, closing, is_plain}
+use Rattle.ntriples.specs.Grammar.{is_scalar, echar}
+use Rattle.ntriples.specs.Parsing.{quoted_character, quoted}
 use Rattle.ntriples.specs.Written.{upper_digit, code_escape, iri_byte, literal_byte}
 use Rattle.ntriples.proofs.QuotedLemmas.{quoted_at}
 use Rattle.ntriples.proofs.Encoded.{piece, iri_high}

@@ -10,9 +10,10 @@ use lib.Utf8 as text
 use Rattle.ntriples.specs.declared.quoted.QuoteKind.{QuoteKind}
 use Rattle.ntriples.specs.declared.quoted.QuoteKind.TheVariants.{Iri, Literal}
 use Rattle.ntriples.specs.Reading.{◌>>=◌, with_front, character, behind}
-use Rattle.ntriples.specs.Grammar.{hex4, is_scalar, scalar, short_code, long_code, uchar, echar, echar_or}
-use Rattle.ntriples.specs.Grammar.{literal_escape, closing, is_plain, escape, quoted_character, quoted_from, quoted}
-use Rattle.ntriples.specs.Grammar.{iriref}
+use Rattle.ntriples.specs.Parsing.{hex4, scalar, short_code, long_code, uchar, echar_or}
+use Rattle.ntriples.specs.Grammar.{is_scalar, echar}
+use Rattle.ntriples.specs.Parsing.{literal_escape, closing, is_plain, escape, quoted_character, quoted_from, quoted}
+use Rattle.ntriples.specs.Parsing.{iriref}
 use Rattle.ntriples.proofs.Behind.{EndsWith, Ends, hex4_ends}
 
 abbrev pub Makes : {A : Type 0} → (A → Type 0) → Option (A × List ℕ) → Type 0

@@ -11,8 +11,9 @@ use Rattle.ntriples.specs.declared.quoted.QuoteKind.TheVariants.{Iri, Literal}
 use Rattle.ntriples.specs.declared.term.Term.{Term}
 use Rattle.ntriples.specs.declared.term.Term.TheVariants as term
 use Rattle.ntriples.specs.Reading.{◌>>=◌, character}
-use Rattle.ntriples.specs.Grammar.{quoted, iriref, blank_node_label, langtag, xsd_string, rdf_lang_string, datatype}
-use Rattle.ntriples.specs.Grammar.{literal_suffix, literal, subject, object}
+use Rattle.ntriples.specs.Parsing.{quoted, iriref, blank_node_label, langtag, datatype}
+use Rattle.ntriples.specs.Grammar.{xsd_string, rdf_lang_string}
+use Rattle.ntriples.specs.Parsing.{literal_suffix, literal, subject, object}
 use Rattle.ntriples.specs.Written.{iri_byte, literal_byte, iri_text, quoted_text, typed_text, suffix_text, term_text}
 use Rattle.ntriples.proofs.Encoded.{piece, no_ends, no_ends-append, scalars-append, pieces_encodes, pieces_no_ends}
 use Rattle.ntriples.proofs.Encoded.{pieces_scalars}

@@ -6,7 +6,7 @@ use Rattle.ntriples.specs.declared.fault.NtFault.{NtFault}
 use Rattle.ntriples.specs.declared.fault.NtFault.TheVariants.{Line, OutOfMemory}
 use Rattle.ntriples.specs.declared.term.Triple.{Triple}
 use Rattle.ntriples.specs.Reading.{◌>>=◌}
-use Rattle.ntriples.specs.Grammar.{line}
+use Rattle.ntriples.specs.Parsing.{line}
 
 -- EOL: a carriage return and a line feed, or one of them
 abbrev pub is_line_end : ℕ → Bool

@@ -1,177 +1,135 @@
--- The productions of RDF 1.1 N-Triples, section 7, on characters. Each gives the value that it stands for, texts as
--- UTF-8, and the characters behind it, and is read as long as it can be.
-use Rattle.std.specs.Prelude.{ℕ, zero, suc, ◌+◌, ◌*◌, ◌-◌, ◌==◌, nat_lt, if◌then◌else◌, Bool, true, false, ◌&&◌, ◌||◌}
-use Rattle.std.specs.Prelude.{not, List, [], ◌∷◌, length, Option, Some, None, codes}
-use Rattle.std.specs.Char.{digit_value, encode_utf8}
-use Rattle.ntriples.specs.declared.quoted.QuoteKind.{QuoteKind}
-use Rattle.ntriples.specs.declared.quoted.QuoteKind.TheVariants.{Iri, Literal}
-use Rattle.ntriples.specs.declared.names.Class.{Class}
-use Rattle.ntriples.specs.declared.names.Class.TheVariants.{Letters, Alphanumerics, Label, Dots}
+-- The productions of RDF 1.1 N-Triples, section 7, in generative form: each says of which characters a text of the
+-- production is made, and what this text stands for. What stands for a text is its UTF-8.
+use Rattle.std.specs.Prelude.{◌≡◌, ◌⊎◌, ℕ, ◌+◌, ◌*◌, ◌^◌, ◌==◌, nat_lt, if◌then◌else◌, Bool, true, false, ◌||◌, ◌&&◌}
+use Rattle.std.specs.Prelude.{not, List, [], ◌∷◌, ◌++◌, length, Option, Some, None, codes}
+use Rattle.std.specs.List.{list_all, flat_map}
+use Rattle.std.specs.Char.{digit_value}
+use Rattle.std.specs.Str.{encode_utf8_all}
 use Rattle.ntriples.specs.declared.term.Term.{Term}
-use Rattle.ntriples.specs.declared.term.Term.TheVariants as term
+use Rattle.ntriples.specs.declared.term.Term.TheVariants.{Iri, Blank, Literal}
 use Rattle.ntriples.specs.declared.term.Triple.{Triple}
 use Rattle.ntriples.specs.Characters.{is_digit, is_letter, is_pn_chars_u, is_pn_chars, is_iri_character}
-use Rattle.ntriples.specs.Reading.{◌>>=◌, onto, with_front, character, behind, skip_blanks}
+
+-- ---- classes of characters
+
+-- a space or a tab
+abbrev pub is_blank : ℕ → Bool
+is_blank c = (c == 32) || (c == 9)
+
+-- HEX
+abbrev pub is_hex : ℕ → Bool
+is_hex c = nat_lt (digit_value c) 16
 
 -- a Unicode scalar value
 abbrev pub is_scalar : ℕ → Bool
 is_scalar c = nat_lt c 0xD800 || (nat_lt 0xDFFF c && nat_lt c 0x11_0000)
 
-abbrev pub scalar : ℕ → List ℕ → Option (ℕ × List ℕ)
-scalar c cs = if is_scalar c then Some (c, cs) else None
+-- what STRING_LITERAL_QUOTE may hold unescaped: all but `"`, `\`, a line feed and a carriage return
+abbrev pub is_string_character : ℕ → Bool
+is_string_character c = not (c == 34) && not (c == 92) && not (c == 10) && not (c == 13)
 
--- HEX: a hexadecimal digit in either case
-unfoldable pub hex : List ℕ → Option (ℕ × List ℕ)
-hex cs = do
-  c ← character cs
-  if nat_lt (digit_value c.0) 16 then Some (digit_value c.0, c.1) else None
+-- PN_CHARS or `.`
+abbrev pub is_inside_label : ℕ → Bool
+is_inside_label c = is_pn_chars c || (c == 46)
 
--- four of them
-unfoldable pub hex4 : List ℕ → Option (ℕ × List ℕ)
-hex4 cs = do
-  a ← hex cs
-  b ← hex a.1
-  c ← hex b.1
-  d ← hex c.1
-  Some (4096 * a.0 + 256 * b.0 + 16 * c.0 + d.0, d.1)
+abbrev pub is_alphanumeric : ℕ → Bool
+is_alphanumeric c = is_letter c || is_digit c
 
--- the scalar value that four and that eight of them name
-unfoldable pub short_code : List ℕ → Option (ℕ × List ℕ)
-short_code cs = do
-  c ← hex4 cs
-  scalar c.0 c.1
+-- at least one character, each of a class
+abbrev pub are_some : (ℕ → Bool) → List ℕ → Bool
+are_some is_one [] = false
+are_some is_one (c ∷ cs) = list_all is_one (c ∷ cs)
 
-unfoldable pub long_code : List ℕ → Option (ℕ × List ℕ)
-long_code cs = do
-  high ← hex4 cs
-  low ← hex4 high.1
-  scalar (65536 * high.0 + low.0) low.1
+-- ---- escapes
 
--- UCHAR, behind its backslash: `u` and four or `U` and eight digits
-unfoldable pub uchar : List ℕ → Option (ℕ × List ℕ)
-uchar cs = do
-  c ← character cs
-  if c.0 == 117 then short_code c.1 else if c.0 == 85 then long_code c.1 else None
+-- the number that hexadecimal digits spell
+abbrev pub hex_number : List ℕ → ℕ
+hex_number [] = 0
+hex_number (d ∷ ds) = digit_value d * 16 ^ length ds + hex_number ds
 
--- ECHAR, behind its backslash: what one of `tbnrf"'\` stands for
+-- UCHAR ::= '\u' HEX HEX HEX HEX | '\U' HEX HEX HEX HEX HEX HEX HEX HEX
+-- It stands for the scalar value that the digits name.
+pub record IsUchar (text : List ℕ) (c : ℕ) : Type 0 where
+  pub digits : List ℕ
+  pub form : ((text ≡ codes "\\u" ++ digits) × (length digits ≡ 4))
+      ⊎ ((text ≡ codes "\\U" ++ digits) × (length digits ≡ 8))
+  pub hexadecimal : list_all is_hex digits ≡ true
+  pub named : c ≡ hex_number digits
+  pub scalar : is_scalar c ≡ true
+
+-- what the letter of an ECHAR stands for
 unfoldable pub echar : ℕ → Option ℕ
 echar c =
     if c == 116 then Some 9 else if c == 98 then Some 8 else if c == 110 then Some 10 else if c == 114 then Some 13
     else if c == 102 then Some 12 else if c == 34 then Some 34 else if c == 39 then Some 39
     else if c == 92 then Some 92 else None
 
--- ECHAR or UCHAR, behind the backslash
-abbrev pub echar_or : Option ℕ → List ℕ → Option (ℕ × List ℕ) → Option (ℕ × List ℕ)
-echar_or (Some c) rest other = Some (c, rest)
-echar_or None rest other = other
+-- ECHAR ::= '\' [tbnrf"'\]
+abbrev pub IsEchar : List ℕ → ℕ → Type 0
+IsEchar text c = (letter : ℕ) × (text ≡ codes "\\" ++ letter ∷ []) × (echar letter ≡ Some c)
 
-unfoldable pub literal_escape : List ℕ → Option (ℕ × List ℕ)
-literal_escape cs = do
-  c ← character cs
-  echar_or (echar c.0) c.1 (uchar cs)
+-- ---- IRIs and strings
 
--- IRIREF is closed by `>`, and STRING_LITERAL_QUOTE by `"`.
-abbrev pub closing : QuoteKind → ℕ
-closing Iri = 62
-closing Literal = 34
+-- a piece of an IRI: a character that may stand there, or an escape
+abbrev pub IsIriPiece : List ℕ → ℕ → Type 0
+IsIriPiece text c = ((text ≡ c ∷ []) × (is_iri_character c ≡ true)) ⊎ IsUchar text c
 
--- what stands for itself
-abbrev pub is_plain : QuoteKind → ℕ → Bool
-is_plain Iri c = is_iri_character c
-is_plain Literal c = not (c == 10) && not (c == 13)
+-- a piece of a string
+abbrev pub IsStringPiece : List ℕ → ℕ → Type 0
+IsStringPiece text c = ((text ≡ c ∷ []) × (is_string_character c ≡ true)) ⊎ (IsEchar text c ⊎ IsUchar text c)
 
-abbrev pub escape : QuoteKind → List ℕ → Option (ℕ × List ℕ)
-escape Iri cs = uchar cs
-escape Literal cs = literal_escape cs
+-- pieces one behind the other, one for each of these characters
+abbrev pub ArePieces : (List ℕ → ℕ → Type 0) → List ℕ → List ℕ → Type 0
+ArePieces IsPiece text [] = text ≡ []
+ArePieces IsPiece text (c ∷ cs) =
+    (piece : List ℕ) × (rest : List ℕ) × (text ≡ piece ++ rest) × IsPiece piece c × ArePieces IsPiece rest cs
 
--- the next character of the value, or none at the closing one
-unfoldable pub quoted_character : QuoteKind → List ℕ → Option (Option ℕ × List ℕ)
-quoted_character kind cs = do
-  c ← character cs
-  if c.0 == closing kind then Some (None, c.1)
-      else if c.0 == 92 then (escape kind c.1 >>= λ e. Some (Some e.0, e.1))
-      else if is_plain kind c.0 then Some (Some c.0, c.1)
-      else None
+-- pieces between an opening and a closing character
+pub record IsQuoted (opening closing : ℕ) (IsPiece : List ℕ → ℕ → Type 0) (text value : List ℕ) : Type 0 where
+  pub inside : List ℕ
+  pub characters : List ℕ
+  pub form : text ≡ opening ∷ (inside ++ closing ∷ [])
+  pub pieces : ArePieces IsPiece inside characters
+  pub named : value ≡ encode_utf8_all characters
 
--- IRIREF or STRING_LITERAL_QUOTE, behind the opening character: the value up to the closing one. So many characters
--- in front are passed over, as they belong to what was read before.
-unfoldable pub quoted_from : QuoteKind → ℕ → List ℕ → Option (List ℕ × List ℕ)
-quoted_from kind skip [] = None
-quoted_from kind (suc skip) (c ∷ cs) = quoted_from kind skip cs
-quoted_from kind zero (c ∷ cs) = do
-  next ← quoted_character kind (c ∷ cs)
-  elim next.0 [
-    | None ↦ Some ([], next.1)
-    | Some d ↦ with_front (encode_utf8 d) (quoted_from kind (length cs - length next.1) cs)
-  ]
+-- IRIREF ::= '<' ([^#x00-#x20<>"{}|^`\] | UCHAR)* '>'
+abbrev pub IsIri : List ℕ → List ℕ → Type 0
+IsIri = IsQuoted 60 62 IsIriPiece
 
-abbrev pub quoted : QuoteKind → List ℕ → Option (List ℕ × List ℕ)
-quoted kind cs = quoted_from kind 0 cs
+-- STRING_LITERAL_QUOTE ::= '"' ([^#x22#x5C#xA#xD] | ECHAR | UCHAR)* '"'
+abbrev pub IsString : List ℕ → List ℕ → Type 0
+IsString = IsQuoted 34 34 IsStringPiece
 
--- IRIREF: `<`, and the IRI up to `>`
-unfoldable pub iriref : List ℕ → Option (List ℕ × List ℕ)
-iriref cs = do
-  rest ← behind 60 cs
-  quoted Iri rest
+-- ---- labels and tags
 
--- a class of characters
-abbrev pub is_in : Class → ℕ → Bool
-is_in Letters c = is_letter c
-is_in Alphanumerics c = is_letter c || is_digit c
-is_in Label c = is_pn_chars c
-is_in Dots c = c == 46
+-- what follows the first character of a label: nothing, or ((PN_CHARS | '.')* PN_CHARS)
+abbrev pub IsLabelRest : List ℕ → Type 0
+IsLabelRest text = (text ≡ []) ⊎ ((inside : List ℕ) × (last : ℕ) × (text ≡ inside ++ last ∷ [])
+    × (list_all is_inside_label inside ≡ true) × (is_pn_chars last ≡ true))
 
-abbrev pub begins_in : Class → List ℕ → Bool
-begins_in class [] = false
-begins_in class (c ∷ cs) = is_in class c
+-- BLANK_NODE_LABEL ::= '_:' (PN_CHARS_U | [0-9]) ((PN_CHARS | '.')* PN_CHARS)?
+pub record IsLabel (text label : List ℕ) : Type 0 where
+  pub first : ℕ
+  pub rest : List ℕ
+  pub form : text ≡ codes "_:" ++ first ∷ rest
+  pub begins : (is_pn_chars_u first || is_digit first) ≡ true
+  pub goes_on : IsLabelRest rest
+  pub named : label ≡ encode_utf8_all (first ∷ rest)
 
--- as many characters of a class as there are, maybe none
-unfoldable pub run : Class → List ℕ → List ℕ × List ℕ
-run class [] = ([], [])
-run class (c ∷ cs) = if is_in class c then onto (encode_utf8 c) (run class cs) else ([], c ∷ cs)
+-- subtags, each behind its hyphen
+abbrev pub hyphened : List (List ℕ) → List ℕ
+hyphened subtags = flat_map (λ subtag. codes "-" ++ subtag) subtags
 
--- of BLANK_NODE_LABEL what follows its first character: PN_CHARS and `.`, up to the last PN_CHARS
-abbrev pub dotted : List ℕ → List ℕ × List ℕ → List ℕ × List ℕ
-dotted cs ([], rest) = ([], 46 ∷ cs)
-dotted cs (b ∷ bs, rest) = (46 ∷ b ∷ bs, rest)
+-- LANGTAG ::= '@' [a-zA-Z]+ ('-' [a-zA-Z0-9]+)*
+pub record IsLanguage (text tag : List ℕ) : Type 0 where
+  pub primary : List ℕ
+  pub subtags : List (List ℕ)
+  pub form : text ≡ codes "@" ++ primary ++ hyphened subtags
+  pub letters : are_some is_letter primary ≡ true
+  pub alphanumerics : list_all (are_some is_alphanumeric) subtags ≡ true
+  pub named : tag ≡ encode_utf8_all (primary ++ hyphened subtags)
 
-unfoldable pub label_rest : List ℕ → List ℕ × List ℕ
-label_rest [] = ([], [])
-label_rest (c ∷ cs) =
-    if is_pn_chars c then onto (encode_utf8 c) (label_rest cs)
-    else if c == 46 then dotted cs (label_rest cs)
-    else ([], c ∷ cs)
-
--- BLANK_NODE_LABEL: `_:`, PN_CHARS_U or a digit, and the rest
-unfoldable pub blank_node_label : List ℕ → Option (List ℕ × List ℕ)
-blank_node_label cs = do
-  underscore ← behind 95 cs
-  colon ← behind 58 underscore
-  c ← character colon
-  if is_pn_chars_u c.0 || is_digit c.0 then with_front (encode_utf8 c.0) (Some (label_rest c.1)) else None
-
--- at least one character of a class
-abbrev pub some_of : List ℕ × List ℕ → Option (List ℕ × List ℕ)
-some_of ([], rest) = None
-some_of (b ∷ bs, rest) = Some (b ∷ bs, rest)
-
-unfoldable pub tag_part : Class → List ℕ → Option (List ℕ × List ℕ)
-tag_part part cs = some_of (run part cs)
-
--- any number of subtags, each with `-` before it; so many characters in front are passed over
-unfoldable pub subtags_from : ℕ → List ℕ → Option (List ℕ × List ℕ)
-subtags_from skip [] = Some ([], [])
-subtags_from (suc skip) (c ∷ cs) = subtags_from skip cs
-subtags_from zero (c ∷ cs) =
-    if c == 45 then
-    (tag_part Alphanumerics cs >>= λ part. with_front (45 ∷ part.0) (subtags_from (length cs - length part.1) cs))
-    else Some ([], c ∷ cs)
-
--- LANGTAG, behind its `@`
-unfoldable pub langtag : List ℕ → Option (List ℕ × List ℕ)
-langtag cs = do
-  primary ← tag_part Letters cs
-  with_front primary.0 (subtags_from 0 primary.1)
+-- ---- terms
 
 abbrev pub xsd_string : List ℕ
 xsd_string = codes "http://www.w3.org/2001/XMLSchema#string"
@@ -179,61 +137,83 @@ xsd_string = codes "http://www.w3.org/2001/XMLSchema#string"
 abbrev pub rdf_lang_string : List ℕ
 rdf_lang_string = codes "http://www.w3.org/1999/02/22-rdf-syntax-ns#langString"
 
--- the datatype of a literal, behind its first `^`
-unfoldable pub datatype : List ℕ → Option (List ℕ × List ℕ)
-datatype cs = do
-  rest ← behind 94 cs
-  iriref rest
+-- literal ::= STRING_LITERAL_QUOTE ('^^' IRIREF | LANGTAG)?
+-- With a language its datatype is that of such strings; with nothing behind it, that of strings.
+pub record IsTagged (text lexical datatype tag : List ℕ) : Type 0 where
+  pub quoted : List ℕ
+  pub suffix : List ℕ
+  pub form : text ≡ quoted ++ suffix
+  pub string : IsString quoted lexical
+  pub language : IsLanguage suffix tag
+  pub typed : datatype ≡ rdf_lang_string
 
--- of a literal what follows its closing quote: `@` and LANGTAG, `^^` and IRIREF, or nothing
-unfoldable pub literal_suffix : List ℕ → List ℕ → Option (Term × List ℕ)
-literal_suffix text [] = Some (term.Literal text xsd_string None, [])
-literal_suffix text (c ∷ cs) =
-    if c == 64 then (langtag cs >>= λ tag. Some (term.Literal text rdf_lang_string (Some tag.0), tag.1))
-    else if c == 94 then (datatype cs >>= λ iri. Some (term.Literal text iri.0 None, iri.1))
-    else Some (term.Literal text xsd_string None, c ∷ cs)
+pub record IsTyped (text lexical datatype : List ℕ) : Type 0 where
+  pub quoted : List ℕ
+  pub suffix : List ℕ
+  pub form : text ≡ quoted ++ codes "^^" ++ suffix
+  pub string : IsString quoted lexical
+  pub iri : IsIri suffix datatype
 
--- literal: STRING_LITERAL_QUOTE, and what may follow
-unfoldable pub literal : List ℕ → Option (Term × List ℕ)
-literal cs = do
-  rest ← behind 34 cs
-  text ← quoted Literal rest
-  literal_suffix text.0 text.1
+abbrev pub IsLiteral : List ℕ → List ℕ → List ℕ → Option (List ℕ) → Type 0
+IsLiteral text lexical datatype (Some tag) = IsTagged text lexical datatype tag
+IsLiteral text lexical datatype None = (IsString text lexical × (datatype ≡ xsd_string)) ⊎ IsTyped text lexical datatype
 
--- subject: IRIREF or BLANK_NODE_LABEL
-unfoldable pub subject : List ℕ → Option (Term × List ℕ)
-subject cs = do
-  c ← character cs
-  if c.0 == 95 then (blank_node_label cs >>= λ label. Some (term.Blank label.0, label.1))
-      else (iriref cs >>= λ iri. Some (term.Iri iri.0, iri.1))
+-- subject ::= IRIREF | BLANK_NODE_LABEL
+abbrev pub IsSubject : List ℕ → Term → Type 0
+IsSubject text (Iri iri) = IsIri text iri
+IsSubject text (Blank label) = IsLabel text label
+IsSubject text (Literal lexical datatype tag) = ⊥
 
--- object: IRIREF, BLANK_NODE_LABEL or literal
-unfoldable pub object : List ℕ → Option (Term × List ℕ)
-object cs = do
-  c ← character cs
-  if c.0 == 34 then literal cs else subject cs
+-- object ::= IRIREF | BLANK_NODE_LABEL | literal
+abbrev pub IsObject : List ℕ → Term → Type 0
+IsObject text (Iri iri) = IsIri text iri
+IsObject text (Blank label) = IsLabel text label
+IsObject text (Literal lexical datatype tag) = IsLiteral text lexical datatype tag
 
--- triple: subject, predicate, object and `.`, with spaces and tabs allowed between
-unfoldable pub triple : List ℕ → Option (Triple × List ℕ)
-triple cs = do
-  s ← subject cs
-  p ← iriref (skip_blanks s.1)
-  o ← object (skip_blanks p.1)
-  rest ← behind 46 (skip_blanks o.1)
-  Some (record { subject = s.0; predicate = p.0; object = o.0 }, rest)
+-- A term is read as long as it can be: with what follows it is no longer one.
+pub record IsRead {A : Type 0} (IsTerm : List ℕ → A → Type 0) (text behind : List ℕ) (term : A) : Type 0 where
+  pub form : IsTerm text term
+  pub longest : (more rest : List ℕ) (other : A) → behind ≡ more ++ rest → IsTerm (text ++ more) other → more ≡ []
 
--- nothing more, or a comment
-abbrev pub is_end : List ℕ → Bool
-is_end [] = true
-is_end (c ∷ cs) = c == 35
+-- ---- triples and lines
 
-unfoldable pub triple_alone : List ℕ → Option Triple
-triple_alone cs = do
-  t ← triple cs
-  if is_end (skip_blanks t.1) then Some t.0 else None
+abbrev pub AreBlanks : List ℕ → Type 0
+AreBlanks text = list_all is_blank text ≡ true
 
--- a whole line: at most one triple, and at most a comment, with spaces and tabs around
-unfoldable pub line : List ℕ → Option (Option Triple)
-line cs =
-    if is_end (skip_blanks cs) then Some None
-    else triple_alone (skip_blanks cs) >>= λ t. Some (Some t)
+-- triple ::= subject predicate object '.'
+-- Spaces and tabs may stand between. What is behind the triple is on the same line.
+pub record IsTriple (text behind : List ℕ) (t : Triple) : Type 0 where
+  pub subject : List ℕ
+  pub predicate : List ℕ
+  pub object : List ℕ
+  pub after_subject : List ℕ
+  pub after_predicate : List ℕ
+  pub after_object : List ℕ
+  pub form : text
+      ≡ subject ++ after_subject ++ predicate ++ after_predicate ++ object ++ after_object ++ codes "."
+  pub is_subject : IsRead IsSubject subject
+      (after_subject ++ predicate ++ after_predicate ++ object ++ after_object ++ codes "." ++ behind) t.subject
+  pub is_predicate : IsRead IsIri predicate (after_predicate ++ object ++ after_object ++ codes "." ++ behind) t.predicate
+  pub is_object : IsRead IsObject object (after_object ++ codes "." ++ behind) t.object
+  pub blank : AreBlanks (after_subject ++ after_predicate ++ after_object)
+
+abbrev pub IsStatement : List ℕ → List ℕ → Option Triple → Type 0
+IsStatement text behind None = text ≡ []
+IsStatement text behind (Some t) = IsTriple text behind t
+
+-- nothing, or `#` and the rest of the line
+abbrev pub IsComment : List ℕ → Type 0
+IsComment [] = Unit {0}
+IsComment (c ∷ cs) = c ≡ 35
+
+-- a line of a document (section 2, and ntriplesDoc of section 7): spaces and tabs, at most one triple, spaces and
+-- tabs, and at most a comment
+pub record IsLine (text : List ℕ) (t : Option Triple) : Type 0 where
+  pub indent : List ℕ
+  pub statement : List ℕ
+  pub room : List ℕ
+  pub comment : List ℕ
+  pub form : text ≡ indent ++ statement ++ room ++ comment
+  pub blank : AreBlanks (indent ++ room)
+  pub is_statement : IsStatement statement (room ++ comment) t
+  pub is_comment : IsComment comment

@@ -1,5 +1,6 @@
 pub mod Characters
 pub mod Document
 pub mod Grammar
+pub mod Parsing
 pub mod Reading
 pub mod Written

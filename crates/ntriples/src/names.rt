@@ -2,8 +2,8 @@
 ghost use Rattle.std.specs.Prelude.{◌≡◌, ◌<◌, ◌∷◌, ◌++◌, true, false, length, string_bytes, OnOk, IfOk, IfNone, IfSome};
 ghost use Rattle.std.specs.Str.{chars};
 ghost use Rattle.ntriples.specs.Reading.{Gives, onto, with_front, character, behind};
-ghost use Rattle.ntriples.specs.Grammar.{is_in, begins_in, tag_part, run, some_of, subtags_from, langtag, label_rest};
-ghost use Rattle.ntriples.specs.Grammar.{blank_node_label};
+ghost use Rattle.ntriples.specs.Parsing.{is_in, begins_in, tag_part, run, some_of, subtags_from, langtag, label_rest};
+ghost use Rattle.ntriples.specs.Parsing.{blank_node_label};
 
 use crate::characters::{is_digit, is_letter, is_pn_chars, is_pn_chars_u};
 use crate::fault::Refusal;
@@ -111,7 +111,7 @@ fn push_subtags<'a>(value: &mut String, text: &'a str) -> Result<&'a str, Refusa
 }
 
 /// LANGTAG behind its `@`.
-#[tactic(auto, unfolding(crate::specs::Grammar::langtag))]
+#[tactic(auto, unfolding(crate::specs::Parsing::langtag))]
 pub(crate) fn langtag(alloc: Global, text: &str) -> Result<(Text, &str), Refusal>
     ensures { Gives (λ x. (x.0, chars x.1.now)) result (langtag (chars text.now)) }
 {
@@ -136,7 +136,7 @@ fn push_label<'a>(value: &mut String, text: &'a str) -> Result<&'a str, AllocErr
 }
 
 /// BLANK_NODE_LABEL. The label is what follows `_:`.
-#[tactic(auto, unfolding(crate::specs::Grammar::blank_node_label))]
+#[tactic(auto, unfolding(crate::specs::Parsing::blank_node_label))]
 pub(crate) fn blank_node_label(alloc: Global, text: &str) -> Result<(Text, &str), Refusal>
     ensures { Gives (λ x. (x.0, chars x.1.now)) result (blank_node_label (chars text.now)) }
 {

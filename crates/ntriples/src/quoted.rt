@@ -2,8 +2,9 @@
 ghost use Rattle.std.specs.Prelude.{◌≡◌, ◌<◌, ◌^◌, IfOk};
 ghost use Rattle.std.specs.Str.{chars};
 ghost use Rattle.ntriples.specs.Reading.{Gives, character};
-ghost use Rattle.ntriples.specs.Grammar.{hex, hex4, scalar, short_code, long_code, uchar, echar, literal_escape};
-ghost use Rattle.ntriples.specs.Grammar.{closing, is_plain, escape, quoted_character, quoted, iriref};
+ghost use Rattle.ntriples.specs.Parsing.{hex, hex4, scalar, short_code, long_code, uchar, literal_escape};
+ghost use Rattle.ntriples.specs.Grammar.{echar};
+ghost use Rattle.ntriples.specs.Parsing.{closing, is_plain, escape, quoted_character, quoted, iriref};
 
 use crate::characters::is_iri_character;
 use crate::fault::Refusal;
@@ -19,7 +20,7 @@ pub(crate) enum QuoteKind {
 }
 
 // A hexadecimal digit.
-#[tactic(auto, unfolding(crate::specs::Grammar::hex))]
+#[tactic(auto, unfolding(crate::specs::Parsing::hex))]
 fn hex(text: &str) -> Result<(u32, &str), Refusal>
     ensures digit { Gives (λ x. (x.0, chars x.1.now)) result (hex (chars text.now)) }
     ensures below { IfOk result (λ x. x.0 < 16) }
@@ -32,7 +33,7 @@ fn hex(text: &str) -> Result<(u32, &str), Refusal>
 }
 
 // The number of four digits.
-#[tactic(auto, unfolding(crate::specs::Grammar::hex4))]
+#[tactic(auto, unfolding(crate::specs::Parsing::hex4))]
 fn hex4(text: &str) -> Result<(u32, &str), Refusal>
     ensures number { Gives (λ x. (x.0, chars x.1.now)) result (hex4 (chars text.now)) }
     ensures below { IfOk result (λ x. x.0 < 2 ^ 16) }
@@ -53,7 +54,7 @@ fn scalar(code: u32, rest: &str) -> Result<(char, &str), Refusal>
     }
 }
 
-#[tactic(auto, unfolding(crate::specs::Grammar::short_code))]
+#[tactic(auto, unfolding(crate::specs::Parsing::short_code))]
 fn short_code(text: &str) -> Result<(char, &str), Refusal>
     ensures { Gives (λ x. (x.0, chars x.1.now)) result (short_code (chars text.now)) }
 {
@@ -61,7 +62,7 @@ fn short_code(text: &str) -> Result<(char, &str), Refusal>
     scalar(code, rest)
 }
 
-#[tactic(auto, unfolding(crate::specs::Grammar::long_code))]
+#[tactic(auto, unfolding(crate::specs::Parsing::long_code))]
 fn long_code(text: &str) -> Result<(char, &str), Refusal>
     ensures { Gives (λ x. (x.0, chars x.1.now)) result (long_code (chars text.now)) }
 {
@@ -71,7 +72,7 @@ fn long_code(text: &str) -> Result<(char, &str), Refusal>
 }
 
 // UCHAR behind its backslash.
-#[tactic(auto, unfolding(crate::specs::Grammar::uchar))]
+#[tactic(auto, unfolding(crate::specs::Parsing::uchar))]
 fn uchar(text: &str) -> Result<(char, &str), Refusal>
     ensures { Gives (λ x. (x.0, chars x.1.now)) result (uchar (chars text.now)) }
 {
@@ -104,7 +105,7 @@ fn echar(character: char) -> Option<char>
 }
 
 // ECHAR or UCHAR behind the backslash.
-#[tactic(auto, unfolding(crate::specs::Grammar::literal_escape))]
+#[tactic(auto, unfolding(crate::specs::Parsing::literal_escape))]
 fn literal_escape(text: &str) -> Result<(char, &str), Refusal>
     ensures { Gives (λ x. (x.0, chars x.1.now)) result (literal_escape (chars text.now)) }
 {
@@ -147,7 +148,7 @@ impl QuoteKind {
 }
 
 // The next character of what is quoted, or none at the closing one.
-#[tactic(auto, unfolding(crate::specs::Grammar::quoted_character))]
+#[tactic(auto, unfolding(crate::specs::Parsing::quoted_character))]
 fn quoted_character(kind: QuoteKind, text: &str) -> Result<(Option<char>, &str), Refusal>
     ensures { Gives (λ x. (x.0, chars x.1.now)) result (quoted_character kind (chars text.now)) }
 {
@@ -182,7 +183,7 @@ pub(crate) fn quoted(alloc: Global, kind: QuoteKind, text: &str) -> Result<(Text
 }
 
 /// IRIREF.
-#[tactic(auto, unfolding(crate::specs::Grammar::iriref))]
+#[tactic(auto, unfolding(crate::specs::Parsing::iriref))]
 pub(crate) fn iriref(alloc: Global, text: &str) -> Result<(Text, &str), Refusal>
     ensures { Gives (λ x. (x.0, chars x.1.now)) result (iriref (chars text.now)) }
 {

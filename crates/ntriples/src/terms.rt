@@ -2,8 +2,9 @@
 ghost use Rattle.std.specs.Prelude.{◌≡◌};
 ghost use Rattle.std.specs.Str.{chars};
 ghost use Rattle.ntriples.specs.Reading.{Gives, character, skip_blanks};
-ghost use Rattle.ntriples.specs.Grammar.{datatype, literal_suffix, literal, subject, object, triple, is_end};
-ghost use Rattle.ntriples.specs.Grammar.{triple_alone, line, quoted, xsd_string, rdf_lang_string};
+ghost use Rattle.ntriples.specs.Parsing.{datatype, literal_suffix, literal, subject, object, triple, is_end};
+ghost use Rattle.ntriples.specs.Parsing.{triple_alone, line, quoted};
+ghost use Rattle.ntriples.specs.Grammar.{xsd_string, rdf_lang_string};
 
 use crate::fault::Refusal;
 use crate::names::{blank_node_label, langtag};
@@ -21,7 +22,7 @@ pub(crate) const XSD_STRING: &str = "http://www.w3.org/2001/XMLSchema#string";
 pub(crate) const RDF_LANG_STRING: &str = "http://www.w3.org/1999/02/22-rdf-syntax-ns#langString";
 
 // The datatype of a literal behind its first `^`.
-#[tactic(auto, unfolding(crate::specs::Grammar::datatype))]
+#[tactic(auto, unfolding(crate::specs::Parsing::datatype))]
 fn datatype(alloc: Global, text: &str) -> Result<(Text, &str), Refusal>
     ensures { Gives (λ x. (x.0, chars x.1.now)) result (datatype (chars text.now)) }
 {
@@ -30,7 +31,7 @@ fn datatype(alloc: Global, text: &str) -> Result<(Text, &str), Refusal>
 }
 
 // What may follow a literal's closing quote.
-#[tactic(auto, unfolding(crate::specs::Grammar::literal_suffix))]
+#[tactic(auto, unfolding(crate::specs::Parsing::literal_suffix))]
 fn literal_suffix(alloc: Global, lexical: Text, text: &str) -> Result<(Term, &str), Refusal>
     ensures { Gives (λ x. (x.0, chars x.1.now)) result (literal_suffix lexical (chars text.now)) }
 {
@@ -51,7 +52,7 @@ fn literal_suffix(alloc: Global, lexical: Text, text: &str) -> Result<(Term, &st
     }
 }
 
-#[tactic(auto, unfolding(crate::specs::Grammar::literal))]
+#[tactic(auto, unfolding(crate::specs::Parsing::literal))]
 fn literal(alloc: Global, text: &str) -> Result<(Term, &str), Refusal>
     ensures { Gives (λ x. (x.0, chars x.1.now)) result (literal (chars text.now)) }
 {
@@ -60,7 +61,7 @@ fn literal(alloc: Global, text: &str) -> Result<(Term, &str), Refusal>
     literal_suffix(alloc, lexical, rest)
 }
 
-#[tactic(auto, unfolding(crate::specs::Grammar::subject))]
+#[tactic(auto, unfolding(crate::specs::Parsing::subject))]
 fn subject(alloc: Global, text: &str) -> Result<(Term, &str), Refusal>
     ensures { Gives (λ x. (x.0, chars x.1.now)) result (subject (chars text.now)) }
 {
@@ -74,7 +75,7 @@ fn subject(alloc: Global, text: &str) -> Result<(Term, &str), Refusal>
     }
 }
 
-#[tactic(auto, unfolding(crate::specs::Grammar::object))]
+#[tactic(auto, unfolding(crate::specs::Parsing::object))]
 fn object(alloc: Global, text: &str) -> Result<(Term, &str), Refusal>
     ensures { Gives (λ x. (x.0, chars x.1.now)) result (object (chars text.now)) }
 {
@@ -86,7 +87,7 @@ fn object(alloc: Global, text: &str) -> Result<(Term, &str), Refusal>
     }
 }
 
-#[tactic(auto, unfolding(crate::specs::Grammar::triple))]
+#[tactic(auto, unfolding(crate::specs::Parsing::triple))]
 fn triple(alloc: Global, text: &str) -> Result<(Triple, &str), Refusal>
     ensures { Gives (λ x. (x.0, chars x.1.now)) result (triple (chars text.now)) }
 {
@@ -112,7 +113,7 @@ fn is_end(text: &str) -> bool
     }
 }
 
-#[tactic(auto, unfolding(crate::specs::Grammar::triple_alone))]
+#[tactic(auto, unfolding(crate::specs::Parsing::triple_alone))]
 fn triple_alone(alloc: Global, text: &str) -> Result<Triple, Refusal>
     ensures { Gives (λ t. t) result (triple_alone (chars text.now)) }
 {
@@ -125,7 +126,7 @@ fn triple_alone(alloc: Global, text: &str) -> Result<Triple, Refusal>
 }
 
 /// The triple of a whole line, if it has one.
-#[tactic(auto, unfolding(crate::specs::Grammar::line))]
+#[tactic(auto, unfolding(crate::specs::Parsing::line))]
 pub(crate) fn line(alloc: Global, text: &str) -> Result<Option<Triple>, Refusal>
     ensures { Gives (λ t. t) result (line (chars text.now)) }
 {

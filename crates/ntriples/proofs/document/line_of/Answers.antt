@@ -1,7 +1,7 @@
 use Rattle.std.proofs.Common.{ap, sym, ◌∙◌, subst}
 use Rattle.std.specs.Str.{chars}
 use Rattle.ntriples.specs.Reading.{Gives}
-use Rattle.ntriples.specs.Grammar.{line}
+use Rattle.ntriples.specs.Parsing.{line}
 use Rattle.ntriples.proofs.DocumentLemmas.{line_of_text, line_of_none}
 use Rattle.ntriples.proofs.document.line_of.Goals as goal
 

@@ -2,7 +2,7 @@ use Rattle.std.proofs.Common.{rules, ap, sym, ◌∙◌}
 use Rattle.std.specs.Prelude.{string_bytes}
 use Rattle.std.specs.Str.{chars}
 use Rattle.ntriples.specs.Reading.{onto}
-use Rattle.ntriples.specs.Grammar.{label_rest, begins_in}
+use Rattle.ntriples.specs.Parsing.{label_rest, begins_in}
 use Rattle.ntriples.specs.declared.names.Class.TheVariants.{Label}
 use Rattle.ntriples.proofs.NameLemmas.{label_more, label_done, label_shorter}
 use Rattle.ntriples.proofs.names.push_label.Goals as goal

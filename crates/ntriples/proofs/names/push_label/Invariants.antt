@@ -4,7 +4,7 @@ use denote.Shadow.{shadow}
 use Rattle.std.specs.Prelude.{string_bytes}
 use Rattle.std.specs.Str.{chars}
 use Rattle.ntriples.specs.Reading.{onto}
-use Rattle.ntriples.specs.Grammar.{label_rest}
+use Rattle.ntriples.specs.Parsing.{label_rest}
 use Rattle.ntriples.proofs.names.push_label.Given as goal
 
 abbrev pub invariant-loop-character : goal.invariant-loop-character

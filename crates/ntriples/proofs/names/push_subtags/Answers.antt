@@ -3,7 +3,7 @@ use Rattle.std.proofs.lemmas.Result.{err_from_is_err_and}
 use Rattle.std.specs.Prelude.{string_bytes}
 use Rattle.std.specs.Str.{chars}
 use Rattle.ntriples.specs.Reading.{with_front}
-use Rattle.ntriples.specs.Grammar.{subtags_from}
+use Rattle.ntriples.specs.Parsing.{subtags_from}
 use Rattle.ntriples.proofs.NameLemmas.{loop_more, loop_shorter, loop_fails, subtags_done}
 use Rattle.ntriples.proofs.names.push_subtags.Goals as goal
 

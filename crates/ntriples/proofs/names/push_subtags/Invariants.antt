@@ -4,7 +4,7 @@ use denote.Shadow.{shadow}
 use Rattle.std.specs.Prelude.{string_bytes}
 use Rattle.std.specs.Str.{chars}
 use Rattle.ntriples.specs.Reading.{with_front}
-use Rattle.ntriples.specs.Grammar.{subtags_from}
+use Rattle.ntriples.specs.Parsing.{subtags_from}
 use Rattle.ntriples.proofs.names.push_subtags.Given as goal
 
 abbrev pub invariant-loop-behind : goal.invariant-loop-behind

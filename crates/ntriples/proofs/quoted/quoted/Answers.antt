@@ -2,7 +2,7 @@ use Rattle.std.proofs.Common.{rules}
 use Rattle.std.proofs.lemmas.Result.{err_from_is_err_and}
 use Rattle.std.specs.Prelude.{string_bytes}
 use Rattle.std.specs.Str.{chars}
-use Rattle.ntriples.specs.Grammar.{quoted}
+use Rattle.ntriples.specs.Parsing.{quoted}
 use Rattle.ntriples.proofs.QuotedLemmas.{quoted_more, quoted_done, quoted_fails, quoted_character_shorter}
 use Rattle.ntriples.proofs.quoted.quoted.Goals as goal
 

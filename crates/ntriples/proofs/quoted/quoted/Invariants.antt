@@ -4,7 +4,7 @@ use denote.Shadow.{shadow}
 use Rattle.std.specs.Prelude.{string_bytes}
 use Rattle.std.specs.Str.{chars}
 use Rattle.ntriples.specs.Reading.{with_front}
-use Rattle.ntriples.specs.Grammar.{quoted}
+use Rattle.ntriples.specs.Parsing.{quoted}
 use Rattle.ntriples.proofs.quoted.quoted.Given as goal
 
 abbrev pub invariant-loop-value : goal.invariant-loop-value

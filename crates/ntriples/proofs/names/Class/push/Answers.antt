@@ -2,7 +2,7 @@ use Rattle.std.proofs.Common.{rules}
 use Rattle.std.specs.Prelude.{string_bytes}
 use Rattle.std.specs.Str.{chars}
 use Rattle.ntriples.specs.Reading.{onto}
-use Rattle.ntriples.specs.Grammar.{run}
+use Rattle.ntriples.specs.Parsing.{run}
 use Rattle.ntriples.proofs.NameLemmas.{run_more, run_done}
 use Rattle.ntriples.proofs.names.Class.push.Goals as goal
 

@@ -4,7 +4,7 @@ use denote.Shadow.{shadow}
 use Rattle.std.specs.Prelude.{string_bytes}
 use Rattle.std.specs.Str.{chars}
 use Rattle.ntriples.specs.Reading.{onto}
-use Rattle.ntriples.specs.Grammar.{run}
+use Rattle.ntriples.specs.Parsing.{run}
 use Rattle.ntriples.proofs.names.Class.push.Given as goal
 
 abbrev pub invariant-loop-character : goal.invariant-loop-character

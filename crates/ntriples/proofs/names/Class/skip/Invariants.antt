@@ -2,7 +2,7 @@ use Rattle.std.proofs.Common.{◌≡◌, length}
 use denote.Text.{Utf8}
 use denote.Shadow.{shadow}
 use Rattle.std.specs.Str.{chars}
-use Rattle.ntriples.specs.Grammar.{run}
+use Rattle.ntriples.specs.Parsing.{run}
 use Rattle.ntriples.proofs.names.Class.skip.Given as goal
 
 abbrev pub invariant-loop-behind : goal.invariant-loop-behind
