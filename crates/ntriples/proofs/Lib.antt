@@ -10,4 +10,5 @@ pub mod Again
 pub mod NamesAgain
 pub mod TermsAgain
 pub mod Pieces
+pub mod Quotes
 pub mod DocumentAgain

@@ -450,3 +450,8 @@ piece_of Literal text c rest p = elim p [
     | inr u ↦ escaped_of Literal text c rest (unread_letter text c u)
   ]
 ]
+
+pub closed : (kind : QuoteKind) (rest : List ℕ) → quoted_character kind (closing kind ∷ rest) ≡ Some (None, rest)
+unfolding quoted_character
+closed Iri rest = refl
+closed Literal rest = refl

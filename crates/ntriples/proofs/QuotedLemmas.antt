@@ -65,7 +65,7 @@ pub quoted_at : (kind : QuoteKind) (cs : List ℕ) (x : Option ℕ × List ℕ) 
 quoted_at kind [] x e = absurd (unfold quoted_character in cc)
 quoted_at kind (c ∷ cs) x e = quoted_cons kind c cs x e
 
-quoted_none : (kind : QuoteKind) (cs : List ℕ) → quoted_character kind cs ≡ None → quoted kind cs ≡ None
+pub quoted_none : (kind : QuoteKind) (cs : List ℕ) → quoted_character kind cs ≡ None → quoted kind cs ≡ None
 unfolding quoted_from
 quoted_none kind [] e = refl
 quoted_none kind (c ∷ cs) e = rw e refl

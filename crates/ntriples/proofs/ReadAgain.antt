@@ -13,6 +13,7 @@ use Rattle.ntriples.specs.Grammar.{is_scalar, echar}
 use Rattle.ntriples.specs.Parsing.{quoted_character, quoted}
 use Rattle.ntriples.specs.Written.{upper_digit, code_escape, iri_byte, literal_byte}
 use Rattle.ntriples.proofs.QuotedLemmas.{quoted_at}
+use Rattle.ntriples.proofs.Pieces.{closed}
 use Rattle.ntriples.proofs.Encoded.{piece, iri_high}
 
 -- ---- escapes
@@ -128,11 +129,6 @@ piece_again Iri c more = iri_again_by (is_iri_character c) c more refl
 piece_again Literal c more = literal_again c more
 
 -- ---- the whole
-
-closed : (kind : QuoteKind) (rest : List ℕ) → quoted_character kind (closing kind ∷ rest) ≡ Some (None, rest)
-unfolding quoted_character
-closed Iri rest = refl
-closed Literal rest = refl
 
 pub quoted_again : (kind : QuoteKind) (cs rest : List ℕ)
     → quoted kind (flat_map (piece kind) cs ++ closing kind ∷ rest) ≡ Some (encodes cs, rest)
