@@ -11,4 +11,5 @@ pub mod NamesAgain
 pub mod TermsAgain
 pub mod Pieces
 pub mod Quotes
+pub mod Labels
 pub mod DocumentAgain

@@ -26,7 +26,7 @@ unfolding run
 run_none class [] e = refl
 run_none class (c ∷ cs) e = rw e refl
 
-onto_onto : (front more : List ℕ) (read : List ℕ × List ℕ) → onto front (onto more read) ≡ onto (front ++ more) read
+pub onto_onto : (front more : List ℕ) (read : List ℕ × List ℕ) → onto front (onto more read) ≡ onto (front ++ more) read
 onto_onto front more read =
     ap (λ (v : List ℕ). let r : List ℕ × List ℕ = (v, read.1) in r) (sym (append_assoc front more read.0))
 
@@ -113,7 +113,7 @@ subtags_cons cs x e =
     ∙ ap (subtags_from 0)
     (ends_drop cs x.1 (ends_at cs (tag_part Alphanumerics cs) x (tag_part_ends Alphanumerics cs) e))))
 
-subtags_none : (cs : List ℕ) → tag_part Alphanumerics cs ≡ None → subtags_from 0 (45 ∷ cs) ≡ None
+pub subtags_none : (cs : List ℕ) → tag_part Alphanumerics cs ≡ None → subtags_from 0 (45 ∷ cs) ≡ None
 unfolding subtags_from
 subtags_none cs e = rw e refl
 
@@ -121,7 +121,7 @@ cond_none : (b : Bool) (cs : List ℕ) → cond b (Some cs) None ≡ None → b 
 cond_none true cs e = absurd cc
 cond_none false cs e = refl
 
-subtags_end : (cs : List ℕ) → behind 45 cs ≡ None → subtags_from 0 cs ≡ Some ([], cs)
+pub subtags_end : (cs : List ℕ) → behind 45 cs ≡ None → subtags_from 0 cs ≡ Some ([], cs)
 unfolding subtags_from
 subtags_end [] e = refl
 subtags_end (c ∷ cs) e = rw (cond_none (nat_eq c 45) cs e) refl
@@ -202,7 +202,7 @@ pub other_label : (c : ℕ) (cs : List ℕ) → nat_eq c 46 ≡ false
 unfolding label_rest
 other_label c cs e = rw e refl
 
-dotted_onto : (cs front : List ℕ) (read : List ℕ × List ℕ) → 0 < length front
+pub dotted_onto : (cs front : List ℕ) (read : List ℕ × List ℕ) → 0 < length front
     → dotted cs (onto front read) ≡ onto (46 ∷ front) read
 dotted_onto cs [] read h = absurd (omega arith)
 dotted_onto cs (b ∷ bs) read h = refl
@@ -289,7 +289,7 @@ label_shorter now d rest parts = omega (arith, ends_shorter now (run Dots now).1
 
 -- ---- behind a hyphen that was pushed
 
-hyphen : encode_utf8 45 ≡ 45 ∷ []
+pub hyphen : encode_utf8 45 ≡ 45 ∷ []
 unfolding encode_utf8
 hyphen = refl
 

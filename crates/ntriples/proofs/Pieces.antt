@@ -27,6 +27,10 @@ pub bind_some : {A B : Type 0} (o : Option A) (f : A → Option B) (y : B) → (
 bind_some None f y e = absurd (none-some y e)
 bind_some (Some x) f y e = (x, refl, e)
 
+pub character_some : (cs : List ℕ) (x : ℕ × List ℕ) → character cs ≡ Some x → cs ≡ x.0 ∷ x.1
+character_some [] x e = absurd (none-some x e)
+character_some (c ∷ cs) x e = ap (λ (y : ℕ × List ℕ). y.0 ∷ y.1) (same_Some {A = ℕ × List ℕ} (c, cs) x e)
+
 -- ---- hexadecimal digits
 
 record HexAt (cs : List ℕ) (x : ℕ × List ℕ) : Type 0 where
