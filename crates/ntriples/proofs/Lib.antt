@@ -12,4 +12,5 @@ pub mod TermsAgain
 pub mod Pieces
 pub mod Quotes
 pub mod Labels
+pub mod Tags
 pub mod DocumentAgain
