@@ -23,7 +23,7 @@ use Rattle.ntriples.proofs.Pieces.{Takes, bind_some, character_some}
 pub data Stops : List ℕ → Type 0 where
   space : {cs : List ℕ} → Stops (32 ∷ cs)
   tab : {cs : List ℕ} → Stops (9 ∷ cs)
-  iri : {cs : List ℕ} → Stops (60 ∷ cs)
+  bracket : {cs : List ℕ} → Stops (60 ∷ cs)
   end : Stops (46 ∷ [])
   end_space : {cs : List ℕ} → Stops (46 ∷ 32 ∷ cs)
   end_tab : {cs : List ℕ} → Stops (46 ∷ 9 ∷ cs)
@@ -171,7 +171,7 @@ label_stops : (rest : List ℕ) → Stops rest → label_rest rest ≡ ([], rest
 unfolding label_rest is_pn_chars is_pn_chars_u is_pn_chars_base
 label_stops _ space = refl
 label_stops _ tab = refl
-label_stops _ iri = refl
+label_stops _ bracket = refl
 label_stops _ end = refl
 label_stops _ end_space = refl
 label_stops _ end_tab = refl

@@ -13,4 +13,5 @@ pub mod Pieces
 pub mod Quotes
 pub mod Labels
 pub mod Tags
+pub mod Objects
 pub mod DocumentAgain

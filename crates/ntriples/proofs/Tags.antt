@@ -16,7 +16,7 @@ use Rattle.ntriples.proofs.NameLemmas.{run_cons, run_none, behind_ends, subtags_
 use Rattle.ntriples.proofs.NameLemmas.{tag_part_some, hyphen, onto_onto, onto_nil}
 use Rattle.ntriples.proofs.Pieces.{Takes, bind_some}
 use Rattle.ntriples.proofs.Labels.{Stops}
-use Rattle.ntriples.proofs.Labels.Stops.{space, tab, iri, end, end_space, end_tab, end_comment}
+use Rattle.ntriples.proofs.Labels.Stops.{space, tab, bracket, end, end_space, end_tab, end_comment}
 
 -- ---- parts
 
@@ -158,7 +158,7 @@ stops_part : (rest : List ℕ) → Stops rest
     → (begins_in Letters rest ≡ false) × (begins_in Alphanumerics rest ≡ false) × (behind 45 rest ≡ None)
 stops_part _ space = (refl, refl, refl)
 stops_part _ tab = (refl, refl, refl)
-stops_part _ iri = (refl, refl, refl)
+stops_part _ bracket = (refl, refl, refl)
 stops_part _ end = (refl, refl, refl)
 stops_part _ end_space = (refl, refl, refl)
 stops_part _ end_tab = (refl, refl, refl)
@@ -218,12 +218,6 @@ langtag_some cs x e =
     })
 
 module _ (text tag rest : List ℕ) (l : IsLanguage text tag) where
-  behind_sign : List ℕ
-  behind_sign = l.primary ++ hyphened l.subtags
-
-  pub sign : (front : List ℕ) × (text ≡ 64 ∷ front) × (front ≡ l.primary ++ hyphened l.subtags)
-  sign = (l.primary ++ hyphened l.subtags, l.form, refl)
-
   pub langtag_of : Stops rest → langtag ((l.primary ++ hyphened l.subtags) ++ rest) ≡ Some (tag, rest)
   unfolding langtag
   langtag_of s =

@@ -150,7 +150,7 @@ pub record IsTagged (text lexical datatype tag : List ℕ) : Type 0 where
 pub record IsTyped (text lexical datatype : List ℕ) : Type 0 where
   pub quoted : List ℕ
   pub suffix : List ℕ
-  pub form : text ≡ quoted ++ codes "^^" ++ suffix
+  pub form : text ≡ quoted ++ (codes "^^" ++ suffix)
   pub string : IsString quoted lexical
   pub iri : IsIri suffix datatype
 
