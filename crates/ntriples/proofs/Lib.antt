@@ -14,4 +14,5 @@ pub mod Quotes
 pub mod Labels
 pub mod Tags
 pub mod Objects
+pub mod Lines
 pub mod DocumentAgain

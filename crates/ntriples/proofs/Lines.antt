@@ -1,0 +1,375 @@
+-- Triples and whole lines: what is read is of the form, and what is of the form is read.
+use Rattle.std.proofs.Common.{◌≡◌, ℕ, Bool, true, false, cond, ◌||◌, ◌&&◌, nat_eq, List, [], ◌∷◌, ◌++◌, Option, Some, None}
+use Rattle.std.proofs.Common.{inl, inr, refl, sym, ap, ◌∙◌, subst, append_assoc}
+use Rattle.std.proofs.lemmas.Bool.{and_parts, and_from, or_cases, eqb-true}
+use Rattle.std.proofs.lemmas.List.{append-nil}
+use Rattle.std.proofs.lemmas.List.Folds.{list_all-append}
+use Rattle.std.proofs.lemmas.Option.{none-some, same_Some, cond_some}
+use Rattle.std.specs.Prelude.{◌⊎◌}
+use Rattle.std.specs.List.{list_all}
+use Rattle.ntriples.specs.declared.term.Term.{Term}
+use Rattle.ntriples.specs.declared.term.Term.TheVariants.{Iri, Blank, Literal}
+use Rattle.ntriples.specs.declared.term.Triple.{Triple}
+use Rattle.ntriples.specs.Reading.{◌>>=◌, behind, skip_blanks}
+use Rattle.ntriples.specs.Parsing.{iriref, subject, object, triple, is_end, triple_alone, line}
+use Rattle.ntriples.specs.Grammar.{is_blank, IsIri, IsString, IsLabel, IsTagged, IsTyped, IsLiteral, IsSubject, IsObject}
+use Rattle.ntriples.specs.Grammar.{IsRead, AreBlanks, IsTriple, IsStatement, IsComment, IsLine}
+use Rattle.ntriples.proofs.NameLemmas.{behind_ends}
+use Rattle.ntriples.proofs.Pieces.{Takes, bind_some}
+use Rattle.ntriples.proofs.Quotes.{iriref_some, iriref_of}
+use Rattle.ntriples.proofs.Labels.{Stops}
+use Rattle.ntriples.proofs.Labels.Stops.{space, tab, bracket, end, end_space, end_tab, end_comment}
+use Rattle.ntriples.proofs.Objects.{subject_some, object_some, subject_of, object_of, iriref_longest, subject_longest}
+use Rattle.ntriples.proofs.Objects.{object_longest, read_whole}
+
+-- ---- blanks
+
+record BlanksAt (cs rest : List ℕ) : Type 0 where
+  pub front : List ℕ
+  pub parts : cs ≡ front ++ rest
+  pub blank : AreBlanks front
+
+blanks_by : (b : Bool) (c : ℕ) (cs rest : List ℕ) → is_blank c ≡ b → BlanksAt cs rest
+    → BlanksAt (c ∷ cs) (cond b rest (c ∷ cs))
+blanks_by true c cs rest e h =
+    record {
+      front = c ∷ h.front;
+      parts = ap (λ (t : List ℕ). c ∷ t) h.parts;
+      blank = and_from (is_blank c) (list_all is_blank h.front) e h.blank;
+    }
+blanks_by false c cs rest e h = record { front = []; parts = refl; blank = refl }
+
+blanks_at : (cs : List ℕ) → BlanksAt cs (skip_blanks cs)
+unfolding skip_blanks
+blanks_at [] = record { front = []; parts = refl; blank = refl }
+blanks_at (c ∷ cs) = blanks_by (is_blank c) c cs (skip_blanks cs) refl (blanks_at cs)
+
+skip_one : (c : ℕ) (cs : List ℕ) → is_blank c ≡ true → skip_blanks (c ∷ cs) ≡ skip_blanks cs
+unfolding skip_blanks
+skip_one c cs e = rw e refl
+
+skip_none : (c : ℕ) (cs : List ℕ) → is_blank c ≡ false → skip_blanks (c ∷ cs) ≡ c ∷ cs
+unfolding skip_blanks
+skip_none c cs e = rw e refl
+
+skip_front : (front rest : List ℕ) → AreBlanks front → skip_blanks (front ++ rest) ≡ skip_blanks rest
+skip_front [] rest h = refl
+skip_front (c ∷ front) rest h =
+    let p = and_parts (is_blank c) (list_all is_blank front) h in
+    skip_one c (front ++ rest) p.0 ∙ skip_front front rest p.1
+
+-- a text that begins with no space, tab or `#`
+record Begins (text : List ℕ) : Type 0 where
+  pub head : ℕ
+  pub more : List ℕ
+  pub parts : text ≡ head ∷ more
+  pub no_blank : is_blank head ≡ false
+  pub no_comment : nat_eq head 35 ≡ false
+
+skip_to : (text rest : List ℕ) → Begins text → skip_blanks (text ++ rest) ≡ text ++ rest
+skip_to text rest b =
+    ap (λ (t : List ℕ). skip_blanks (t ++ rest)) b.parts ∙ skip_none b.head (b.more ++ rest) b.no_blank
+    ∙ ap (λ (t : List ℕ). t ++ rest) (sym b.parts)
+
+-- up to a text behind blanks
+past : (front text rest : List ℕ) → AreBlanks front → Begins text → skip_blanks (front ++ (text ++ rest)) ≡ text ++ rest
+past front text rest h b = skip_front front (text ++ rest) h ∙ skip_to text rest b
+
+iri_begins : (text iri : List ℕ) → IsIri text iri → Begins text
+iri_begins text iri h = record { head = 60; more = _; parts = h.form; no_blank = refl; no_comment = refl }
+
+label_begins : (text label : List ℕ) → IsLabel text label → Begins text
+label_begins text label h = record { head = 95; more = _; parts = h.form; no_blank = refl; no_comment = refl }
+
+string_begins : (text lexical : List ℕ) → IsString text lexical → Begins text
+string_begins text lexical h = record { head = 34; more = _; parts = h.form; no_blank = refl; no_comment = refl }
+
+begins_more : (whole text more : List ℕ) → whole ≡ text ++ more → Begins text → Begins whole
+begins_more whole text more e b =
+    record {
+      head = b.head;
+      more = b.more ++ more;
+      parts = e ∙ ap (λ (t : List ℕ). t ++ more) b.parts;
+      no_blank = b.no_blank;
+      no_comment = b.no_comment;
+    }
+
+subject_begins : (text : List ℕ) (t : Term) → IsSubject text t → Begins text
+subject_begins text (Iri iri) h = iri_begins text iri h
+subject_begins text (Blank label) h = label_begins text label h
+subject_begins text (Literal lexical datatype tag) h = absurd h
+
+literal_begins : (text lexical datatype : List ℕ) (tag : Option (List ℕ)) → IsLiteral text lexical datatype tag
+    → Begins text
+literal_begins text lexical datatype (Some tag) t =
+    begins_more text t.quoted t.suffix t.form (string_begins t.quoted lexical t.string)
+literal_begins text lexical datatype None h = elim h [
+  | inl p ↦ string_begins text lexical p.0
+  | inr t ↦ begins_more text t.quoted (94 ∷ 94 ∷ t.suffix) t.form (string_begins t.quoted lexical t.string)
+]
+
+object_begins : (text : List ℕ) (t : Term) → IsObject text t → Begins text
+object_begins text (Iri iri) h = iri_begins text iri h
+object_begins text (Blank label) h = label_begins text label h
+object_begins text (Literal lexical datatype tag) h = literal_begins text lexical datatype tag h
+
+-- ---- what may follow
+
+blank_stops : (c : ℕ) (cs : List ℕ) → is_blank c ≡ true → Stops (c ∷ cs)
+blank_stops c cs h = elim (or_cases (nat_eq c 32) (nat_eq c 9) h) [
+  | inl e ↦ subst (λ (k : ℕ). Stops (k ∷ cs)) (sym (eqb-true c 32 e)) space
+  | inr e ↦ subst (λ (k : ℕ). Stops (k ∷ cs)) (sym (eqb-true c 9 e)) tab
+]
+
+stops_behind : (front rest : List ℕ) → AreBlanks front → Stops rest → Stops (front ++ rest)
+stops_behind [] rest h s = s
+stops_behind (c ∷ front) rest h s =
+    blank_stops c (front ++ rest) (and_parts (is_blank c) (list_all is_blank front) h).0
+
+iri_stops : (text iri rest : List ℕ) → IsIri text iri → Stops (text ++ rest)
+iri_stops text iri rest h = subst (λ (t : List ℕ). Stops (t ++ rest)) (sym h.form) bracket
+
+end_blank : (c : ℕ) (cs : List ℕ) → is_blank c ≡ true → Stops (46 ∷ c ∷ cs)
+end_blank c cs h = elim (or_cases (nat_eq c 32) (nat_eq c 9) h) [
+  | inl e ↦ subst (λ (k : ℕ). Stops (46 ∷ k ∷ cs)) (sym (eqb-true c 32 e)) end_space
+  | inr e ↦ subst (λ (k : ℕ). Stops (46 ∷ k ∷ cs)) (sym (eqb-true c 9 e)) end_tab
+]
+
+end_stops : (room comment : List ℕ) → AreBlanks room → IsComment comment → Stops (46 ∷ room ++ comment)
+end_stops [] [] h k = end
+end_stops [] (c ∷ cs) h k = subst (λ (d : ℕ). Stops (46 ∷ d ∷ cs)) (sym k) end_comment
+end_stops (c ∷ room) comment h k =
+    end_blank c (room ++ comment) (and_parts (is_blank c) (list_all is_blank room) h).0
+
+-- ---- triples
+
+-- spaces and tabs in several places
+two_blanks : (a b : List ℕ) → AreBlanks (a ++ b) → AreBlanks a × AreBlanks b
+two_blanks a b h = and_parts (list_all is_blank a) (list_all is_blank b) (sym (list_all-append is_blank a b) ∙ h)
+
+both_blanks : (a b : List ℕ) → AreBlanks a → AreBlanks b → AreBlanks (a ++ b)
+both_blanks a b h k = list_all-append is_blank a b ∙ and_from (list_all is_blank a) (list_all is_blank b) h k
+
+-- the texts of a triple, the last with what is behind it
+module _ (s g p h o k rest : List ℕ) where
+  abbrev pub from_object : List ℕ
+  from_object = k ++ 46 ∷ rest
+
+  abbrev pub from_predicate : List ℕ
+  from_predicate = h ++ (o ++ from_object)
+
+  abbrev pub from_subject : List ℕ
+  from_subject = g ++ (p ++ from_predicate)
+
+  whole : (s ++ g ++ p ++ h ++ o ++ k ++ 46 ∷ []) ++ rest ≡ s ++ from_subject
+  whole = simp append_assoc
+
+  behind_subject : g ++ p ++ h ++ o ++ k ++ (46 ∷ []) ++ rest ≡ from_subject
+  behind_subject = simp append_assoc
+
+  behind_predicate : h ++ o ++ k ++ (46 ∷ []) ++ rest ≡ from_predicate
+  behind_predicate = simp append_assoc
+
+  behind_object : k ++ (46 ∷ []) ++ rest ≡ from_object
+  behind_object = append_assoc k (46 ∷ []) rest
+
+record TripleAt (cs : List ℕ) (x : Triple × List ℕ) : Type 0 where
+  pub front : List ℕ
+  pub parts : cs ≡ front ++ x.1
+  pub form : IsTriple front x.1 x.0
+
+triple_some : (cs : List ℕ) (x : Triple × List ℕ) → triple cs ≡ Some x → TripleAt cs x
+unfolding triple
+triple_some cs x e =
+    let a = bind_some (subject cs) _ x e in
+    let b = bind_some (iriref (skip_blanks a.0.1)) _ x a.2 in
+    let c = bind_some (object (skip_blanks b.0.1)) _ x b.2 in
+    let d = bind_some (behind 46 (skip_blanks c.0.1)) _ x c.2 in
+    let s = subject_some cs a.0 a.1 in
+    let p = iriref_some (skip_blanks a.0.1) b.0 b.1 in
+    let o = object_some (skip_blanks b.0.1) c.0 c.1 in
+    let g = blanks_at a.0.1 in
+    let h = blanks_at b.0.1 in
+    let k = blanks_at c.0.1 in
+    let after_object = k.parts ∙ ap (λ (t : List ℕ). k.front ++ t) (behind_ends 46 (skip_blanks c.0.1) d.0 d.1).1 in
+    let after_predicate = h.parts
+    ∙ ap (λ (t : List ℕ). h.front ++ t) (o.parts ∙ ap (λ (t : List ℕ). o.front ++ t) after_object) in
+    let after_subject = g.parts
+    ∙ ap (λ (t : List ℕ). g.front ++ t) (p.parts ∙ ap (λ (t : List ℕ). p.front ++ t) after_predicate) in
+    let t : Triple = record { subject = a.0.0; predicate = b.0.0; object = c.0.0 } in
+    subst (TripleAt cs) (same_Some {A = Triple × List ℕ} (t, d.0) x d.2)
+    (record {
+      front = s.front ++ g.front ++ p.front ++ h.front ++ o.front ++ k.front ++ 46 ∷ [];
+      parts = s.parts ∙ ap (λ (l : List ℕ). s.front ++ l) after_subject
+          ∙ sym (whole s.front g.front p.front h.front o.front k.front d.0);
+      form =
+          record {
+            subject = s.front;
+            predicate = p.front;
+            object = o.front;
+            after_subject = g.front;
+            after_predicate = h.front;
+            after_object = k.front;
+            form = refl;
+            is_subject = subst (λ (l : List ℕ). IsRead IsSubject s.front l a.0.0)
+                (after_subject ∙ sym (behind_subject s.front g.front p.front h.front o.front k.front d.0))
+                (read_whole IsSubject subject subject_longest cs a.0 a.1 s);
+            is_predicate = subst (λ (l : List ℕ). IsRead IsIri p.front l b.0.0)
+                (after_predicate ∙ sym (behind_predicate s.front g.front p.front h.front o.front k.front d.0))
+                (read_whole IsIri iriref iriref_longest (skip_blanks a.0.1) b.0 b.1 p);
+            is_object = subst (λ (l : List ℕ). IsRead IsObject o.front l c.0.0)
+                (after_object ∙ sym (behind_object s.front g.front p.front h.front o.front k.front d.0))
+                (read_whole IsObject object object_longest (skip_blanks b.0.1) c.0 c.1 o);
+            blank = both_blanks (g.front ++ h.front) k.front (both_blanks g.front h.front g.blank h.blank) k.blank;
+          };
+    })
+
+triple_read : (cs s g p h o k rest : List ℕ) (t : Triple) → subject cs ≡ Some (t.subject, from_subject s g p h o k rest)
+    → skip_blanks (from_subject s g p h o k rest) ≡ p ++ from_predicate s g p h o k rest
+    → iriref (p ++ from_predicate s g p h o k rest) ≡ Some (t.predicate, from_predicate s g p h o k rest)
+    → skip_blanks (from_predicate s g p h o k rest) ≡ o ++ from_object s g p h o k rest
+    → object (o ++ from_object s g p h o k rest) ≡ Some (t.object, from_object s g p h o k rest)
+    → skip_blanks (from_object s g p h o k rest) ≡ 46 ∷ rest → triple cs ≡ Some (t, rest)
+unfolding triple
+triple_read cs s g p h o k rest t e1 e2 e3 e4 e5 e6 = rw (e1, e2, e3, e4, e5, e6) refl
+
+triple_of : (text room comment : List ℕ) (t : Triple) → IsTriple text (room ++ comment) t → AreBlanks room
+    → IsComment comment → triple (text ++ (room ++ comment)) ≡ Some (t, room ++ comment)
+triple_of text room comment t i b c =
+    let rest : List ℕ = room ++ comment in
+    let blank = two_blanks (i.after_subject ++ i.after_predicate) i.after_object i.blank in
+    let blank_front = two_blanks i.after_subject i.after_predicate blank.0 in
+    let after_object : List ℕ = i.after_object ++ 46 ∷ rest in
+    let after_predicate : List ℕ = i.after_predicate ++ (i.object ++ after_object) in
+    let after_subject : List ℕ = i.after_subject ++ (i.predicate ++ after_predicate) in
+    let stops_object = stops_behind i.after_object (46 ∷ rest) blank.1 (end_stops room comment b c) in
+    let stops_subject = stops_behind i.after_subject (i.predicate ++ after_predicate) blank_front.0
+    (iri_stops i.predicate t.predicate after_predicate i.is_predicate.form) in
+    let at : text ++ rest ≡ i.subject ++ after_subject =
+    ap (λ (l : List ℕ). l ++ rest) i.form
+    ∙ whole i.subject i.after_subject i.predicate i.after_predicate i.object i.after_object rest in
+    triple_read (text ++ rest) i.subject i.after_subject i.predicate i.after_predicate i.object i.after_object rest t
+    (ap subject at ∙ subject_of i.subject t.subject after_subject i.is_subject.form stops_subject)
+    (past i.after_subject i.predicate after_predicate blank_front.0
+    (iri_begins i.predicate t.predicate i.is_predicate.form))
+    (iriref_of i.predicate t.predicate after_predicate i.is_predicate.form)
+    (past i.after_predicate i.object after_object blank_front.1 (object_begins i.object t.object i.is_object.form))
+    (object_of i.object t.object after_object i.is_object.form stops_object)
+    (skip_front i.after_object (46 ∷ rest) blank.1 ∙ skip_none 46 rest refl)
+
+-- ---- lines
+
+is_comment : (cs : List ℕ) → is_end cs ≡ true → IsComment cs
+is_comment [] h = tt
+is_comment (c ∷ cs) h = eqb-true c 35 h
+
+comment_is : (cs : List ℕ) → IsComment cs → is_end cs ≡ true
+comment_is [] h = refl
+comment_is (c ∷ cs) h = rw h refl
+
+skip_comment : (cs : List ℕ) → IsComment cs → skip_blanks cs ≡ cs
+unfolding skip_blanks
+skip_comment [] h = refl
+skip_comment (c ∷ cs) h = rw h refl
+
+empty_line : (cs : List ℕ) → is_end (skip_blanks cs) ≡ true → IsLine cs None
+empty_line cs h =
+    let b = blanks_at cs in
+    record {
+      indent = b.front;
+      statement = [];
+      room = [];
+      comment = skip_blanks cs;
+      form = b.parts ∙ ap (λ (t : List ℕ). t ++ skip_blanks cs)
+          (sym (append-nil b.front) ∙ sym (append-nil (b.front ++ [])));
+      blank = both_blanks b.front [] b.blank refl;
+      is_statement = refl;
+      is_comment = is_comment (skip_blanks cs) h;
+    }
+
+triple_line : (cs : List ℕ) (x : Triple × List ℕ) → triple (skip_blanks cs) ≡ Some x → is_end (skip_blanks x.1) ≡ true
+    → IsLine cs (Some x.0)
+triple_line cs x e h =
+    let b = blanks_at cs in
+    let t = triple_some (skip_blanks cs) x e in
+    let r = blanks_at x.1 in
+    record {
+      indent = b.front;
+      statement = t.front;
+      room = r.front;
+      comment = skip_blanks x.1;
+      form = b.parts ∙ ap (λ (l : List ℕ). b.front ++ l) (t.parts ∙ ap (λ (l : List ℕ). t.front ++ l) r.parts)
+          ∙ simp append_assoc;
+      blank = both_blanks b.front r.front b.blank r.blank;
+      is_statement = subst (λ (l : List ℕ). IsTriple t.front l x.0) r.parts t.form;
+      is_comment = is_comment (skip_blanks x.1) h;
+    }
+
+alone_by : (cs : List ℕ) (x : Triple × List ℕ) (y : Triple) (t : Option Triple) → triple (skip_blanks cs) ≡ Some x
+    → cond (is_end (skip_blanks x.1)) (Some x.0) None ≡ Some y → ◌≡◌ {A = Option (Option Triple)} (Some (Some y)) (Some t)
+    → IsLine cs t
+alone_by cs x y t e f g =
+    let p = cond_some (is_end (skip_blanks x.1)) x.0 y f in
+    subst (IsLine cs) (ap Some p.1 ∙ same_Some (Some y) t g) (triple_line cs x e p.0)
+
+line_by : (b : Bool) (cs : List ℕ) (t : Option Triple) → is_end (skip_blanks cs) ≡ b
+    → cond b (Some None) (triple_alone (skip_blanks cs) >>= λ t. Some (Some t)) ≡ Some t → IsLine cs t
+unfolding triple_alone
+line_by true cs t h e = subst (IsLine cs) (same_Some {A = Option Triple} None t e) (empty_line cs h)
+line_by false cs t h e =
+    let p = bind_some (triple_alone (skip_blanks cs))
+    (λ (t : Triple). let o : Option (Option Triple) = Some (Some t) in o) t e in
+    let q = bind_some (triple (skip_blanks cs)) _ p.0 p.1 in
+    alone_by cs q.0 p.0 t q.1 q.2 p.2
+
+-- a line that is read is of the form
+pub line_some : (cs : List ℕ) (t : Option Triple) → line cs ≡ Some t → IsLine cs t
+unfolding line
+line_some cs t e = line_by (is_end (skip_blanks cs)) cs t refl e
+
+line_empty : (cs comment : List ℕ) → skip_blanks cs ≡ comment → IsComment comment → line cs ≡ Some None
+unfolding line
+line_empty cs comment e c = rw (e, comment_is comment c) refl
+
+no_statement : (text indent room comment : List ℕ) → text ≡ indent ++ [] ++ room ++ comment
+    → AreBlanks (indent ++ room) → IsComment comment → line text ≡ Some None
+no_statement text indent room comment e b c =
+    let p = two_blanks indent room b in
+    let at : text ≡ indent ++ (room ++ comment) =
+    e ∙ ap (λ (t : List ℕ). t ++ room ++ comment) (append-nil indent) ∙ append_assoc indent room comment in
+    line_empty text comment
+    (ap skip_blanks at ∙ skip_front indent (room ++ comment) p.0 ∙ skip_front room comment p.1 ∙ skip_comment comment c) c
+
+no_end : (text rest : List ℕ) → Begins text → is_end (text ++ rest) ≡ false
+no_end text rest b = ap (λ (t : List ℕ). is_end (t ++ rest)) b.parts ∙ b.no_comment
+
+line_triple : (cs text rest comment : List ℕ) (t : Triple) → skip_blanks cs ≡ text ++ rest → Begins text
+    → triple (text ++ rest) ≡ Some (t, rest) → skip_blanks rest ≡ comment → IsComment comment
+    → line cs ≡ Some (Some t)
+unfolding line triple_alone
+line_triple cs text rest comment t e b f g c = rw (e, no_end text rest b, f, g, comment_is comment c) refl
+
+triple_begins : (text behind : List ℕ) (t : Triple) → IsTriple text behind t → Begins text
+triple_begins text behind t i =
+    begins_more text i.subject
+    (i.after_subject ++ (i.predicate ++ (i.after_predicate ++ (i.object ++ (i.after_object ++ 46 ∷ [])))))
+    (i.form ∙ simp append_assoc)
+    (subject_begins i.subject t.subject i.is_subject.form)
+
+one_statement : (text indent statement room comment : List ℕ) (t : Triple)
+    → text ≡ indent ++ statement ++ room ++ comment → AreBlanks (indent ++ room)
+    → IsTriple statement (room ++ comment) t → IsComment comment → line text ≡ Some (Some t)
+one_statement text indent statement room comment t e b i c =
+    let p = two_blanks indent room b in
+    let begins = triple_begins statement (room ++ comment) t i in
+    line_triple text statement (room ++ comment) comment t
+    (ap skip_blanks (e ∙ simp append_assoc) ∙ past indent statement (room ++ comment) p.0 begins) begins
+    (triple_of statement room comment t i p.1 c) (skip_front room comment p.1 ∙ skip_comment comment c) c
+
+-- a line of the form is read
+pub line_is : (text : List ℕ) (t : Option Triple) → IsLine text t → line text ≡ Some t
+line_is text None i =
+    no_statement text i.indent i.room i.comment
+    (i.form ∙ ap (λ (s : List ℕ). i.indent ++ s ++ i.room ++ i.comment) i.is_statement) i.blank i.is_comment
+line_is text (Some t) i =
+    one_statement text i.indent i.statement i.room i.comment t i.form i.blank i.is_statement i.is_comment
