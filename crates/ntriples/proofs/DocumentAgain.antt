@@ -12,7 +12,9 @@ use Rattle.ntriples.specs.declared.term.Term.{Term}
 use Rattle.ntriples.specs.declared.term.Triple.{Triple}
 use Rattle.ntriples.specs.Reading.{◌>>=◌, skip_blanks, behind}
 use Rattle.ntriples.specs.Parsing.{subject, object, iriref, triple, is_end, triple_alone, line}
-use Rattle.ntriples.specs.Document.{is_line_end, onto_first, lines, line_of, triples_of, IsDocument}
+use Rattle.ntriples.specs.Document.{is_line_end, onto_first, lines}
+use Rattle.ntriples.specs.ParsedLines.{line_of, triples_of, IsParsed}
+use Rattle.ntriples.proofs.Lines.{form_line}
 use Rattle.ntriples.specs.Written.{iri_text, term_text, triple_text, document_text, CanBeRead}
 use Rattle.ntriples.proofs.DocumentLemmas.{feed_line, lines_inside, lines_none, empty_line, line_of_text}
 use Rattle.ntriples.proofs.Encoded.{no_ends, no_ends-append, scalars-append, no_ends_encodes}
@@ -99,7 +101,7 @@ line_gives false bytes value e h =
     absurd (let none : ◌≡◌ {A = Option (Option Triple)} None (Some (Some value)) = sym (no_utf8 bytes e) ∙ h in cc)
 
 can_again : (value : Triple) → CanBeRead value → TripleAgain value
-can_again value r = line_gives (is_utf8 r.line) r.line value refl r.gives
+can_again value r = line_gives (is_utf8 r.line) r.line value refl (form_line r.line (Some value) r.gives)
 
 -- ---- a line is read again
 
@@ -233,11 +235,5 @@ all_again (value ∷ values) h =
     ap triples_of cut ∙ one_again (encodes l.characters) (lines behind) value values (line_of_again value l)
     (all_again values h.1)
 
-pub reads_back : (values : List Triple) → All CanBeRead values → IsDocument (document_text values) values
+pub reads_back : (values : List Triple) → All CanBeRead values → IsParsed (document_text values) values
 reads_back values h = all_again values (recursion_from_All CanBeRead values h)
-
-pub written_back : {V E : Type 0} (items : V → List ℕ) (written : Result V E) (values : List Triple)
-    → IfOk written (λ out. items out ≡ document_text values) → All CanBeRead values
-    → IfOk written (λ out. IsDocument (items out) values)
-written_back items (Ok out) values e h = ap (λ (b : List ℕ). triples_of (lines b)) e ∙ reads_back values h
-written_back items (Err fault) values e h = tt

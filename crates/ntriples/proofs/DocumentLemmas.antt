@@ -15,9 +15,10 @@ use Rattle.ntriples.specs.declared.fault.NtFault.TheVariants.{Line, OutOfMemory}
 use Rattle.ntriples.specs.declared.term.Triple.{Triple}
 use Rattle.ntriples.specs.Reading.{◌>>=◌, skip_blanks}
 use Rattle.ntriples.specs.Parsing.{line}
-use Rattle.ntriples.specs.Document.{is_line_end, onto_first, lines, line_of, given, triples_of, lines_after}
-use Rattle.ntriples.specs.Document.{after_end, begins_with_feed, IsDocument, IsFirstBadLine, IsFault}
+use Rattle.ntriples.specs.Document.{is_line_end, onto_first, lines, given, lines_after, after_end, begins_with_feed}
+use Rattle.ntriples.specs.ParsedLines.{line_of, triples_of, IsParsed, IsFirstUnparsed, IsParseFault}
 use Rattle.ntriples.specs.Written.{CanBeRead}
+use Rattle.ntriples.proofs.Lines.{line_form}
 
 -- ---- lines
 
@@ -168,7 +169,7 @@ module _ (bytes rest : List ℕ) (triples : List Triple) (ended : ℕ) (u : Unde
   }
 
   pub UnderWay-done : (ts : List Triple) → lines rest ≡ first ∷ []
-      → option_map (λ t. triples ++ given t) (line_of first) ≡ Some ts → IsDocument bytes ts
+      → option_map (λ t. triples ++ given t) (line_of first) ≡ Some ts → IsParsed bytes ts
   UnderWay-done ts cut pushed =
       ap triples_of (u.cut ∙ ap (λ (ls : List (List ℕ)). u.before ++ ls) cut) ∙ with_line ts pushed
 
@@ -177,7 +178,7 @@ module _ (bytes rest : List ℕ) (triples : List Triple) (ended : ℕ) (u : Unde
   no_line (Some t) e = absurd cc
 
   pub UnderWay-bad : (later : List (List ℕ)) → lines rest ≡ first ∷ later
-      → option_map (λ t. triples ++ given t) (line_of first) ≡ None → IsFirstBadLine bytes (ended + 1)
+      → option_map (λ t. triples ++ given t) (line_of first) ≡ None → IsFirstUnparsed bytes (ended + 1)
   UnderWay-bad later cut refused = record {
     before = u.before;
     bad = first;
@@ -200,7 +201,7 @@ module _ (bytes rest : List ℕ) (triples : List Triple) (ended : ℕ) (u : Unde
 
 -- ---- one reading
 
-pub one_document : (bytes : List ℕ) (ts us : List Triple) → IsDocument bytes ts → IsDocument bytes us → ts ≡ us
+pub one_document : (bytes : List ℕ) (ts us : List Triple) → IsParsed bytes ts → IsParsed bytes us → ts ≡ us
 one_document bytes ts us h k = same_Some ts us (sym h ∙ k)
 
 after_none : (o : Option (List Triple)) (ls : List (List ℕ)) → triples_of ls ≡ None → triples_after o ls ≡ None
@@ -208,7 +209,7 @@ unfolding triples_after
 after_none None ls e = refl
 after_none (Some front) ls e = rw e refl
 
-pub never_both : (bytes : List ℕ) (ts : List Triple) (number : ℕ) → IsDocument bytes ts → IsFirstBadLine bytes number
+pub never_both : (bytes : List ℕ) (ts : List Triple) (number : ℕ) → IsParsed bytes ts → IsFirstUnparsed bytes number
     → ⊥
 never_both bytes ts number h k =
     let none : triples_of (lines bytes) ≡ None =
@@ -238,7 +239,7 @@ same_place (l ∷ a) (m ∷ b) x y p q ga gb ex ey e =
     let tails : a ++ x ∷ p ≡ b ++ y ∷ q = cc in
     ap suc (same_place a b x y p q (good_tail l a ga) (good_tail m b gb) ex ey tails)
 
-pub one_bad_line : (bytes : List ℕ) (m n : ℕ) → IsFirstBadLine bytes m → IsFirstBadLine bytes n → m ≡ n
+pub one_bad_line : (bytes : List ℕ) (m n : ℕ) → IsFirstUnparsed bytes m → IsFirstUnparsed bytes n → m ≡ n
 one_bad_line bytes m n h k =
     omega (
       arith,
@@ -270,7 +271,7 @@ with_front_line : (l : List ℕ) (ls : List (List ℕ)) (t : Option Triple) → 
 with_front_line l ls t e h = subst IsSome (sym (triples_cons l ls ∙ ap (λ o. cons o (triples_of ls)) e))
     (cons_some t (triples_of ls) h)
 
-good_front : (l : List ℕ) (ls : List (List ℕ)) (t : Option Triple) (ts : List Triple) → line_of l ≡ Some t
+pub good_front : (l : List ℕ) (ls : List (List ℕ)) (t : Option Triple) (ts : List Triple) → line_of l ≡ Some t
     → triples_of ls ≡ Some ts → triples_of (l ∷ ls) ≡ Some (given t ++ ts)
 unfolding triples_of
 good_front l ls t ts e f = rw (e, f) refl
@@ -295,7 +296,7 @@ find_bad [] = inl ([], none_yet)
 find_bad (l ∷ ls) = find_by (line_of l) l ls refl (find_bad ls)
 
 number_of : (bytes : List ℕ) → ((ts : List Triple) × (triples_of (lines bytes) ≡ Some ts)) ⊎ HasBad (lines bytes)
-    → ((ts : List Triple) × IsDocument bytes ts) ⊎ ((n : ℕ) × IsFirstBadLine bytes n)
+    → ((ts : List Triple) × IsParsed bytes ts) ⊎ ((n : ℕ) × IsFirstUnparsed bytes n)
 number_of bytes (inl d) = inl d
 number_of bytes (inr b) =
     inr (
@@ -312,7 +313,7 @@ number_of bytes (inr b) =
     )
 
 pub document_or_bad_line : (bytes : List ℕ)
-    → ((ts : List Triple) × IsDocument bytes ts) ⊎ ((n : ℕ) × IsFirstBadLine bytes n)
+    → ((ts : List Triple) × IsParsed bytes ts) ⊎ ((n : ℕ) × IsFirstUnparsed bytes n)
 document_or_bad_line bytes = number_of bytes (find_bad (lines bytes))
 
 -- ---- what is read can be read
@@ -326,27 +327,27 @@ readable_by l (Some t) None ts e before h = absurd (none-some ts h)
 readable_by l (Some None) (Some us) ts e before h =
     subst (AllByRecursion CanBeRead) (same_Some us ts h) (before us refl)
 readable_by l (Some (Some t)) (Some us) ts e before h =
-    subst (AllByRecursion CanBeRead) (same_Some (t ∷ us) ts h) (record { line = l; gives = e }, before us refl)
+    subst (AllByRecursion CanBeRead) (same_Some (t ∷ us) ts h) (record { line = l; gives = line_form l (Some t) e }, before us refl)
 
 readable : (ls : List (List ℕ)) (ts : List Triple) → triples_of ls ≡ Some ts → AllByRecursion CanBeRead ts
 readable [] ts e = subst (AllByRecursion CanBeRead) (same_Some [] ts (sym none_yet ∙ e)) tt
 readable (l ∷ ls) ts e = readable_by l (line_of l) (triples_of ls) ts refl (readable ls) (sym (triples_cons l ls) ∙ e)
 
-pub all_readable : (bytes : List ℕ) (r : Result (List Triple) NtFault) → IfOk r (IsDocument bytes)
+pub all_readable : (bytes : List ℕ) (r : Result (List Triple) NtFault) → IfOk r (IsParsed bytes)
     → IfOk r (All CanBeRead)
 all_readable bytes (Ok ts) h = All-from_recursion CanBeRead ts (readable (lines bytes) ts h)
 all_readable bytes (Err e) h = tt
 
 -- ---- what a call of read answers
 
-pub only_document : (bytes : List ℕ) (r : Result (List Triple) NtFault) → IfOk r (IsDocument bytes)
-    → IfErr r (IsFault bytes) → (ts : List Triple) → IsDocument bytes ts → (r ≡ Ok ts) ⊎ (r ≡ Err OutOfMemory)
+pub only_document : (bytes : List ℕ) (r : Result (List Triple) NtFault) → IfOk r (IsParsed bytes)
+    → IfErr r (IsParseFault bytes) → (ts : List Triple) → IsParsed bytes ts → (r ≡ Ok ts) ⊎ (r ≡ Err OutOfMemory)
 only_document bytes (Ok us) h k ts d = inl (ap Ok (one_document bytes us ts h d))
 only_document bytes (Err (Line n)) h k ts d = absurd (never_both bytes ts n d k)
 only_document bytes (Err OutOfMemory) h k ts d = inr refl
 
-pub only_bad_line : (bytes : List ℕ) (r : Result (List Triple) NtFault) → IfOk r (IsDocument bytes)
-    → IfErr r (IsFault bytes) → (n : ℕ) → IsFirstBadLine bytes n → (r ≡ Err (Line n)) ⊎ (r ≡ Err OutOfMemory)
+pub only_bad_line : (bytes : List ℕ) (r : Result (List Triple) NtFault) → IfOk r (IsParsed bytes)
+    → IfErr r (IsParseFault bytes) → (n : ℕ) → IsFirstUnparsed bytes n → (r ≡ Err (Line n)) ⊎ (r ≡ Err OutOfMemory)
 only_bad_line bytes (Ok us) h k n d = absurd (never_both bytes us n h d)
 only_bad_line bytes (Err (Line m)) h k n d = inl (ap (λ (x : ℕ). Err (Line x)) (one_bad_line bytes m n k d))
 only_bad_line bytes (Err OutOfMemory) h k n d = inr refl

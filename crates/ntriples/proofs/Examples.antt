@@ -1,5 +1,5 @@
--- Worked documents, as the definitions compute them.
-use Rattle.std.proofs.Common.{◌≡◌, ℕ, List, [], ◌∷◌, ◌++◌, Some, None, refl, codes}
+-- Worked documents and lines. Reading them from the left computes, and so they are of the form, or of none.
+use Rattle.std.proofs.Common.{◌≡◌, ℕ, List, [], ◌∷◌, ◌++◌, Option, Some, None, refl, codes}
 use Rattle.std.specs.Char.{encode_utf8}
 use Rattle.std.specs.Str.{is_utf8, chars}
 use Rattle.ntriples.specs.declared.term.Term.{Term}
@@ -13,9 +13,12 @@ use Rattle.ntriples.specs.Parsing.{quoted_from, iriref, run, label_rest, blank_n
 use Rattle.ntriples.specs.Parsing.{langtag, literal_suffix, literal, subject, object}
 use Rattle.ntriples.specs.Grammar.{xsd_string, rdf_lang_string}
 use Rattle.ntriples.specs.Parsing.{triple, triple_alone, line}
-use Rattle.ntriples.specs.Document.{lines, line_of, triples_of, IsDocument, IsFirstBadLine}
+use Rattle.ntriples.specs.Document.{lines, IsLineOf, IsDocument, IsFirstBadLine}
+use Rattle.ntriples.specs.ParsedLines.{line_of, triples_of}
 use Rattle.ntriples.specs.Written.{iri_byte, literal_byte, iri_text, quoted_text, suffix_text, term_text, triple_text}
 use Rattle.ntriples.specs.Written.{document_text}
+use Rattle.ntriples.proofs.Lines.{line_form, line_no_form}
+use Rattle.ntriples.proofs.DocumentForms.{triples_form}
 
 abbrev about : List ℕ → List ℕ → Term → Triple
 about subject predicate object = record { subject = Iri subject; predicate = predicate; object = object }
@@ -33,7 +36,7 @@ two_lines : IsDocument (codes "<a> <b> \"x\" . # note\r\n<a> <b> \"\\U0001F600\"
 unfolding lines line_of triples_of is_utf8 chars encode_utf8 skip_blanks is_iri_character hex hex4 long_code uchar
     echar literal_escape quoted_character quoted_from iriref literal_suffix literal subject object triple triple_alone
     line
-two_lines = refl
+two_lines = triples_form (lines (codes "<a> <b> \"x\" . # note\r\n<a> <b> \"\\U0001F600\" .")) two_triples refl
 
 two_written : document_text two_triples ≡ codes "<a> <b> \"x\" .\n<a> <b> \"" ++ smile ++ codes "\" .\n"
 unfolding iri_byte literal_byte iri_text quoted_text suffix_text term_text triple_text is_iri_character
@@ -41,30 +44,37 @@ two_written = refl
 
 nothing : IsDocument [] []
 unfolding lines line_of triples_of is_utf8 chars skip_blanks line
-nothing = refl
+nothing = triples_form (lines []) [] refl
 
-surrogate : line_of (codes "<a> <b> \"\\uD800\" .") ≡ None
+-- a line has no form where it is read as none
+abbrev HasNoForm : List ℕ → Type 0
+HasNoForm bytes = (t : Option Triple) → IsLineOf bytes t → ⊥
+
+surrogate : HasNoForm (codes "<a> <b> \"\\uD800\" .")
 unfolding line_of is_utf8 chars encode_utf8 skip_blanks is_iri_character hex hex4 short_code uchar echar
     literal_escape quoted_character quoted_from iriref literal subject object triple triple_alone line
-surrogate = refl
+surrogate = line_no_form (codes "<a> <b> \"\\uD800\" .") refl
 
 -- a dot inside a label belongs to it, and one behind it doesn't
-label_with_dot : line_of (codes "_:a <p> _:b.c .")
-    ≡ Some (Some (record { subject = Blank (codes "a"); predicate = codes "p"; object = Blank (codes "b.c") }))
+abbrev dotted_label : Triple
+dotted_label = record { subject = Blank (codes "a"); predicate = codes "p"; object = Blank (codes "b.c") }
+
+label_with_dot : IsLineOf (codes "_:a <p> _:b.c .") (Some dotted_label)
 unfolding line_of is_utf8 chars encode_utf8 skip_blanks is_iri_character is_pn_chars_base is_pn_chars_u is_pn_chars
     quoted_character quoted_from iriref label_rest blank_node_label subject object triple triple_alone line
-label_with_dot = refl
+label_with_dot = line_form (codes "_:a <p> _:b.c .") (Some dotted_label) refl
 
-dot_behind_label : line_of (codes "_:a <p> _:b. .") ≡ None
+dot_behind_label : HasNoForm (codes "_:a <p> _:b. .")
 unfolding line_of is_utf8 chars encode_utf8 skip_blanks is_iri_character is_pn_chars_base is_pn_chars_u is_pn_chars
     quoted_character quoted_from iriref label_rest blank_node_label subject object triple triple_alone line
-dot_behind_label = refl
+dot_behind_label = line_no_form (codes "_:a <p> _:b. .") refl
 
-language : line_of (codes "<a> <p> \"x\"@en-GB.")
-    ≡ Some (Some (about (codes "a") (codes "p") (Literal (codes "x") rdf_lang_string (Some (codes "en-GB")))))
+language : IsLineOf (codes "<a> <p> \"x\"@en-GB.")
+    (Some (about (codes "a") (codes "p") (Literal (codes "x") rdf_lang_string (Some (codes "en-GB")))))
 unfolding line_of is_utf8 chars encode_utf8 skip_blanks is_iri_character quoted_character quoted_from iriref run
     tag_part subtags_from langtag literal_suffix literal subject object triple triple_alone line
-language = refl
+language = line_form (codes "<a> <p> \"x\"@en-GB.")
+    (Some (about (codes "a") (codes "p") (Literal (codes "x") rdf_lang_string (Some (codes "en-GB"))))) refl
 
 -- CR LF is one line end, LF CR are two, and so are CR CR
 line_ends : lines (codes "a\r\nb\n\rc\r\rd\n") ≡ codes "a" ∷ codes "b" ∷ [] ∷ codes "c" ∷ [] ∷ codes "d" ∷ [] ∷ []
@@ -81,7 +91,7 @@ raw_line_end =
       bad = codes "<a> <b> \"x";
       behind = codes "\" ." ∷ [];
       cut = refl;
-      good = refl;
-      malformed = refl;
+      good = ([], refl);
+      malformed = line_no_form (codes "<a> <b> \"x") refl;
       counted = refl;
     }

@@ -1,4 +1,5 @@
 mod Examples
+mod Productions
 pub mod DocumentLemmas
 pub mod Behind
 pub mod QuotedLemmas
@@ -16,3 +17,4 @@ pub mod Tags
 pub mod Objects
 pub mod Lines
 pub mod DocumentAgain
+pub mod DocumentForms

@@ -7,12 +7,15 @@ use Rattle.std.proofs.lemmas.List.Folds.{list_all-append}
 use Rattle.std.proofs.lemmas.Option.{none-some, same_Some, cond_some}
 use Rattle.std.specs.Prelude.{◌⊎◌}
 use Rattle.std.specs.List.{list_all}
+use Rattle.std.specs.Str.{is_utf8, chars}
 use Rattle.ntriples.specs.declared.term.Term.{Term}
 use Rattle.ntriples.specs.declared.term.Term.TheVariants.{Iri, Blank, Literal}
 use Rattle.ntriples.specs.declared.term.Triple.{Triple}
 use Rattle.ntriples.specs.Reading.{◌>>=◌, behind, skip_blanks}
 use Rattle.ntriples.specs.Parsing.{iriref, subject, object, triple, is_end, triple_alone, line}
 use Rattle.ntriples.specs.Grammar.{is_blank, IsIri, IsString, IsLabel, IsTagged, IsTyped, IsLiteral, IsSubject, IsObject}
+use Rattle.ntriples.specs.Document.{IsLineOf}
+use Rattle.ntriples.specs.ParsedLines.{line_of}
 use Rattle.ntriples.specs.Grammar.{IsRead, AreBlanks, IsTriple, IsStatement, IsComment, IsLine}
 use Rattle.ntriples.proofs.NameLemmas.{behind_ends}
 use Rattle.ntriples.proofs.Pieces.{Takes, bind_some}
@@ -373,3 +376,29 @@ line_is text None i =
     (i.form ∙ ap (λ (s : List ℕ). i.indent ++ s ++ i.room ++ i.comment) i.is_statement) i.blank i.is_comment
 line_is text (Some t) i =
     one_statement text i.indent i.statement i.room i.comment t i.form i.blank i.is_statement i.is_comment
+
+-- ---- lines of bytes
+
+form_by : (b : Bool) (bytes : List ℕ) (t : Option Triple) → is_utf8 bytes ≡ b
+    → cond b (line (chars bytes)) None ≡ Some t → IsLineOf bytes t
+form_by true bytes t u e = record { utf8 = u; form = line_some (chars bytes) t e }
+form_by false bytes t u e = absurd (none-some t e)
+
+pub line_form : (bytes : List ℕ) (t : Option Triple) → line_of bytes ≡ Some t → IsLineOf bytes t
+unfolding line_of
+line_form bytes t e = form_by (is_utf8 bytes) bytes t refl e
+
+pub form_line : (bytes : List ℕ) (t : Option Triple) → IsLineOf bytes t → line_of bytes ≡ Some t
+unfolding line_of
+form_line bytes t h = rw (h.utf8, line_is (chars bytes) t h.form) refl
+
+pub line_no_form : (bytes : List ℕ) → line_of bytes ≡ None → (t : Option Triple) → IsLineOf bytes t → ⊥
+line_no_form bytes e t h = none-some t (sym e ∙ form_line bytes t h)
+
+no_form_by : (o : Option (Option Triple)) (bytes : List ℕ) → line_of bytes ≡ o
+    → ((t : Option Triple) → IsLineOf bytes t → ⊥) → o ≡ None
+no_form_by None bytes e h = refl
+no_form_by (Some t) bytes e h = absurd (h t (line_form bytes t e))
+
+pub no_form_line : (bytes : List ℕ) → ((t : Option Triple) → IsLineOf bytes t → ⊥) → line_of bytes ≡ None
+no_form_line bytes h = no_form_by (line_of bytes) bytes refl h

@@ -1,12 +1,11 @@
 -- Documents of RDF 1.1 N-Triples, sections 2 and 7: bytes that are cut into lines, each UTF-8 and of the grammar.
-use Rattle.std.specs.Prelude.{◌≡◌, ℕ, ◌+◌, ◌==◌, if◌then◌else◌, Bool, false, ◌||◌, ◌&&◌, List, [], ◌∷◌, ◌++◌, length}
-use Rattle.std.specs.Prelude.{drop, Option, Some, None, IsSome, ⊤}
+use Rattle.std.specs.Prelude.{◌≡◌, ℕ, ◌+◌, ◌==◌, if◌then◌else◌, Bool, true, false, ◌||◌, ◌&&◌, List, [], ◌∷◌, ◌++◌}
+use Rattle.std.specs.Prelude.{length, drop, Option, Some, None, ⊤}
 use Rattle.std.specs.Str.{is_utf8, chars}
 use Rattle.ntriples.specs.declared.fault.NtFault.{NtFault}
 use Rattle.ntriples.specs.declared.fault.NtFault.TheVariants.{Line, OutOfMemory}
 use Rattle.ntriples.specs.declared.term.Triple.{Triple}
-use Rattle.ntriples.specs.Reading.{◌>>=◌}
-use Rattle.ntriples.specs.Parsing.{line}
+use Rattle.ntriples.specs.Grammar.{IsLine}
 
 -- EOL: a carriage return and a line feed, or one of them
 abbrev pub is_line_end : ℕ → Bool
@@ -28,34 +27,33 @@ lines (b ∷ bs) =
     if is_line_end b then [] ∷ (if (b == 13) && begins_with_feed bs then drop 1 (lines bs) else lines bs)
     else onto_first b (lines bs)
 
--- what a line stands for: a triple or none, where it is UTF-8 and of the grammar
-unfoldable pub line_of : List ℕ → Option (Option Triple)
-line_of bytes = if is_utf8 bytes then line (chars bytes) else None
+-- the bytes are a line of this triple, or of none: UTF-8 whose characters are of the form
+pub record IsLineOf (bytes : List ℕ) (t : Option Triple) : Type 0 where
+  pub utf8 : is_utf8 bytes ≡ true
+  pub form : IsLine (chars bytes) t
 
 abbrev pub given : Option Triple → List Triple
 given None = []
 given (Some t) = t ∷ []
 
--- the triples of the lines in order, where each is a line
-unfoldable pub triples_of : List (List ℕ) → Option (List Triple)
-triples_of [] = Some []
-triples_of (l ∷ ls) = do
-  t ← line_of l
-  ts ← triples_of ls
-  Some (given t ++ ts)
+-- each of the lines is of the form, and these are their triples in order
+abbrev pub HaveTriples : List (List ℕ) → List Triple → Type 0
+HaveTriples [] ts = ts ≡ []
+HaveTriples (l ∷ ls) ts =
+    (t : Option Triple) × (later : List Triple) × IsLineOf l t × HaveTriples ls later × (ts ≡ given t ++ later)
 
 -- the bytes are a document of these triples
 abbrev pub IsDocument : List ℕ → List Triple → Type 0
-IsDocument bytes ts = triples_of (lines bytes) ≡ Some ts
+IsDocument bytes ts = HaveTriples (lines bytes) ts
 
--- the lines before the line of this number, counted from 1, are lines of the grammar, and that one isn't
+-- the lines before the line of this number, counted from 1, are of the form, and that one is of none
 pub record IsFirstBadLine (bytes : List ℕ) (number : ℕ) : Type 0 where
   pub before : List (List ℕ)
   pub bad : List ℕ
   pub behind : List (List ℕ)
   pub cut : lines bytes ≡ before ++ bad ∷ behind
-  pub good : IsSome (triples_of before)
-  pub malformed : line_of bad ≡ None
+  pub good : (ts : List Triple) × HaveTriples before ts
+  pub malformed : (t : Option Triple) → IsLineOf bad t → ⊥
   pub counted : number ≡ length before + 1
 
 -- why bytes are not read

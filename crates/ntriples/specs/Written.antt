@@ -1,5 +1,5 @@
 -- The text of triples in RDF 1.1 N-Triples, one line each, with as few escapes as the grammar allows.
-use Rattle.std.specs.Prelude.{◌≡◌, ℕ, ◌+◌, ◌/◌, ◌%◌, ◌==◌, nat_lt, if◌then◌else◌, List, [], ◌∷◌, ◌++◌, Option, Some}
+use Rattle.std.specs.Prelude.{ℕ, ◌+◌, ◌/◌, ◌%◌, ◌==◌, nat_lt, if◌then◌else◌, List, [], ◌∷◌, ◌++◌, Option, Some}
 use Rattle.std.specs.Prelude.{None, codes}
 use Rattle.std.specs.List.{flat_map}
 use Rattle.std.specs.Str.{bytes_eq}
@@ -8,7 +8,7 @@ use Rattle.ntriples.specs.declared.term.Term.TheVariants.{Iri, Blank, Literal}
 use Rattle.ntriples.specs.declared.term.Triple.{Triple}
 use Rattle.ntriples.specs.Characters.{is_iri_character}
 use Rattle.ntriples.specs.Grammar.{xsd_string}
-use Rattle.ntriples.specs.Document.{line_of}
+use Rattle.ntriples.specs.Document.{IsLineOf}
 
 -- a hexadecimal digit in upper case
 abbrev pub upper_digit : ℕ → ℕ
@@ -55,7 +55,7 @@ triple_text t = term_text t.subject ++ codes " " ++ iri_text t.predicate ++ code
 abbrev pub document_text : List Triple → List ℕ
 document_text ts = flat_map triple_text ts
 
--- some line of the grammar gives the triple
+-- some line is of the triple
 pub record CanBeRead (t : Triple) : Type 0 where
   pub line : List ℕ
-  pub gives : line_of line ≡ Some (Some t)
+  pub gives : IsLineOf line (Some t)

@@ -3,8 +3,9 @@ ghost use Rattle.std.specs.Prelude.{All, ◌≡◌, ◌⊎◌, ◌≤◌, ◌<�
 ghost use Rattle.std.specs.Prelude.{drop, option_map, Ok, Err, IfOk, IfErr, IfSome};
 ghost use Rattle.ntriples.specs.declared.term.Triple.{Triple as Triples};
 ghost use Rattle.ntriples.specs.Reading.{Gives};
-ghost use Rattle.ntriples.specs.Document.{is_line_end, begins_with_feed, lines, line_of, given, lines_after};
-ghost use Rattle.ntriples.specs.Document.{after_end, IsDocument, IsFirstBadLine, IsFault};
+ghost use Rattle.ntriples.specs.Document.{is_line_end, begins_with_feed, lines, given, lines_after, after_end};
+ghost use Rattle.ntriples.specs.Document.{IsDocument, IsFirstBadLine, IsFault};
+ghost use Rattle.ntriples.specs.ParsedLines.{line_of, IsParsed, IsParseFault};
 ghost use Rattle.ntriples.specs.Written.{CanBeRead};
 
 use crate::fault::{NtFault, Refusal};
@@ -78,8 +79,8 @@ fn push_line(alloc: Global, triples: &mut Seq<Triple>, bytes: &[u8]) -> Result<(
 
 // Reads a document, or tells why it is none.
 fn read_lines(alloc: Global, bytes: &[u8]) -> Result<Seq<Triple>, NtFault>
-    ensures triples { IfOk result (λ ts. IsDocument bytes.now ts) }
-    ensures fault { IfErr result (λ fault. IsFault bytes.now fault) }
+    ensures triples { IfOk result (λ ts. IsParsed bytes.now ts) }
+    ensures fault { IfErr result (λ fault. IsParseFault bytes.now fault) }
 {
     let mut triples = Seq::new(alloc);
     let mut rest = bytes;

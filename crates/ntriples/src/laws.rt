@@ -1,8 +1,21 @@
 //! Laws of documents and their texts: functions with an empty body, whose contracts are the laws.
-ghost use Rattle.std.specs.Prelude.{◌≡◌, ◌⊎◌, ℕ, List, All};
+ghost use Rattle.std.specs.Prelude.{◌≡◌, ◌⊎◌, ◌↔◌, ℕ, List, All, Option};
 ghost use Rattle.ntriples.specs.declared.term.Triple.{Triple};
-ghost use Rattle.ntriples.specs.Document.{IsDocument, IsFirstBadLine};
+ghost use Rattle.ntriples.specs.Document.{IsLineOf, IsDocument, IsFirstBadLine};
+ghost use Rattle.ntriples.specs.ParsedLines.{line_of};
 ghost use Rattle.ntriples.specs.Written.{CanBeRead, document_text};
+
+/// What reading a line from the left computes is its triple, or that it has none, exactly where the line is of the form
+/// that the productions give.
+pub fn a_line_has_a_triple_exactly_where_it_is_of_the_form()
+    ensures { (bytes : List ℕ) (triple : Option Triple) → (line_of bytes ≡ Some triple) ↔ IsLineOf bytes triple }
+{}
+
+/// Reading a line from the left finds it bad exactly where it is of no form.
+pub fn a_line_is_bad_exactly_where_it_is_of_no_form()
+    ensures { (bytes : List ℕ) →
+        (line_of bytes ≡ None) ↔ ((triple : Option Triple) → IsLineOf bytes triple → ⊥) }
+{}
 
 /// What is written of triples that can be read is a document of them.
 pub fn what_is_written_reads_back()

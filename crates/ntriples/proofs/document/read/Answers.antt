@@ -1,12 +1,19 @@
-use Rattle.ntriples.proofs.DocumentLemmas.{all_readable, only_document, only_bad_line}
+use Rattle.ntriples.proofs.DocumentLemmas.{all_readable}
+use Rattle.ntriples.proofs.DocumentForms.{read_document, read_fault, documents_are_read, bad_lines_are_told}
 use Rattle.ntriples.proofs.document.read.Goals as goal
 
+pub returns-clause-triples : goal.returns-clause-triples
+returns-clause-triples c = read_document c.args.bytes.now c.read_lines.result c.read_lines.ensures.triples
+
+pub returns-clause-fault : goal.returns-clause-fault
+returns-clause-fault c = read_fault c.args.bytes.now c.read_lines.result c.read_lines.ensures.fault
+
 pub returns-clause-documents : goal.returns-clause-documents
-returns-clause-documents c = only_document c.args.bytes.now c.read_lines.result c.read_lines.ensures.triples
+returns-clause-documents c = documents_are_read c.args.bytes.now c.read_lines.result c.read_lines.ensures.triples
     c.read_lines.ensures.fault
 
 pub returns-clause-bad : goal.returns-clause-bad
-returns-clause-bad c = only_bad_line c.args.bytes.now c.read_lines.result c.read_lines.ensures.triples
+returns-clause-bad c = bad_lines_are_told c.args.bytes.now c.read_lines.result c.read_lines.ensures.triples
     c.read_lines.ensures.fault
 
 pub returns-clause-readable : goal.returns-clause-readable

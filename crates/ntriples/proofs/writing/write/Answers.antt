@@ -1,5 +1,5 @@
 use Rattle.std.proofs.Common.{vec_items}
-use Rattle.ntriples.proofs.DocumentAgain.{written_back}
+use Rattle.ntriples.proofs.DocumentForms.{written_back}
 use Rattle.ntriples.proofs.writing.write.Goals as goal
 
 pub returns-clause-back : goal.returns-clause-back
