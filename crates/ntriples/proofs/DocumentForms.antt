@@ -1,5 +1,5 @@
 -- What is read of whole documents is what their lines are of.
-use Rattle.std.proofs.Common.{◌≡◌, ℕ, Bool, true, false, List, [], ◌∷◌, ◌++◌, Option, Some, None, Result, Ok, Err, inl, inr}
+use Rattle.std.proofs.Common.{◌≡◌, ℕ, List, [], ◌∷◌, ◌++◌, Option, Some, None, Result, Ok, Err, inl, inr}
 use Rattle.std.proofs.Common.{refl, sym, ap, ◌∙◌, subst}
 use Rattle.std.proofs.lemmas.Bool.{false≢true}
 use Rattle.std.proofs.lemmas.Option.{same_Some}
@@ -7,7 +7,6 @@ use Rattle.std.specs.Prelude.{All, is_some, IsSome, IfOk, IfErr, ◌⊎◌, ◌�
 use Rattle.ntriples.specs.declared.fault.NtFault.{NtFault}
 use Rattle.ntriples.specs.declared.fault.NtFault.TheVariants.{Line, OutOfMemory}
 use Rattle.ntriples.specs.declared.term.Triple.{Triple}
-use Rattle.ntriples.specs.Reading.{◌>>=◌}
 use Rattle.ntriples.specs.Document.{lines, given, IsLineOf, HaveTriples, IsDocument, IsFirstBadLine, IsFault}
 use Rattle.ntriples.specs.ParsedLines.{line_of, triples_of, IsParsed, IsFirstUnparsed, IsParseFault}
 use Rattle.ntriples.specs.Written.{CanBeRead, document_text}

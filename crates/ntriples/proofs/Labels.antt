@@ -1,22 +1,18 @@
 -- Labels and language tags: what is read is of the form, and what is of the form is read, up to what may follow a term.
-use Rattle.std.proofs.Common.{◌≡◌, ℕ, zero, suc, ◌<◌, ◌≤◌, Bool, true, false, cond, ◌||◌, ◌&&◌, nat_eq, List, [], ◌∷◌}
-use Rattle.std.proofs.Common.{◌++◌, length, Option, Some, None, inl, inr, refl, sym, ap, ◌∙◌, subst, arith, append_assoc}
-use Rattle.std.proofs.lemmas.Bool.{and_parts, and_from, or_cases, or_left, or_right, eqb-true, both_ways}
+use Rattle.std.proofs.Common.{◌≡◌, ℕ, ◌<◌, ◌≤◌, Bool, true, false, cond, ◌||◌, nat_eq, List, [], ◌∷◌}
+use Rattle.std.proofs.Common.{◌++◌, length, Some, inl, inr, refl, sym, ap, ◌∙◌, subst, arith}
+use Rattle.std.proofs.lemmas.Bool.{and_parts, and_from, or_cases, or_left, eqb-true, both_ways}
 use Rattle.std.proofs.lemmas.List.{append-nil, length-append}
-use Rattle.std.proofs.lemmas.Option.{none-some, same_Some, cond_some}
-use Rattle.std.proofs.lemmas.Str.{length-le-encodes, encodes-append}
-use Rattle.std.specs.Prelude.{◌⊎◌}
+use Rattle.std.proofs.lemmas.Option.{same_Some, cond_some}
+use Rattle.std.proofs.lemmas.Str.{length-le-encodes}
 use Rattle.std.specs.List.{list_all}
 use lib.Utf8.{encode, encodes}
-use Rattle.ntriples.specs.declared.names.Class.{Class}
-use Rattle.ntriples.specs.declared.names.Class.TheVariants.{Letters, Alphanumerics}
-use Rattle.ntriples.specs.Characters.{is_letter, is_digit, is_pn_chars_base, is_pn_chars_u, is_pn_chars}
-use Rattle.ntriples.specs.Reading.{◌>>=◌, onto, with_front, character, behind}
-use Rattle.ntriples.specs.Parsing.{is_in, begins_in, run, dotted, label_rest, blank_node_label, some_of, tag_part}
-use Rattle.ntriples.specs.Parsing.{subtags_from, langtag}
-use Rattle.ntriples.specs.Grammar.{is_inside_label, is_alphanumeric, are_some, IsLabelRest, IsLabel, hyphened, IsLanguage}
-use Rattle.ntriples.proofs.NameLemmas.{run_cons, run_none, dot_label, dotted_onto, behind_ends, subtags_cons, subtags_end}
-use Rattle.ntriples.proofs.NameLemmas.{subtags_none, tag_part_some, hyphen, onto_onto, onto_nil}
+use Rattle.ntriples.specs.Characters.{is_digit, is_pn_chars_base, is_pn_chars_u, is_pn_chars}
+use Rattle.ntriples.specs.Reading.{onto, character, behind}
+use Rattle.ntriples.specs.Parsing.{dotted, label_rest, blank_node_label}
+use Rattle.ntriples.specs.Grammar.{is_inside_label, IsLabelRest, IsLabel}
+use Rattle.ntriples.proofs.NameLemmas.{dot_label, dotted_onto, behind_ends}
+use Rattle.ntriples.proofs.NameLemmas.{onto_onto, onto_nil}
 use Rattle.ntriples.proofs.Pieces.{Takes, bind_some, character_some}
 
 -- what may follow a term on a line: a space, a tab, `<`, or a `.` behind which stands a space, a tab, `#` or nothing
@@ -48,8 +44,13 @@ record LabelAt (cs : List ℕ) (x : List ℕ × List ℕ) : Type 0 where
 longer : (c : ℕ) (front : List ℕ) → is_pn_chars c ≡ true → IsLabelRest front → IsLabelRest (c ∷ front)
 longer c front h i = elim i [
   | inl e ↦ inr ([], c, ap (λ (t : List ℕ). c ∷ t) e, refl, h)
-  | inr p ↦ inr (c ∷ p.0, p.1, ap (λ (t : List ℕ). c ∷ t) p.2,
-      and_from (is_inside_label c) (list_all is_inside_label p.0) (or_left (is_pn_chars c) (nat_eq c 46) h) p.3, p.4)
+  | inr p ↦ inr (
+    c ∷ p.0,
+    p.1,
+    ap (λ (t : List ℕ). c ∷ t) p.2,
+    and_from (is_inside_label c) (list_all is_inside_label p.0) (or_left (is_pn_chars c) (nat_eq c 46) h) p.3,
+    p.4,
+  )
 ]
 
 is_dot_inside : is_inside_label 46 ≡ true
@@ -60,8 +61,13 @@ dotted_form : (front : List ℕ) (b : ℕ) (bs : List ℕ) → b ∷ bs ≡ enco
     → IsLabelRest (46 ∷ front)
 dotted_form front b bs e i = elim i [
   | inl none ↦ absurd (let no : b ∷ bs ≡ [] = e ∙ ap encodes none in cc)
-  | inr p ↦ inr (46 ∷ p.0, p.1, ap (λ (t : List ℕ). 46 ∷ t) p.2,
-      and_from (is_inside_label 46) (list_all is_inside_label p.0) is_dot_inside p.3, p.4)
+  | inr p ↦ inr (
+    46 ∷ p.0,
+    p.1,
+    ap (λ (t : List ℕ). 46 ∷ t) p.2,
+    and_from (is_inside_label 46) (list_all is_inside_label p.0) is_dot_inside p.3,
+    p.4,
+  )
 ]
 
 dotted_at : (cs : List ℕ) (x : List ℕ × List ℕ) → LabelAt cs x → LabelAt (46 ∷ cs) (dotted cs x)

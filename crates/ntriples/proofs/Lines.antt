@@ -1,11 +1,10 @@
 -- Triples and whole lines: what is read is of the form, and what is of the form is read.
-use Rattle.std.proofs.Common.{◌≡◌, ℕ, Bool, true, false, cond, ◌||◌, ◌&&◌, nat_eq, List, [], ◌∷◌, ◌++◌, Option, Some, None}
+use Rattle.std.proofs.Common.{◌≡◌, ℕ, Bool, true, false, cond, nat_eq, List, [], ◌∷◌, ◌++◌, Option, Some, None}
 use Rattle.std.proofs.Common.{inl, inr, refl, sym, ap, ◌∙◌, subst, append_assoc}
 use Rattle.std.proofs.lemmas.Bool.{and_parts, and_from, or_cases, eqb-true}
 use Rattle.std.proofs.lemmas.List.{append-nil}
 use Rattle.std.proofs.lemmas.List.Folds.{list_all-append}
 use Rattle.std.proofs.lemmas.Option.{none-some, same_Some, cond_some}
-use Rattle.std.specs.Prelude.{◌⊎◌}
 use Rattle.std.specs.List.{list_all}
 use Rattle.std.specs.Str.{is_utf8, chars}
 use Rattle.ntriples.specs.declared.term.Term.{Term}
@@ -13,12 +12,12 @@ use Rattle.ntriples.specs.declared.term.Term.TheVariants.{Iri, Blank, Literal}
 use Rattle.ntriples.specs.declared.term.Triple.{Triple}
 use Rattle.ntriples.specs.Reading.{◌>>=◌, behind, skip_blanks}
 use Rattle.ntriples.specs.Parsing.{iriref, subject, object, triple, is_end, triple_alone, line}
-use Rattle.ntriples.specs.Grammar.{is_blank, IsIri, IsString, IsLabel, IsTagged, IsTyped, IsLiteral, IsSubject, IsObject}
+use Rattle.ntriples.specs.Grammar.{is_blank, IsIri, IsString, IsLabel, IsLiteral, IsSubject, IsObject}
 use Rattle.ntriples.specs.Document.{IsLineOf}
 use Rattle.ntriples.specs.ParsedLines.{line_of}
-use Rattle.ntriples.specs.Grammar.{IsRead, AreBlanks, IsTriple, IsStatement, IsComment, IsLine}
+use Rattle.ntriples.specs.Grammar.{IsRead, AreBlanks, IsTriple, IsComment, IsLine}
 use Rattle.ntriples.proofs.NameLemmas.{behind_ends}
-use Rattle.ntriples.proofs.Pieces.{Takes, bind_some}
+use Rattle.ntriples.proofs.Pieces.{bind_some}
 use Rattle.ntriples.proofs.Quotes.{iriref_some, iriref_of}
 use Rattle.ntriples.proofs.Labels.{Stops}
 use Rattle.ntriples.proofs.Labels.Stops.{space, tab, bracket, end, end_space, end_tab, end_comment}

@@ -1,6 +1,6 @@
 -- Literals, subjects and objects: what is read is of the form and as long as it can be, and what is of the form is
 -- read, up to what may follow a term.
-use Rattle.std.proofs.Common.{◌≡◌, ℕ, zero, suc, ◌+◌, ◌≤◌, Bool, true, false, cond, nat_eq, List, [], ◌∷◌, ◌++◌, length}
+use Rattle.std.proofs.Common.{◌≡◌, ℕ, ◌≤◌, Bool, true, false, cond, nat_eq, List, [], ◌∷◌, ◌++◌, length}
 use Rattle.std.proofs.Common.{Option, Some, None, inl, inr, refl, sym, ap, ◌∙◌, subst, arith, append_assoc}
 use Rattle.std.proofs.lemmas.Bool.{eqb-true}
 use Rattle.std.proofs.lemmas.List.{append-nil, length-append}
@@ -18,7 +18,7 @@ use Rattle.ntriples.proofs.Pieces.{Takes, bind_some}
 use Rattle.ntriples.proofs.Quotes.{quoted_some, enclosed, iriref_some, quoted_of, iriref_of}
 use Rattle.ntriples.proofs.Labels.{Stops, label_some, label_of, label_longest}
 use Rattle.ntriples.proofs.Labels.Stops.{space, tab, bracket, end, end_space, end_tab, end_comment}
-use Rattle.ntriples.proofs.Tags.{BehindSign, langtag_some, langtag_of, langtag_longest}
+use Rattle.ntriples.proofs.Tags.{langtag_some, langtag_of, langtag_longest}
 
 -- ---- literals are of the form
 

@@ -1,7 +1,7 @@
 -- Escapes, and the pieces of IRIs and strings: what is read is of the form, and what is of the form is read.
-use Rattle.std.proofs.Common.{◌≡◌, ℕ, zero, suc, ◌+◌, ◌*◌, ◌^◌, ◌<◌, ◌≤◌, Bool, true, false, cond, not, ◌&&◌, nat_lt}
+use Rattle.std.proofs.Common.{◌≡◌, ℕ, ◌+◌, ◌*◌, ◌^◌, Bool, true, false, cond, not}
 use Rattle.std.proofs.Common.{nat_eq, List, [], ◌∷◌, ◌++◌, length, Option, Some, None, inl, inr, refl, sym, ap, ◌∙◌}
-use Rattle.std.proofs.Common.{subst, arith, append_assoc}
+use Rattle.std.proofs.Common.{subst, arith}
 use Rattle.std.proofs.lemmas.Bool.{and_parts, and_from, eqb-true, ne_eqb, both_ways}
 use Rattle.std.proofs.lemmas.Option.{none-some, same_Some, cond_some}
 use Rattle.std.specs.Prelude.{◌⊎◌}
@@ -127,8 +127,12 @@ hex4_of : (a b c d : ℕ) (more rest : List ℕ) → AllFour a b c d more
     → hex4 (a ∷ b ∷ c ∷ d ∷ rest) ≡ Some (hex_number (a ∷ b ∷ c ∷ d ∷ []), rest)
 unfolding hex4
 hex4_of a b c d more rest h =
-    rw (hex_of a (b ∷ c ∷ d ∷ rest) h.one, hex_of b (c ∷ d ∷ rest) h.two, hex_of c (d ∷ rest) h.three,
-    hex_of d rest h.last)
+    rw (
+      hex_of a (b ∷ c ∷ d ∷ rest) h.one,
+      hex_of b (c ∷ d ∷ rest) h.two,
+      hex_of c (d ∷ rest) h.three,
+      hex_of d rest h.last,
+    )
     (ap (λ (n : ℕ). Some (n, rest)) (four (digit_value a) (digit_value b) (digit_value c) (digit_value d)))
 
 record Four (ds : List ℕ) (n : ℕ) : Type 0 where

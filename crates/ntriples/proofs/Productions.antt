@@ -50,13 +50,19 @@ an_iri =
         codes "\\u003E",
         refl,
         inl (refl, refl),
-        (codes "\\u003E", [], refl, inr (record {
-          digits = codes "003E";
-          form = inl (refl, refl);
-          hexadecimal = refl;
-          named = refl;
-          scalar = refl;
-        }), refl),
+        (
+          codes "\\u003E",
+          [],
+          refl,
+          inr (record {
+            digits = codes "003E";
+            form = inl (refl, refl);
+            hexadecimal = refl;
+            named = refl;
+            scalar = refl;
+          }),
+          refl,
+        ),
       );
       named = refl;
     }

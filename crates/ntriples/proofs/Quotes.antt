@@ -1,13 +1,13 @@
 -- What is quoted, and IRIs: what is read is of the form, and what is of the form is read, whatever follows.
-use Rattle.std.proofs.Common.{◌≡◌, ℕ, zero, suc, ◌<◌, ◌≤◌, List, [], ◌∷◌, ◌++◌, length, Option, Some, None, refl, sym, ap}
+use Rattle.std.proofs.Common.{◌≡◌, ℕ, zero, suc, ◌<◌, List, [], ◌∷◌, ◌++◌, length, Option, Some, None, refl, sym, ap}
 use Rattle.std.proofs.Common.{◌∙◌, subst, arith, append_assoc}
 use Rattle.std.proofs.lemmas.Option.{none-some, same_Some}
 use lib.Utf8.{encode, encodes}
 use Rattle.ntriples.specs.declared.quoted.QuoteKind.{QuoteKind}
-use Rattle.ntriples.specs.declared.quoted.QuoteKind.TheVariants.{Iri, Literal}
+use Rattle.ntriples.specs.declared.quoted.QuoteKind.TheVariants.{Iri}
 use Rattle.ntriples.specs.Reading.{onto, with_front, behind}
 use Rattle.ntriples.specs.Parsing.{closing, quoted_character, quoted, iriref}
-use Rattle.ntriples.specs.Grammar.{ArePieces, IsQuoted, IsIri, IsString}
+use Rattle.ntriples.specs.Grammar.{ArePieces, IsQuoted, IsIri}
 use Rattle.ntriples.proofs.QuotedLemmas.{quoted_at, quoted_none, goes_on, quoted_character_shorter}
 use Rattle.ntriples.proofs.NameLemmas.{behind_ends}
 use Rattle.ntriples.proofs.Pieces.{Takes, bind_some, IsPiece, IsNext, next_some, piece_of, closed}

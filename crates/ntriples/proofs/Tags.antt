@@ -1,15 +1,15 @@
 -- Language tags: what is read is of the form, and what is of the form is read, up to what may follow a term.
-use Rattle.std.proofs.Common.{◌≡◌, ℕ, zero, suc, ◌+◌, ◌<◌, ◌≤◌, Bool, true, false, cond, ◌&&◌, List, [], ◌∷◌, ◌++◌, length}
+use Rattle.std.proofs.Common.{◌≡◌, ℕ, zero, suc, ◌<◌, ◌≤◌, Bool, true, false, cond, List, [], ◌∷◌, ◌++◌, length}
 use Rattle.std.proofs.Common.{Option, Some, None, refl, sym, ap, ◌∙◌, subst, arith, append_assoc}
 use Rattle.std.proofs.lemmas.Bool.{and_parts, and_from}
-use Rattle.std.proofs.lemmas.List.{append-nil, length-append}
+use Rattle.std.proofs.lemmas.List.{length-append}
 use Rattle.std.proofs.lemmas.Option.{none-some, same_Some}
 use Rattle.std.proofs.lemmas.Str.{encodes-append}
 use Rattle.std.specs.List.{list_all}
 use lib.Utf8.{encode, encodes}
 use Rattle.ntriples.specs.declared.names.Class.{Class}
 use Rattle.ntriples.specs.declared.names.Class.TheVariants.{Letters, Alphanumerics}
-use Rattle.ntriples.specs.Reading.{◌>>=◌, onto, with_front, behind}
+use Rattle.ntriples.specs.Reading.{onto, with_front, behind}
 use Rattle.ntriples.specs.Parsing.{is_in, begins_in, run, some_of, tag_part, subtags_from, langtag}
 use Rattle.ntriples.specs.Grammar.{is_alphanumeric, are_some, hyphened, IsLanguage}
 use Rattle.ntriples.proofs.NameLemmas.{run_cons, run_none, behind_ends, subtags_cons, subtags_end, subtags_none}
@@ -223,8 +223,10 @@ module _ (text tag rest : List ℕ) (l : IsLanguage text tag) where
   langtag_of s =
       let more : List ℕ = hyphened l.subtags ++ rest in
       ap langtag (append_assoc l.primary (hyphened l.subtags) rest)
-      ∙ rw (part_of Letters l.primary more l.letters (after_letters l.subtags rest s),
-      subtags_of l.subtags rest l.alphanumerics s)
+      ∙ rw (
+        part_of Letters l.primary more l.letters (after_letters l.subtags rest s),
+        subtags_of l.subtags rest l.alphanumerics s,
+      )
       (ap (λ (t : List ℕ). Some (t, rest)) (sym (encodes-append l.primary (hyphened l.subtags)) ∙ sym l.named))
 
 -- ---- a longer text is read no less far

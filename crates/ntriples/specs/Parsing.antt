@@ -1,7 +1,7 @@
 -- How the productions are read from the left: each function gives the value of the longest text of its production in
 -- front, texts as UTF-8, and the characters behind it.
 use Rattle.std.specs.Prelude.{ℕ, zero, suc, ◌+◌, ◌*◌, ◌-◌, ◌==◌, nat_lt, if◌then◌else◌, Bool, true, false, ◌&&◌, ◌||◌}
-use Rattle.std.specs.Prelude.{not, List, [], ◌∷◌, length, Option, Some, None, codes}
+use Rattle.std.specs.Prelude.{not, List, [], ◌∷◌, length, Option, Some, None}
 use Rattle.std.specs.Char.{digit_value, encode_utf8}
 use Rattle.ntriples.specs.declared.quoted.QuoteKind.{QuoteKind}
 use Rattle.ntriples.specs.declared.quoted.QuoteKind.TheVariants.{Iri, Literal}
