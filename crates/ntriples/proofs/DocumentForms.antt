@@ -23,8 +23,8 @@ unfolding triples_of
 triples_form [] ts e = sym (same_Some [] ts e)
 triples_form (l ∷ ls) ts e =
     let p = bind_some (line_of l) _ ts e in
-    let q = bind_some (triples_of ls) (λ (later : List Triple). let o : Option (List Triple) = Some (given p.0 ++ later)
-    in o) ts p.2 in
+    let q = bind_some (triples_of ls)
+    (λ (later : List Triple). let o : Option (List Triple) = Some (given p.0 ++ later) in o) ts p.2 in
     (p.0, q.0, line_form l p.0 p.1, triples_form ls q.0 q.1, sym (same_Some (given p.0 ++ q.0) ts q.2))
 
 form_triples : (ls : List (List ℕ)) (ts : List Triple) → HaveTriples ls ts → triples_of ls ≡ Some ts
@@ -71,7 +71,8 @@ pub bad_where_of_no_form : (bytes : List ℕ)
 bad_where_of_no_form bytes = (line_no_form bytes, no_form_line bytes)
 
 pub one_reading : (bytes : List ℕ) (ts us : List Triple) → IsDocument bytes ts → IsDocument bytes us → ts ≡ us
-one_reading bytes ts us h k = one_document bytes ts us (form_triples (lines bytes) ts h) (form_triples (lines bytes) us k)
+one_reading bytes ts us h k =
+    one_document bytes ts us (form_triples (lines bytes) ts h) (form_triples (lines bytes) us k)
 
 pub no_bad_line : (bytes : List ℕ) (ts : List Triple) (number : ℕ) → IsDocument bytes ts → IsFirstBadLine bytes number
     → ⊥

@@ -1,4 +1,4 @@
--- Labels and language tags: what is read is of the form, and what is of the form is read, up to what may follow a term.
+-- Labels: what is read is of the form, and what is of the form is read, up to what may follow a term.
 use Rattle.std.proofs.Common.{◌≡◌, ℕ, ◌<◌, ◌≤◌, Bool, true, false, cond, ◌||◌, nat_eq, List, [], ◌∷◌}
 use Rattle.std.proofs.Common.{◌++◌, length, Some, inl, inr, refl, sym, ap, ◌∙◌, subst, arith}
 use Rattle.std.proofs.lemmas.Bool.{and_parts, and_from, or_cases, or_left, eqb-true, both_ways}
@@ -82,7 +82,8 @@ dotted_at cs (b ∷ bs, rest) h =
 
 label_by : (pn is_dot : Bool) (c : ℕ) (cs : List ℕ) → is_pn_chars c ≡ pn → nat_eq c 46 ≡ is_dot
     → LabelAt cs (label_rest cs)
-    → LabelAt (c ∷ cs) (cond pn (onto (encode c) (label_rest cs)) (cond is_dot (dotted cs (label_rest cs)) ([], c ∷ cs)))
+    → LabelAt (c ∷ cs)
+    (cond pn (onto (encode c) (label_rest cs)) (cond is_dot (dotted cs (label_rest cs)) ([], c ∷ cs)))
 label_by true is_dot c cs e f h =
     record {
       front = c ∷ h.front;
@@ -148,8 +149,8 @@ up_to_last [] last rest h i =
     label_cons last rest i ∙ ap (λ (t : List ℕ). onto t (label_rest rest)) (sym (append-nil (encode last)))
 up_to_last (c ∷ inside) last rest h i =
     let p = and_parts (is_inside_label c) (list_all is_inside_label inside) h in
-    inside_label (is_pn_chars c) c ((inside ++ last ∷ []) ++ rest) (encodes (inside ++ last ∷ [])) (label_rest rest) refl
-    p.0 (ending inside last) (up_to_last inside last rest p.1 i)
+    inside_label (is_pn_chars c) c ((inside ++ last ∷ []) ++ rest) (encodes (inside ++ last ∷ [])) (label_rest rest)
+    refl p.0 (ending inside last) (up_to_last inside last rest p.1 i)
 
 label_rest_of : (front rest : List ℕ) → IsLabelRest front
     → label_rest (front ++ rest) ≡ onto (encodes front) (label_rest rest)
@@ -193,5 +194,7 @@ pub label_longest : (text label rest : List ℕ) (x : List ℕ × List ℕ) → 
     → blank_node_label (text ++ rest) ≡ Some x → length x.1 ≤ length rest
 label_longest text label rest x l e =
     let left = label_at rest in
-    let same = same_Some {A = List ℕ × List ℕ} (onto label (label_rest rest)) x (sym (label_more text label rest l) ∙ e) in
-    omega (arith, length-append left.front (label_rest rest).1, ap length left.parts, ap (λ (y : List ℕ × List ℕ). length y.1) same)
+    let same = same_Some {A = List ℕ × List ℕ} (onto label (label_rest rest)) x
+    (sym (label_more text label rest l) ∙ e) in
+    let ends : length (label_rest rest).1 ≡ length x.1 = ap (λ (y : List ℕ × List ℕ). length y.1) same in
+    omega (arith, length-append left.front (label_rest rest).1, ap length left.parts, ends)

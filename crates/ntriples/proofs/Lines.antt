@@ -74,7 +74,8 @@ skip_to text rest b =
     ∙ ap (λ (t : List ℕ). t ++ rest) (sym b.parts)
 
 -- up to a text behind blanks
-past : (front text rest : List ℕ) → AreBlanks front → Begins text → skip_blanks (front ++ (text ++ rest)) ≡ text ++ rest
+past : (front text rest : List ℕ) → AreBlanks front → Begins text
+    → skip_blanks (front ++ (text ++ rest)) ≡ text ++ rest
 past front text rest h b = skip_front front (text ++ rest) h ∙ skip_to text rest b
 
 iri_begins : (text iri : List ℕ) → IsIri text iri → Begins text
@@ -226,7 +227,8 @@ triple_some cs x e =
           };
     })
 
-triple_read : (cs s g p h o k rest : List ℕ) (t : Triple) → subject cs ≡ Some (t.subject, from_subject s g p h o k rest)
+triple_read : (cs s g p h o k rest : List ℕ) (t : Triple)
+    → subject cs ≡ Some (t.subject, from_subject s g p h o k rest)
     → skip_blanks (from_subject s g p h o k rest) ≡ p ++ from_predicate s g p h o k rest
     → iriref (p ++ from_predicate s g p h o k rest) ≡ Some (t.predicate, from_predicate s g p h o k rest)
     → skip_blanks (from_predicate s g p h o k rest) ≡ o ++ from_object s g p h o k rest
@@ -308,7 +310,8 @@ triple_line cs x e h =
     }
 
 alone_by : (cs : List ℕ) (x : Triple × List ℕ) (y : Triple) (t : Option Triple) → triple (skip_blanks cs) ≡ Some x
-    → cond (is_end (skip_blanks x.1)) (Some x.0) None ≡ Some y → ◌≡◌ {A = Option (Option Triple)} (Some (Some y)) (Some t)
+    → cond (is_end (skip_blanks x.1)) (Some x.0) None ≡ Some y
+    → ◌≡◌ {A = Option (Option Triple)} (Some (Some y)) (Some t)
     → IsLine cs t
 alone_by cs x y t e f g =
     let p = cond_some (is_end (skip_blanks x.1)) x.0 y f in
@@ -340,7 +343,8 @@ no_statement text indent room comment e b c =
     let at : text ≡ indent ++ (room ++ comment) =
     e ∙ ap (λ (t : List ℕ). t ++ room ++ comment) (append-nil indent) ∙ append_assoc indent room comment in
     line_empty text comment
-    (ap skip_blanks at ∙ skip_front indent (room ++ comment) p.0 ∙ skip_front room comment p.1 ∙ skip_comment comment c) c
+    (ap skip_blanks at ∙ skip_front indent (room ++ comment) p.0 ∙ skip_front room comment p.1
+    ∙ skip_comment comment c) c
 
 no_end : (text rest : List ℕ) → Begins text → is_end (text ++ rest) ≡ false
 no_end text rest b = ap (λ (t : List ℕ). is_end (t ++ rest)) b.parts ∙ b.no_comment

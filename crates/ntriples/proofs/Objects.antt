@@ -9,8 +9,8 @@ use Rattle.ntriples.specs.declared.quoted.QuoteKind.TheVariants as kind
 use Rattle.ntriples.specs.declared.term.Term.{Term}
 use Rattle.ntriples.specs.declared.term.Term.TheVariants.{Iri, Blank, Literal}
 use Rattle.ntriples.specs.Reading.{◌>>=◌, behind}
-use Rattle.ntriples.specs.Parsing.{quoted, iriref, blank_node_label, langtag, datatype, literal_suffix, literal, subject}
-use Rattle.ntriples.specs.Parsing.{object}
+use Rattle.ntriples.specs.Parsing.{quoted, iriref, blank_node_label, langtag, datatype, literal_suffix, literal}
+use Rattle.ntriples.specs.Parsing.{subject, object}
 use Rattle.ntriples.specs.Grammar.{IsString, IsIri, IsLabel, xsd_string, rdf_lang_string, IsTagged, IsTyped, IsLiteral}
 use Rattle.ntriples.specs.Grammar.{IsSubject, IsObject, IsRead, hyphened}
 use Rattle.ntriples.proofs.NameLemmas.{behind_ends}

@@ -61,7 +61,8 @@ four a b c d = omega arith
 eight : (a b c d e f g h : ℕ)
     → 65536 * (a * 16 ^ 3 + (b * 16 ^ 2 + (c * 16 ^ 1 + (d * 16 ^ 0 + 0))))
     + (e * 16 ^ 3 + (f * 16 ^ 2 + (g * 16 ^ 1 + (h * 16 ^ 0 + 0))))
-    ≡ a * 16 ^ 7 + (b * 16 ^ 6 + (c * 16 ^ 5 + (d * 16 ^ 4 + (e * 16 ^ 3 + (f * 16 ^ 2 + (g * 16 ^ 1 + (h * 16 ^ 0 + 0)))))))
+    ≡ a * 16 ^ 7
+    + (b * 16 ^ 6 + (c * 16 ^ 5 + (d * 16 ^ 4 + (e * 16 ^ 3 + (f * 16 ^ 2 + (g * 16 ^ 1 + (h * 16 ^ 0 + 0)))))))
 eight a b c d e f g h = omega arith
 
 all_of_four : (a b c d : ℕ) (more : List ℕ) → is_hex a ≡ true → is_hex b ≡ true → is_hex c ≡ true → is_hex d ≡ true
@@ -119,7 +120,8 @@ hex4_some cs x e =
           ∙ ap (λ (n : ℕ). 4096 * n + 256 * q.0.0 + 16 * r.0.0 + s.0.0) a.value
           ∙ ap (λ (n : ℕ). 4096 * digit_value a.digit + 256 * n + 16 * r.0.0 + s.0.0) b.value
           ∙ ap (λ (n : ℕ). 4096 * digit_value a.digit + 256 * digit_value b.digit + 16 * n + s.0.0) c.value
-          ∙ ap (λ (n : ℕ). 4096 * digit_value a.digit + 256 * digit_value b.digit + 16 * digit_value c.digit + n) d.value
+          ∙ ap (λ (n : ℕ). 4096 * digit_value a.digit + 256 * digit_value b.digit + 16 * digit_value c.digit + n)
+          d.value
           ∙ four (digit_value a.digit) (digit_value b.digit) (digit_value c.digit) (digit_value d.digit);
     }
 

@@ -232,7 +232,9 @@ module _ (text tag rest : List ℕ) (l : IsLanguage text tag) where
 -- ---- a longer text is read no less far
 
 run_shorter : (class : Class) (cs : List ℕ) → length (run class cs).1 ≤ length cs
-run_shorter class cs = let h = run_at class cs in omega (arith, length-append h.front (run class cs).1, ap length h.parts)
+run_shorter class cs =
+    let h = run_at class cs in
+    omega (arith, length-append h.front (run class cs).1, ap length h.parts)
 
 subtags_shorter : (cs : List ℕ) (x : List ℕ × List ℕ) → subtags_from 0 cs ≡ Some x → length x.1 ≤ length cs
 subtags_shorter cs x e =

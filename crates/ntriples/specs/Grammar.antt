@@ -156,7 +156,8 @@ pub record IsTyped (text lexical datatype : List ℕ) : Type 0 where
 
 abbrev pub IsLiteral : List ℕ → List ℕ → List ℕ → Option (List ℕ) → Type 0
 IsLiteral text lexical datatype (Some tag) = IsTagged text lexical datatype tag
-IsLiteral text lexical datatype None = (IsString text lexical × (datatype ≡ xsd_string)) ⊎ IsTyped text lexical datatype
+IsLiteral text lexical datatype None =
+    (IsString text lexical × (datatype ≡ xsd_string)) ⊎ IsTyped text lexical datatype
 
 -- subject ::= IRIREF | BLANK_NODE_LABEL
 abbrev pub IsSubject : List ℕ → Term → Type 0
@@ -193,7 +194,8 @@ pub record IsTriple (text behind : List ℕ) (t : Triple) : Type 0 where
       ≡ subject ++ after_subject ++ predicate ++ after_predicate ++ object ++ after_object ++ codes "."
   pub is_subject : IsRead IsSubject subject
       (after_subject ++ predicate ++ after_predicate ++ object ++ after_object ++ codes "." ++ behind) t.subject
-  pub is_predicate : IsRead IsIri predicate (after_predicate ++ object ++ after_object ++ codes "." ++ behind) t.predicate
+  pub is_predicate : IsRead IsIri predicate
+      (after_predicate ++ object ++ after_object ++ codes "." ++ behind) t.predicate
   pub is_object : IsRead IsObject object (after_object ++ codes "." ++ behind) t.object
   pub blank : AreBlanks (after_subject ++ after_predicate ++ after_object)
 

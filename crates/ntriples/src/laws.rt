@@ -5,8 +5,7 @@ ghost use Rattle.ntriples.specs.Document.{IsLineOf, IsDocument, IsFirstBadLine};
 ghost use Rattle.ntriples.specs.ParsedLines.{line_of};
 ghost use Rattle.ntriples.specs.Written.{CanBeRead, document_text};
 
-/// What reading a line from the left computes is its triple, or that it has none, exactly where the line is of the form
-/// that the productions give.
+/// Reading a line from the left finds its triple, or that it has none, exactly where the line is of that form.
 pub fn a_line_has_a_triple_exactly_where_it_is_of_the_form()
     ensures { (bytes : List ℕ) (triple : Option Triple) → (line_of bytes ≡ Some triple) ↔ IsLineOf bytes triple }
 {}
