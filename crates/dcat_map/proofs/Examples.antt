@@ -4,11 +4,11 @@ use Rattle.std.specs.Prelude.{codes}
 use Rattle.ntriples.specs.declared.term.Term.TheVariants.{Iri, Blank, Literal}
 use Rattle.ntriples.specs.declared.term.Triple.{Triple}
 use Rattle.ntriples.specs.Grammar.{xsd_string, rdf_lang_string}
-use Rattle.dcat_map.specs.Sets.{ascending_set}
+use Rattle.dcat_map.specs.Sets.{ascending_set, least}
 use Rattle.dcat_map.specs.Terms.{term_cmp, triple_cmp}
 use Rattle.dcat_map.specs.Graphs.{graph_of, is_about, about}
 use Rattle.dcat_map.specs.Listings.{listing_of, catalogued, catalogues_in, listing_in, entries_in, links_in}
-use Rattle.dcat_map.specs.Picks.{picked}
+use Rattle.dcat_map.specs.Picks.{pick, picked}
 use Rattle.dcat_map.specs.Distributions.{after_mark, last_part}
 use Rattle.dcat_map.specs.Vocabulary.{rdf_type, dcat_catalog, dcat_dataset, dct_title}
 
@@ -47,7 +47,7 @@ titles =
     ∷ []
 
 picks_the_title_without_a_language : picked (about (graph_of titles) (Iri (codes "x")) dct_title) ≡ codes "Zz"
-unfolding titles picked graph_of ascending_set is_about term_cmp triple_cmp
+unfolding titles pick picked least graph_of ascending_set is_about term_cmp triple_cmp
 picks_the_title_without_a_language = refl
 
 cuts_behind_the_last_mark : last_part (codes "h/a#b/CSV") ≡ codes "CSV"

@@ -1,30 +1,33 @@
 -- The laws of listings, picks and leasts.
-use Rattle.std.proofs.Common.{◌≡◌, ◌≢◌, ℕ, ℤ, Bool, true, false, cond, List, [], ◌∷◌, Some, None, refl, sym, ap, ◌∙◌}
-use Rattle.std.proofs.Common.{subst, inl, inr, ◌↔◌}
+use Rattle.std.proofs.Common.{◌≡◌, ◌≢◌, ℕ, ℤ, true, false, cond, List, [], ◌∷◌, Some, None, refl, sym, ap, ◌∙◌}
+use Rattle.std.proofs.Common.{subst, inl, inr, ◌↔◌, ◌⊎◌, Option, length}
 use Rattle.std.specs.declared.cmp.Ordering.{Ordering}
 use Rattle.std.specs.declared.cmp.Ordering.TheVariants.{Less, Equal, Greater}
-use Rattle.std.specs.Ordering.{ordering_then, int_cmp, flip_args}
+use Rattle.std.specs.Ordering.{ordering_then, ordering_reverse, match_ordering, int_cmp, flip_args}
 use Rattle.std.specs.Prelude.{◌<ℤ◌}
 use Rattle.std.specs.Cmp.{IsTotalOrder}
 use Rattle.std.specs.Cmp.Lexicographic.{nat_list_cmp_total}
-use Rattle.std.specs.List.{AllByRecursion, Contains, filter, filter_map, find}
+use Rattle.std.specs.List.{AllByRecursion, Contains, filter, filter_map}
 use Rattle.std.specs.List.Sorted.{IsStrictlySortedBy}
+use Rattle.std.proofs.lemmas.Bool.{both_ways, false_from_ne_true}
+use Rattle.std.proofs.lemmas.Option.{none-some, same_Some, cond_some}
 use Rattle.std.proofs.lemmas.Cmp.{tied_itself, int_ranked, back_total, int_cmp_total}
 use Rattle.std.proofs.lemmas.List.Kept.{IsStrictlySortedBy-filter}
 use Rattle.ntriples.specs.declared.term.Term.{Term}
 use Rattle.ntriples.specs.declared.term.Term.TheVariants.{Iri, Blank, Literal}
 use Rattle.ntriples.specs.declared.term.Triple.{Triple}
 use Rattle.dcat_map.specs.declared.listing.Listing.{Listing}
-use Rattle.dcat_map.specs.Sets.{ascending_set, first, least}
-use Rattle.dcat_map.specs.Terms.{text_of, text_cmp, term_cmp, triple_cmp, term_cmp_total, triple_cmp_total}
-use Rattle.dcat_map.specs.Graphs.{graph_of, about, is_about, is_typed, objects, IsObject}
+use Rattle.dcat_map.specs.Sets.{ascending_set, least, lesser_of}
+use Rattle.dcat_map.specs.Terms.{text_of, text_cmp, term_cmp, term_cmp_total}
+use Rattle.dcat_map.specs.Graphs.{graph_of, about, is_typed, objects, IsObject}
 use Rattle.dcat_map.specs.Listings.{catalogues_in, links_in, entries_in, iri_of, listing_in, if_any, catalogued}
-use Rattle.dcat_map.specs.Listings.{listing_of, IsListed}
-use Rattle.dcat_map.specs.Picks.{is_filled, picked, text_or_empty}
+use Rattle.dcat_map.specs.Listings.{listing_of, is_unnamed, IsListed, IsCatalogue, IsEntry, AreUnnamed}
+use Rattle.dcat_map.specs.Picks.{is_filled, filled, pick, picked, text_or_empty, IsPick}
 use Rattle.dcat_map.specs.Vocabulary.{rdf_type, dcat_catalog, dcat_dataset}
+use Rattle.dcat_map.proofs.Leasts.{first, least_first}
 use Rattle.dcat_map.proofs.Memberships.{IsIn-filter, filter-IsIn, IsIn-map, map-IsIn, IsIn-flat_map, flat_map-IsIn}
 use Rattle.dcat_map.proofs.Memberships.{IsIn-filter_map, filter_map-IsIn, typed-itself, typed-made, IsIn-graph_of}
-use Rattle.dcat_map.proofs.Memberships.{graph_of-IsIn, IsIn-about, about-IsIn, about-made}
+use Rattle.dcat_map.proofs.Memberships.{graph_of-IsIn, IsIn-about, about-IsIn}
 use Rattle.dcat_map.proofs.Orders.{same_text, same_term, same_moment}
 use Rattle.dcat_map.proofs.SetLemmas.{TellsApart, IsIn, IsIn-Contains, Contains-IsIn, below_in, IsIn-ascending_set}
 use Rattle.dcat_map.proofs.SetLemmas.{ascending_set-IsIn, IsStrictlySortedBy-ascending_set}
@@ -151,64 +154,38 @@ listed_exactly ts l iri h = (
   λ d. Contains-IsIn iri l.iris (subst (IsIn iri) (sym (listed_iris ts l h)) (listed-from ts iri d)),
 )
 
--- The first that passes, of an ascending list, is the one below which none passes.
-find-first : {X : Type 0} (cmp : X → X → Ordering) (p : X → Bool) (x : X) (xs : List X) → IsStrictlySortedBy cmp xs
-    → IsIn x xs → p x ≡ true → ((z : X) → IsIn z xs → p z ≡ true → cmp z x ≡ Less → ⊥) → find p xs ≡ Some x
-unfolding IsStrictlySortedBy
-find-first cmp p x [] up m h none = absurd m
-find-first {X} cmp p x (y ∷ ys) up m h none =
-    let P : Bool → Type 0 = λ b. p y ≡ b → cond b (Some y) (find p ys) ≡ Some x in
-    (elim (p y) as P [
-      | true ↦ λ e. ap Some (here e m)
-      | false ↦ λ e. find-first cmp p x ys up.1 (later e m) h (λ z n. none z (inr n))
-    ]) refl
-  where
-    here : p y ≡ true → IsIn x (y ∷ ys) → y ≡ x
-    here e (inl f) = sym f
-    here e (inr n) = absurd (none y (inl refl) e (below_in cmp y x ys up.0 n))
+-- What is the pick's, of the objects about a subject and a predicate.
+filled_parts : (o z : Term) → filled o ≡ Some z → (is_filled o ≡ true) × (o ≡ z)
+filled_parts o z h = cond_some (is_filled o) o z h
 
-    later : p y ≡ false → IsIn x (y ∷ ys) → IsIn x ys
-    later e (inl f) = let both : true ≡ false = sym h ∙ ap p f ∙ e in absurd (cc)
-    later e (inr n) = n
+objects_filled : (ts : List Triple) (s : Term) (p : List ℕ) → List Term
+objects_filled ts s p = filter_map (λ (t : Triple). filled t.object) (about (graph_of ts) s p)
 
-find-none : {X : Type 0} (p : X → Bool) (xs : List X) → ((z : X) → IsIn z xs → p z ≡ false) → find p xs ≡ None
-find-none p [] h = refl
-find-none {X} p (x ∷ xs) h = ap (λ b. cond b (Some x) (find p xs)) (h x (inl refl))
-    ∙ find-none p xs (λ z m. h z (inr m))
+filled-to : (ts : List Triple) (s : Term) (p : List ℕ) (z : Term) → IsIn z (objects_filled ts s p)
+    → IsObject ts s p z × (is_filled z ≡ true)
+unfolding objects_filled
+filled-to ts s p z m =
+    let found = filter_map-IsIn (λ (t : Triple). filled t.object) z (about (graph_of ts) s p) m in
+    let t : Triple = found.0 in
+    let parts = filled_parts t.object z found.2 in (
+      subst (λ (o : Term). IsObject ts s p o) parts.1
+          (Contains-IsIn _ ts (graph_of-IsIn _ ts (about-IsIn (graph_of ts) s p t found.1))),
+      ap is_filled (sym parts.1) ∙ parts.0,
+    )
 
-graph_ascends : (ts : List Triple) → IsStrictlySortedBy triple_cmp (graph_of ts)
-unfolding graph_of
-graph_ascends ts = IsStrictlySortedBy-ascending_set triple_cmp triple_cmp_total ts
+filled-from : (ts : List Triple) (s : Term) (p : List ℕ) (z : Term) → IsObject ts s p z → is_filled z ≡ true
+    → IsIn z (objects_filled ts s p)
+unfolding objects_filled
+filled-from ts s p z m h =
+    IsIn-filter_map (λ (t : Triple). filled t.object) z (record { subject = s; predicate = p; object = z })
+    (about (graph_of ts) s p)
+    (IsIn-about (graph_of ts) s p z (IsIn-graph_of _ ts (IsIn-Contains _ ts m)))
+    (ap (λ b. cond b (Some z) None) h)
 
-objects_compare : (s : Term) (p : List ℕ) (o q : Term)
-    → triple_cmp (record { subject = s; predicate = p; object = o })
-    (record { subject = s; predicate = p; object = q }) ≡ term_cmp o q
-unfolding triple_cmp
-objects_compare s p o q =
-    ap (λ r. ordering_then r (ordering_then (text_cmp p p) (term_cmp o q))) (tied_itself term_cmp_total s)
-    ∙ ap (λ r. ordering_then r (term_cmp o q)) (tied_itself nat_list_cmp_total p)
-
-pub picked-first : (ts : List Triple) (s : Term) (p : List ℕ) (o : Term) → IsObject ts s p o → is_filled o ≡ true
-    → ((other : Term) → IsObject ts s p other → is_filled other ≡ true → term_cmp other o ≢ Less)
-    → picked (about (graph_of ts) s p) ≡ text_of o
-unfolding picked
-picked-first ts s p o m h none =
-    let x : Triple = record { subject = s; predicate = p; object = o } in
-    let g = graph_of ts in
-    ap text_or_empty (find-first triple_cmp (λ t. is_filled t.object) x (about g s p)
-    (IsStrictlySortedBy-filter triple_cmp (is_about s p) g (graph_ascends ts))
-    (IsIn-about g s p o (IsIn-graph_of x ts (IsIn-Contains x ts m))) h
-    (λ z n filled below. none z.object
-    (Contains-IsIn _ ts (graph_of-IsIn _ ts (about-IsIn g s p z n))) filled
-    (sym (objects_compare s p z.object o)
-    ∙ ap (λ (t : Triple). triple_cmp t x) (sym (about-made s p z (filter-IsIn (is_about s p) z g n).1)) ∙ below)))
-
-pub picked-none : (ts : List Triple) (s : Term) (p : List ℕ) → ((o : Term) → IsObject ts s p o → is_filled o ≡ false)
-    → picked (about (graph_of ts) s p) ≡ []
-unfolding picked
-picked-none ts s p none =
-    ap text_or_empty (find-none (λ t. is_filled t.object) (about (graph_of ts) s p)
-    (λ z n. none z.object (Contains-IsIn _ ts (graph_of-IsIn _ ts (about-IsIn (graph_of ts) s p z n)))))
+pick-least : (ts : List Triple) (s : Term) (p : List ℕ)
+    → pick (about (graph_of ts) s p) ≡ least term_cmp (objects_filled ts s p)
+unfolding pick objects_filled
+pick-least ts s p = refl
 
 first-least : {X : Type 0} (cmp : X → X → Ordering) (x : X) (xs : List X) → IsStrictlySortedBy cmp xs → IsIn x xs
     → ((z : X) → IsIn z xs → cmp z x ≡ Less → ⊥) → first xs ≡ Some x
@@ -219,11 +196,103 @@ first-least cmp x (y ∷ ys) up (inr m) none = absurd (none y (inl refl) (below_
 
 least-is : {X : Type 0} (cmp : X → X → Ordering) (o : IsTotalOrder cmp) → TellsApart cmp → (x : X) (xs : List X)
     → IsIn x xs → ((z : X) → IsIn z xs → cmp z x ≡ Less → ⊥) → least cmp xs ≡ Some x
-unfolding least
 least-is cmp o apart x xs m none =
-    first-least cmp x (ascending_set cmp xs) (IsStrictlySortedBy-ascending_set cmp o xs)
+    least_first cmp apart xs ∙ first-least cmp x (ascending_set cmp xs) (IsStrictlySortedBy-ascending_set cmp o xs)
     (IsIn-ascending_set cmp apart x xs m)
     (λ z n. none z (ascending_set-IsIn cmp z xs n))
+
+least-parts : {X : Type 0} (cmp : X → X → Ordering) (o : IsTotalOrder cmp) → TellsApart cmp → (x : X) (xs : List X)
+    → least cmp xs ≡ Some x → IsIn x xs × ((z : X) → IsIn z xs → (x ≡ z) ⊎ (cmp x z ≡ Less))
+unfolding IsStrictlySortedBy
+least-parts {X} cmp o apart x xs e =
+    by_set (ascending_set cmp xs) (IsStrictlySortedBy-ascending_set cmp o xs) (sym (least_first cmp apart xs) ∙ e)
+    (λ z m. ascending_set-IsIn cmp z xs m) (λ z m. IsIn-ascending_set cmp apart z xs m)
+  where
+    of_head : (y : X) (ys : List X) → y ≡ x → AllByRecursion (λ z. cmp y z ≡ Less) ys → (z : X) → IsIn z (y ∷ ys)
+        → (x ≡ z) ⊎ (cmp x z ≡ Less)
+    of_head y ys is up z (inl f) = inl (sym is ∙ sym f)
+    of_head y ys is up z (inr n) = inr (ap (λ (w : X). cmp w z) (sym is) ∙ below_in cmp y z ys up n)
+
+    by_set : (ys : List X) → IsStrictlySortedBy cmp ys → first ys ≡ Some x → ((z : X) → IsIn z ys → IsIn z xs)
+        → ((z : X) → IsIn z xs → IsIn z ys) → IsIn x xs × ((z : X) → IsIn z xs → (x ≡ z) ⊎ (cmp x z ≡ Less))
+    by_set [] up f back to = absurd (none-some x f)
+    by_set (y ∷ ys) up f back to = let is : y ≡ x = same_Some y x f in
+        (back x (inl (sym is)), λ z m. of_head y ys is up.0 z (to z m))
+
+least-none : {X : Type 0} (cmp : X → X → Ordering) (xs : List X) → least cmp xs ≡ None → xs ≡ []
+unfolding least
+least-none cmp [] e = refl
+least-none {X} cmp (x ∷ xs) e = absurd (some_least (least cmp xs) e)
+  where
+    some_least : (best : Option X) → lesser_of cmp best (Some x) ≡ None → ⊥
+    some_least None h = none-some x (sym h)
+    some_least (Some y) h = none-some (match_ordering (cmp x y) x y y) (sym h)
+
+none-least : {X : Type 0} (cmp : X → X → Ordering) (xs : List X) → ((z : X) → IsIn z xs → ⊥) → least cmp xs ≡ None
+unfolding least
+none-least cmp [] h = refl
+none-least cmp (x ∷ xs) h = absurd (h x (inl refl))
+
+-- ---- picks
+
+pub picked-first : (ts : List Triple) (s : Term) (p : List ℕ) (o : Term) → IsObject ts s p o → is_filled o ≡ true
+    → ((other : Term) → IsObject ts s p other → is_filled other ≡ true → term_cmp other o ≢ Less)
+    → picked (about (graph_of ts) s p) ≡ text_of o
+unfolding picked
+picked-first ts s p o m h none =
+    ap text_or_empty (pick-least ts s p ∙ least-is term_cmp term_cmp_total same_term o (objects_filled ts s p)
+    (filled-from ts s p o m h)
+    (λ z n below. let parts = filled-to ts s p z n in none z parts.0 parts.1 below))
+
+no_filled : (ts : List Triple) (s : Term) (p : List ℕ) → ((o : Term) → IsObject ts s p o → is_filled o ≡ false)
+    → (z : Term) → IsIn z (objects_filled ts s p) → ⊥
+no_filled ts s p none z n =
+    let parts = filled-to ts s p z n in
+    both_ways (is_filled z) (none z parts.0) parts.1
+
+pub pick-none : (ts : List Triple) (s : Term) (p : List ℕ) → ((o : Term) → IsObject ts s p o → is_filled o ≡ false)
+    → pick (about (graph_of ts) s p) ≡ None
+pick-none ts s p none = pick-least ts s p ∙ none-least term_cmp (objects_filled ts s p) (no_filled ts s p none)
+
+pub picked-none : (ts : List Triple) (s : Term) (p : List ℕ) → ((o : Term) → IsObject ts s p o → is_filled o ≡ false)
+    → picked (about (graph_of ts) s p) ≡ []
+unfolding picked
+picked-none ts s p none = ap text_or_empty (pick-none ts s p none)
+
+pub none-pick : (ts : List Triple) (s : Term) (p : List ℕ) → pick (about (graph_of ts) s p) ≡ None
+    → (o : Term) → IsObject ts s p o → is_filled o ≡ false
+none-pick ts s p e o m =
+    false_from_ne_true (is_filled o)
+    (λ h. subst (IsIn o) (least-none term_cmp (objects_filled ts s p) (sym (pick-least ts s p) ∙ e))
+    (filled-from ts s p o m h))
+
+pub pick-is : (ts : List Triple) (s : Term) (p : List ℕ) (o : Term) → pick (about (graph_of ts) s p) ≡ Some o
+    → IsPick ts s p o
+pick-is ts s p o e =
+    let parts = least-parts term_cmp term_cmp_total same_term o (objects_filled ts s p)
+    (sym (pick-least ts s p) ∙ e) in
+    let is = filled-to ts s p o parts.0 in
+    record {
+      object = is.0;
+      filled = is.1;
+      before = λ other m h. parts.1 other (filled-from ts s p other m h);
+    }
+
+not_before : (o z : Term) → (o ≡ z) ⊎ (term_cmp o z ≡ Less) → term_cmp z o ≡ Less → ⊥
+not_before o z (inl e) below =
+    let no : ◌≡◌ {A = Ordering} Less Equal = sym below ∙ ap (λ (w : Term). term_cmp w o) (sym e)
+    ∙ tied_itself term_cmp_total o in cc
+not_before o z (inr e) below =
+    let no : ◌≡◌ {A = Ordering} Less Greater = sym below ∙ term_cmp_total.antisymm z o ∙ ap ordering_reverse e in cc
+
+pub is-pick : (ts : List Triple) (s : Term) (p : List ℕ) (o : Term) → IsPick ts s p o
+    → pick (about (graph_of ts) s p) ≡ Some o
+is-pick ts s p o i =
+    pick-least ts s p ∙ least-is term_cmp term_cmp_total same_term o (objects_filled ts s p)
+    (filled-from ts s p o i.object i.filled)
+    (λ z n below. let parts = filled-to ts s p z n in not_before o z (i.before z parts.0 parts.1) below)
+
+-- ---- leasts
 
 pub least-text : (texts : List (List ℕ)) (t : List ℕ) → Contains texts t
     → ((other : List ℕ) → Contains texts other → text_cmp other t ≢ Less) → least text_cmp texts ≡ Some t
@@ -235,3 +304,70 @@ pub least-moment : (moments : List ℤ) (last : ℤ) → Contains moments last
 least-moment moments last m none =
     least-is (flip_args int_cmp) (back_total int_cmp_total) same_moment last moments (IsIn-Contains last moments m)
     (λ z n below. none z (Contains-IsIn z moments n) (int_ranked last z Less (sym below)))
+
+-- ---- what is listed and has no name
+
+sorted_unnamed : (ts : List Triple) → IsStrictlySortedBy term_cmp (filter is_unnamed (entries_in (graph_of ts)))
+sorted_unnamed ts =
+    IsStrictlySortedBy-filter term_cmp is_unnamed (entries_in (graph_of ts)) (entries_ascend (graph_of ts))
+
+entry-to : (ts : List Triple) (o : Term) → IsIn o (entries_in (graph_of ts)) → IsEntry ts o
+entry-to ts o m =
+    let parts = entries-IsIn (graph_of ts) o m in
+    record {
+      catalogue = parts.0;
+      typed = Contains-IsIn _ ts (graph_of-IsIn _ ts parts.1);
+      link = Contains-IsIn _ ts (graph_of-IsIn _ ts parts.2);
+    }
+
+entry-from : (ts : List Triple) (o : Term) → IsEntry ts o → IsIn o (entries_in (graph_of ts))
+entry-from ts o h =
+    IsIn-entries (graph_of ts) h.catalogue o (IsIn-graph_of _ ts (IsIn-Contains _ ts h.typed))
+    (IsIn-graph_of _ ts (IsIn-Contains _ ts h.link))
+
+are_unnamed : (ts : List Triple) → AreUnnamed ts (filter is_unnamed (entries_in (graph_of ts)))
+are_unnamed ts =
+    let entries = entries_in (graph_of ts) in
+    record {
+      apart = sorted_unnamed ts;
+      entries = λ o. (
+        λ m. let parts = filter-IsIn is_unnamed o entries (IsIn-Contains o (filter is_unnamed entries) m) in
+            (entry-to ts o parts.0, parts.1),
+        λ h. Contains-IsIn o (filter is_unnamed entries) (IsIn-filter is_unnamed o entries (entry-from ts o h.0) h.1),
+      );
+    }
+
+unnamed_count : (ts : List Triple) (l : Listing) → listing_of ts ≡ Some l
+    → l.unnamed ≡ length (filter is_unnamed (entries_in (graph_of ts)))
+unfolding listing_of catalogued listing_in
+unnamed_count ts l h =
+    ap (λ (m : Listing). m.unnamed) (if_any-some (catalogues_in (graph_of ts)) (listing_in (graph_of ts)) l h)
+
+pub unnamed_counted : (ts : List Triple) (l : Listing) → listing_of ts ≡ Some l
+    → (objects : List Term) × AreUnnamed ts objects × (l.unnamed ≡ length objects)
+unnamed_counted ts l h = (filter is_unnamed (entries_in (graph_of ts)), are_unnamed ts, unnamed_count ts l h)
+
+-- ---- no catalogue
+
+none_any : {A B : Type 0} (as' : List A) (b : B) → if_any as' b ≡ None → as' ≡ []
+none_any [] b h = refl
+none_any (a ∷ as') b h = absurd (none-some b (sym h))
+
+any_none : {A B : Type 0} (as' : List A) (b : B) → ((a : A) → IsIn a as' → ⊥) → if_any as' b ≡ None
+any_none [] b h = refl
+any_none (a ∷ as') b h = absurd (h a (inl refl))
+
+no_catalogue : (ts : List Triple) → listing_of ts ≡ None → (c : Term) → IsCatalogue ts c → ⊥
+unfolding listing_of catalogued
+no_catalogue ts h c m =
+    subst (IsIn c) (none_any (catalogues_in (graph_of ts)) (listing_in (graph_of ts)) h)
+    (IsIn-catalogues (graph_of ts) c (IsIn-graph_of _ ts (IsIn-Contains _ ts m)))
+
+no_listing : (ts : List Triple) → ((c : Term) → IsCatalogue ts c → ⊥) → listing_of ts ≡ None
+unfolding listing_of catalogued
+no_listing ts h =
+    any_none (catalogues_in (graph_of ts)) (listing_in (graph_of ts))
+    (λ c m. h c (Contains-IsIn _ ts (graph_of-IsIn _ ts (catalogues-IsIn (graph_of ts) c m))))
+
+pub no_catalogue_exactly : (ts : List Triple) → (listing_of ts ≡ None) ↔ ((c : Term) → IsCatalogue ts c → ⊥)
+no_catalogue_exactly ts = (no_catalogue ts, no_listing ts)

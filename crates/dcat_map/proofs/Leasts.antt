@@ -9,7 +9,7 @@ use Rattle.std.specs.List.{filter_map, cons_option}
 use Rattle.std.proofs.lemmas.List.{append-nil}
 use Rattle.std.proofs.lemmas.List.Elements.{filter_map-append}
 use Rattle.dcat_map.proofs.Steps.{joined_more}
-use Rattle.dcat_map.specs.Sets.{placed, ascending_set, first, least, lesser_of}
+use Rattle.dcat_map.specs.Sets.{placed, ascending_set, least, lesser_of}
 use Rattle.dcat_map.proofs.SetLemmas.{TellsApart, IsIn, IsIn-placed, placed-IsIn, IsStrictlySortedBy-placed}
 use Rattle.dcat_map.proofs.SetLemmas.{IsStrictlySortedBy-ascending_set, IsIn-ascending_set, ascending_set-IsIn}
 use Rattle.dcat_map.proofs.SetLemmas.{ascending_set-from_sorted}
@@ -52,6 +52,11 @@ ascending_set-push {X} cmp o apart xs x =
     out z (inl e) = inl e
     out z (inr m) = inr (ascending_set-IsIn cmp z xs m)
 
+-- the first of the items, if there is one
+abbrev pub first : {X : Type 0} → List X → Option X
+first [] = None
+first (x ∷ xs) = Some x
+
 first-placed : {X : Type 0} (cmp : X → X → Ordering) → TellsApart cmp → (x : X) (xs : List X)
     → first (placed cmp x xs) ≡ lesser_of cmp (first xs) (Some x)
 first-placed cmp apart x [] = refl
@@ -61,12 +66,22 @@ first-placed {X} cmp apart x (y ∷ ys) =
     ≡ Some (match_ordering r x y y) in
     elim (cmp x y) as P [ Less ↦ refl | Equal ↦ refl | Greater ↦ refl ]
 
+-- The item that comes before all others is the first of them in ascending order.
+pub least_first : {X : Type 0} (cmp : X → X → Ordering) → TellsApart cmp → (xs : List X)
+    → least cmp xs ≡ first (ascending_set cmp xs)
+unfolding least ascending_set
+least_first cmp apart [] = refl
+least_first cmp apart (x ∷ xs) =
+    ap (λ best. lesser_of cmp best (Some x)) (least_first cmp apart xs)
+    ∙ sym (first-placed cmp apart x (ascending_set cmp xs))
+
 -- One item more.
 pub least-push : {X : Type 0} (cmp : X → X → Ordering) (o : IsTotalOrder cmp) → TellsApart cmp → (xs : List X) (x : X)
     → least cmp (xs ++ x ∷ []) ≡ lesser_of cmp (least cmp xs) (Some x)
-unfolding least
-least-push cmp o apart xs x = ap first (ascending_set-push cmp o apart xs x)
+least-push cmp o apart xs x =
+    least_first cmp apart (xs ++ x ∷ []) ∙ ap first (ascending_set-push cmp o apart xs x)
     ∙ first-placed cmp apart x (ascending_set cmp xs)
+    ∙ ap (λ best. lesser_of cmp best (Some x)) (sym (least_first cmp apart xs))
 
 lesser_of-None : {X : Type 0} (cmp : X → X → Ordering) (best : Option X) → lesser_of cmp best None ≡ best
 lesser_of-None cmp None = refl
@@ -97,5 +112,5 @@ kept_more cmp o apart h xs i x y old new other lt e same given was now =
     ∙ sym (least_more cmp o apart h xs i x y lt e same)
 
 pub least-nil : {Y : Type 0} (cmp : Y → Y → Ordering) → least cmp [] ≡ None
-unfolding least ascending_set
+unfolding least
 least-nil cmp = refl

@@ -11,4 +11,5 @@ pub mod Orders
 pub mod Ranges
 pub mod RecordLemmas
 pub mod SetLemmas
+pub mod SharedLemmas
 pub mod Steps

@@ -119,7 +119,7 @@ both_true : (a b : Bool) → (a && b) ≡ true → (a ≡ true) × (b ≡ true)
 both_true true b h = (refl, h)
 both_true false b h = absurd (cc)
 
-equal_from_is_eq : (r : Ordering) → is_eq r ≡ true → r ≡ Equal
+pub equal_from_is_eq : (r : Ordering) → is_eq r ≡ true → r ≡ Equal
 equal_from_is_eq Less h = absurd (cc)
 equal_from_is_eq Equal h = refl
 equal_from_is_eq Greater h = absurd (cc)

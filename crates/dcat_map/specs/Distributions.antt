@@ -1,6 +1,6 @@
 -- The distributions of a dataset (DCAT 3, section 6.8).
-use Rattle.std.specs.Prelude.{ℕ, ◌==◌, nat_eq, if◌then◌else◌, Bool, true, false, List, [], ◌∷◌, length, map, filter}
-use Rattle.std.specs.Prelude.{take, drop, Option, Some, None}
+use Rattle.std.specs.Prelude.{◌≡◌, All, ℕ, ◌==◌, nat_eq, if◌then◌else◌, Bool, true, false, List, [], ◌∷◌, length, map}
+use Rattle.std.specs.Prelude.{filter, take, drop, Option, Some, None}
 use Rattle.std.specs.List.{list_any, starts_with}
 use Rattle.std.specs.declared.cmp.Ordering.{Ordering}
 use Rattle.std.specs.Ordering.{on, then_cmp}
@@ -8,6 +8,7 @@ use Rattle.ntriples.specs.declared.term.Term.{Term}
 use Rattle.ntriples.specs.declared.term.Term.TheVariants.{Iri, Blank, Literal}
 use Rattle.ntriples.specs.declared.term.Triple.{Triple}
 use Rattle.dcat_map.specs.declared.record.Distribution.{Distribution}
+use Rattle.dcat_map.specs.declared.shared.Shared.{Shared}
 use Rattle.dcat_map.specs.Sets.{in_order}
 use Rattle.dcat_map.specs.Terms.{text_cmp}
 use Rattle.dcat_map.specs.Graphs.{about}
@@ -54,6 +55,10 @@ distribution_in g node = record {
   mimetype = media_type (or_empty (least_named (about g node dcat_media_type)));
   description = picked (about g node dct_description);
 }
+
+-- each is what the graph says of its node
+abbrev pub AreDescribed : List Triple → List Shared → Type 0
+AreDescribed g shared = All (λ one. one.distribution ≡ distribution_in g one.node) shared
 
 -- by url, name, format, mimetype and description
 unfoldable pub distribution_cmp : Distribution → Distribution → Ordering

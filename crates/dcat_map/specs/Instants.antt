@@ -124,6 +124,6 @@ abbrev pub or_epoch : Option ℤ → ℤ
 or_epoch None = pos 0
 or_epoch (Some moment) = moment
 
--- the latest moment that one of the objects gives: the first in descending order
+-- the latest moment that one of the objects gives: the one that comes behind all others
 unfoldable pub latest : List Triple → Option ℤ
 latest ts = least (flip_args int_cmp) (filter_map (λ t. moment_of t.object) ts)

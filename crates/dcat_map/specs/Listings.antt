@@ -1,6 +1,7 @@
 -- What a graph's catalogues list (DCAT 3, section 6.3).
-use Rattle.std.specs.Prelude.{ℕ, Bool, true, false, List, [], ◌∷◌, length, map, filter, Option, Some, None}
+use Rattle.std.specs.Prelude.{◌≡◌, ◌↔◌, ℕ, Bool, true, false, List, [], ◌∷◌, length, map, filter, Option, Some, None}
 use Rattle.std.specs.List.{filter_map, flat_map, Contains}
+use Rattle.std.specs.List.Sorted.{IsStrictlySortedBy}
 use Rattle.ntriples.specs.declared.term.Term.{Term}
 use Rattle.ntriples.specs.declared.term.Term.TheVariants.{Iri, Blank, Literal}
 use Rattle.ntriples.specs.declared.term.Triple.{Triple}
@@ -47,6 +48,22 @@ catalogued g = if_any (catalogues_in g) (listing_in g)
 -- the listing of the graph of the triples
 unfoldable pub listing_of : List Triple → Option Listing
 listing_of triples = catalogued (graph_of triples)
+
+-- the triples say of the subject that it is a catalogue
+abbrev pub IsCatalogue : List Triple → Term → Type 0
+IsCatalogue triples subject =
+    Contains triples (record { subject = subject; predicate = rdf_type; object = Iri dcat_catalog })
+
+-- some catalogue of the triples has this as an object of dcat:dataset
+pub record IsEntry (triples : List Triple) (object : Term) : Type 0 where
+  pub catalogue : Term
+  pub typed : IsCatalogue triples catalogue
+  pub link : Contains triples (record { subject = catalogue; predicate = dcat_dataset; object = object })
+
+-- these are, each once, the entries of catalogues of the triples that are no IRIs
+pub record AreUnnamed (triples : List Triple) (objects : List Term) : Type 0 where
+  pub apart : IsStrictlySortedBy term_cmp objects
+  pub entries : (object : Term) → Contains objects object ↔ (IsEntry triples object × (is_unnamed object ≡ true))
 
 -- some catalogue of the triples has the IRI as an object of dcat:dataset
 pub record IsListed (triples : List Triple) (iri : List ℕ) : Type 0 where

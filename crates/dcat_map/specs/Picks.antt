@@ -1,12 +1,13 @@
--- How one value is taken of several. The triples are those about one subject and one predicate; they are of a graph, so
--- their objects ascend.
-use Rattle.std.specs.Prelude.{ℕ, Bool, true, false, List, [], ◌∷◌, Option, Some, None}
-use Rattle.std.specs.List.{filter_map, find}
+-- How one value is taken of several. The triples are those about one subject and one predicate, in any order.
+use Rattle.std.specs.Prelude.{◌≡◌, ◌⊎◌, ℕ, if◌then◌else◌, Bool, true, false, List, [], ◌∷◌, Option, Some, None}
+use Rattle.std.specs.declared.cmp.Ordering.TheVariants.{Less}
+use Rattle.std.specs.List.{filter_map}
 use Rattle.ntriples.specs.declared.term.Term.{Term}
 use Rattle.ntriples.specs.declared.term.Term.TheVariants.{Iri, Blank, Literal}
 use Rattle.ntriples.specs.declared.term.Triple.{Triple}
 use Rattle.dcat_map.specs.Sets.{least}
-use Rattle.dcat_map.specs.Terms.{text_of, text_cmp}
+use Rattle.dcat_map.specs.Terms.{term_cmp, text_of, text_cmp}
+use Rattle.dcat_map.specs.Graphs.{IsObject}
 use Rattle.dcat_map.specs.Listings.{iri_of}
 
 -- a literal that isn't empty
@@ -16,13 +17,28 @@ is_filled (Literal (b ∷ bs) datatype tag) = true
 is_filled (Iri iri) = false
 is_filled (Blank label) = false
 
-abbrev pub text_or_empty : Option Triple → List ℕ
-text_or_empty None = []
-text_or_empty (Some t) = text_of t.object
+abbrev pub filled : Term → Option Term
+filled t = if is_filled t then Some t else None
 
--- the text of the first literal in the order of terms that isn't empty, or else empty
+-- Pick: of the literals that aren't empty, the one that comes before all others in the order of terms
+unfoldable pub pick : List Triple → Option Term
+pick ts = least term_cmp (filter_map (λ t. filled t.object) ts)
+
+-- The literal is the pick of what the triples say of the subject by the predicate: one of the objects that isn't
+-- empty, which comes before all other such ones.
+pub record IsPick (triples : List Triple) (subject : Term) (predicate : List ℕ) (literal : Term) : Type 0 where
+  pub object : IsObject triples subject predicate literal
+  pub filled : is_filled literal ≡ true
+  pub before : (other : Term) → IsObject triples subject predicate other → is_filled other ≡ true
+      → (literal ≡ other) ⊎ (term_cmp literal other ≡ Less)
+
+abbrev pub text_or_empty : Option Term → List ℕ
+text_or_empty None = []
+text_or_empty (Some t) = text_of t
+
+-- the text of the pick, or else empty
 unfoldable pub picked : List Triple → List ℕ
-picked ts = text_or_empty (find (λ t. is_filled t.object) ts)
+picked ts = text_or_empty (pick ts)
 
 -- an IRI, or a literal's text
 abbrev pub name_or_text : Term → Option (List ℕ)

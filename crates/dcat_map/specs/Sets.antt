@@ -15,20 +15,16 @@ unfoldable pub ascending_set : {X : Type 0} → (X → X → Ordering) → List 
 ascending_set cmp [] = []
 ascending_set cmp (x ∷ xs) = placed cmp x (ascending_set cmp xs)
 
--- the first of the items, if there is one
-abbrev pub first : {X : Type 0} → List X → Option X
-first [] = None
-first (x ∷ xs) = Some x
-
--- the first of the items in ascending order
-unfoldable pub least : {X : Type 0} → (X → X → Ordering) → List X → Option X
-least cmp xs = first (ascending_set cmp xs)
-
 -- the lesser of what is there
 abbrev pub lesser_of : {X : Type 0} → (X → X → Ordering) → Option X → Option X → Option X
 lesser_of cmp best None = best
 lesser_of cmp None (Some x) = Some x
 lesser_of cmp (Some y) (Some x) = Some (match_ordering (cmp x y) x y y)
+
+-- the item that comes before all others, if there is one
+unfoldable pub least : {X : Type 0} → (X → X → Ordering) → List X → Option X
+least cmp [] = None
+least cmp (x ∷ xs) = lesser_of cmp (least cmp xs) (Some x)
 
 -- all the items in ascending order, those that are alike too
 unfoldable pub in_order : {X : Type 0} → (X → X → Ordering) → List X → List X

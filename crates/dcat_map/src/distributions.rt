@@ -17,6 +17,7 @@ use crate::vocabulary::{
     OLD_MEDIA_TYPES, TITLE,
 };
 use ntriples::{Term, Triple};
+use portal_base::copy::TryClone;
 use portal_base::seq::Seq;
 use portal_base::text::Text;
 use std::alloc::{AllocError, Global};
@@ -104,9 +105,9 @@ fn media_type_of<'a>(graph: &Graph<'a>, node: &Term) -> &'a str
     media_type(or_empty(least_named(graph.about(node, MEDIA_TYPE))))
 }
 
-// What the graph says of the distribution.
+/// What the graph says of the distribution.
 #[tactic(auto, unfolding(crate::specs::Distributions::distribution_in))]
-fn distribution_of(
+pub(crate) fn distribution_of(
     alloc: Global,
     graph: &Graph<'_>,
     node: &Term,
@@ -120,6 +121,33 @@ fn distribution_of(
         mimetype: Text::from_str(alloc, media_type_of(graph, node))?,
         description: Text::from_str(alloc, picked(graph.about(node, DESCRIPTION)))?,
     })
+}
+
+// A copy of the distribution.
+fn copy_of(alloc: Global, distribution: &Distribution) -> Result<Distribution, AllocError>
+    ensures { IfOk result (λ copy. copy ≡ distribution.now) }
+{
+    Ok(Distribution {
+        url: distribution.url.try_clone(alloc)?,
+        name: distribution.name.try_clone(alloc)?,
+        format: distribution.format.try_clone(alloc)?,
+        mimetype: distribution.mimetype.try_clone(alloc)?,
+        description: distribution.description.try_clone(alloc)?,
+    })
+}
+
+// What the graph says of the distribution, which is known already where several datasets share it.
+fn known_or_described(
+    alloc: Global,
+    graph: &Graph<'_>,
+    node: &Term,
+) -> Result<Distribution, AllocError>
+    ensures { IfOk result (λ distribution. distribution ≡ distribution_in graph.now node.now) }
+{
+    match graph.shared(node) {
+        Some(distribution) => copy_of(alloc, distribution),
+        None => distribution_of(alloc, graph, node),
+    }
 }
 
 // The order by url, name, format, mimetype and description.
@@ -178,12 +206,13 @@ fn push_distribution(
         distributions.old.items ++ distributions_in graph.now (triple.now ∷ [])) }
 {
     if is_node(&triple.object) {
-        distributions.push(distribution_of(alloc, graph, &triple.object)?)?;
+        distributions.push(known_or_described(alloc, graph, &triple.object)?)?;
     }
     Ok(())
 }
 
-fn is_node(term: &Term) -> bool
+/// Whether the term may be a distribution.
+pub(crate) fn is_node(term: &Term) -> bool
     ensures { result ≡ is_node term.now }
 {
     !matches!(term, Term::Literal(_, _, _))

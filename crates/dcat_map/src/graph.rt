@@ -1,10 +1,13 @@
 //! A graph as the ascending list of its triples, in which triples are found by subject and predicate.
-ghost use Rattle.std.specs.Prelude.{◌≡◌, filter, IfOk};
+ghost use Rattle.std.specs.Prelude.{◌≡◌, filter, IfOk, IfSome};
 ghost use Rattle.dcat_map.specs.Graphs.{graph_of, is_about, is_typed, is_described, about};
 ghost use Rattle.std.specs.List.Sorted.{IsStrictlySortedBy};
 ghost use Rattle.dcat_map.specs.Terms.{key_cmp, triple_cmp};
+ghost use Rattle.dcat_map.specs.Distributions.{distribution_in};
 ghost use Rattle.dcat_map.specs.Vocabulary.{dcat_dataset_class};
 
+use crate::record::Distribution;
+use crate::shared::{self, Shared, described_shared};
 use crate::statement::Statement;
 use crate::terms::{compare_terms, is_iri};
 use crate::vocabulary::{DATASET_CLASS, TYPE};
@@ -15,10 +18,12 @@ use std::alloc::{AllocError, Global};
 use std::cmp::Ordering;
 use std::marker::Model;
 
-/// The set of the triples of a list that is lent. A contract sees it as the ascending list of them, each once.
+/// The set of the triples of a list that is lent. A contract sees it as the ascending list of them, each once. What it
+/// says of distributions that several datasets share is kept, so that each of these is described once.
 #[derive(Drop)]
 pub struct Graph<'a> {
     statements: Vec<Statement<'a>>,
+    shared: Vec<Shared<'a>>,
 }
 
 impl<'a> Model for Graph<'a> {
@@ -26,12 +31,14 @@ impl<'a> Model for Graph<'a> {
     ghost use Rattle.std.specs.List.Sorted.{IsStrictlySortedBy};
     ghost use Rattle.ntriples.specs.declared.term.Triple.{Triple};
     ghost use Rattle.dcat_map.specs.Terms.{triple_cmp};
+    ghost use Rattle.dcat_map.specs.Distributions.{AreDescribed};
 
     ghost Value = { List Triple };
 
     ghost view = { λ g. g.statements.items };
 
-    ghost invariant = { λ g. IsStrictlySortedBy triple_cmp g.statements.items };
+    ghost invariant = { λ g. IsStrictlySortedBy triple_cmp g.statements.items ×
+        AreDescribed g.statements.items g.shared.items };
 }
 
 impl<'a> Graph<'a> {
@@ -42,7 +49,12 @@ impl<'a> Graph<'a> {
         let mut statements = statements_of(alloc, triples.as_slice())?;
         statements.sort_unstable();
         statements.dedup();
-        Ok(Graph { statements })
+        let mut graph = Graph {
+            statements,
+            shared: Vec::new(alloc),
+        };
+        graph.shared = described_shared(alloc, &graph)?;
+        Ok(graph)
     }
 
     /// The triples.
@@ -57,6 +69,13 @@ impl<'a> Graph<'a> {
         ensures { result.now ≡ about self.now subject.now predicate.now }
     {
         part_about(self.statements.as_slice(), subject, predicate)
+    }
+
+    /// What is known of a distribution that several datasets share.
+    pub(crate) fn shared(&self, node: &Term) -> Option<&Distribution>
+        ensures { IfSome result (λ distribution. distribution.now ≡ distribution_in self.now node.now) }
+    {
+        shared::find(self.shared.as_slice(), node)
     }
 }
 

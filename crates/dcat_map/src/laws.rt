@@ -1,5 +1,5 @@
 //! Laws of listings and records: functions with an empty body, whose contracts are the laws.
-ghost use Rattle.std.specs.Prelude.{◌≡◌, ◌≢◌, ◌↔◌, ℕ, ℤ, ◌<ℤ◌, true, false, List, [], Some};
+ghost use Rattle.std.specs.Prelude.{◌≡◌, ◌≢◌, ◌↔◌, ℕ, ℤ, ◌<ℤ◌, true, false, List, [], length, Some, None};
 ghost use Rattle.std.specs.List.{Contains};
 ghost use Rattle.std.specs.List.Sorted.{IsStrictlySortedBy};
 ghost use Rattle.std.specs.Ordering.{flip_args, int_cmp};
@@ -9,8 +9,8 @@ ghost use Rattle.ntriples.specs.declared.term.Triple.{Triple};
 ghost use Rattle.dcat_map.specs.declared.listing.Listing.{Listing};
 ghost use Rattle.dcat_map.specs.Sets.{HaveSameItems, least};
 ghost use Rattle.dcat_map.specs.Graphs.{graph_of, about, is_described, IsObject};
-ghost use Rattle.dcat_map.specs.Listings.{listing_of, IsListed};
-ghost use Rattle.dcat_map.specs.Picks.{is_filled, picked};
+ghost use Rattle.dcat_map.specs.Listings.{listing_of, IsListed, IsCatalogue, AreUnnamed};
+ghost use Rattle.dcat_map.specs.Picks.{is_filled, pick, picked, IsPick};
 ghost use Rattle.dcat_map.specs.Terms.{term_cmp, text_cmp, text_of};
 ghost use Rattle.dcat_map.specs.Records.{description_of};
 
@@ -43,6 +43,26 @@ pub fn a_listing_has_what_catalogues_list()
         IsStrictlySortedBy text_cmp listing.iris }
     ensures listed { (triples : List Triple) (listing : Listing) (iri : List ℕ) → listing_of triples ≡ Some listing →
         Contains listing.iris iri ↔ IsListed triples iri }
+{}
+
+/// A listing counts the entries of catalogues that are no IRIs, each once; and there is no listing exactly where the
+/// triples say of no subject that it is a catalogue.
+pub fn a_listing_counts_what_has_no_name()
+    ensures unnamed { (triples : List Triple) (listing : Listing) → listing_of triples ≡ Some listing →
+        (objects : List Term) × AreUnnamed triples objects × (listing.unnamed ≡ length objects) }
+    ensures none { (triples : List Triple) →
+        (listing_of triples ≡ None) ↔ ((subject : Term) → IsCatalogue triples subject → ⊥) }
+{}
+
+/// The pick is the literal that isn't empty and comes before all others, and there is none exactly where no object is
+/// such a literal.
+pub fn the_pick_comes_before_all_others()
+    ensures pick { (triples : List Triple) (subject : Term) (predicate : List ℕ) (literal : Term) →
+        (pick (about (graph_of triples) subject predicate) ≡ Some literal) ↔
+        IsPick triples subject predicate literal }
+    ensures none { (triples : List Triple) (subject : Term) (predicate : List ℕ) →
+        (pick (about (graph_of triples) subject predicate) ≡ None) ↔
+        ((object : Term) → IsObject triples subject predicate object → is_filled object ≡ false) }
 {}
 
 /// Where a literal of the triples isn't empty, and no other one about the same is before it, its text is picked. Where

@@ -10,6 +10,7 @@ mod names;
 mod node;
 mod picks;
 mod record;
+mod shared;
 mod statement;
 mod tags;
 mod terms;

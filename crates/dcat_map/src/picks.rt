@@ -1,43 +1,62 @@
 //! How one value is taken of several.
 ghost use Rattle.std.specs.Prelude.{◌≡◌};
-ghost use Rattle.std.specs.List.{find};
 ghost use Rattle.std.specs.Option.{option_copied};
-ghost use Rattle.dcat_map.specs.Terms.{text_cmp};
-ghost use Rattle.dcat_map.specs.Picks.{is_filled, picked, name_or_text, least_named, least_iri};
+ghost use Rattle.dcat_map.specs.Terms.{text_cmp, term_cmp};
+ghost use Rattle.dcat_map.specs.Picks.{filled, pick, picked, name_or_text, least_named, least_iri};
 ghost use Rattle.dcat_map.specs.Listings.{iri_of};
 ghost use Rattle.dcat_map.specs.Sets.{lesser_of};
 
 use crate::statement::Statement;
-use crate::terms::text_of;
+use crate::terms::{compare_terms, text_of};
 use ntriples::Term;
 use portal_base::text::Text;
 
-// Whether the term is a literal that isn't empty.
-fn is_filled(term: &Term) -> bool
-    ensures { result ≡ is_filled term.now }
+// The term, where it is a literal that isn't empty.
+fn filled(term: &Term) -> Option<&Term>
+    ensures { option_copied result ≡ filled term.now }
 {
     match term {
-        Term::Literal(text, _, _) => !text.is_empty(),
-        _ => false,
+        Term::Literal(text, _, _) => { if text.is_empty() { None } else { Some(term) } }
+        _ => None,
     }
 }
 
-// The first triple whose object is a literal that isn't empty.
-fn first_filled<'s, 'a>(statements: &'s [Statement<'a>]) -> Option<&'s Statement<'a>>
-    ensures { option_copied result ≡ find (λ t. is_filled t.object) statements.now }
+// The earlier, in the order of terms, of what is there.
+fn earlier<'a>(best: Option<&'a Term>, other: Option<&'a Term>) -> Option<&'a Term>
+    ensures { option_copied result ≡
+        lesser_of term_cmp (option_copied best.entry) (option_copied other.entry) }
 {
-    statements
-        .iter()
-        .find(|statement| is_filled(&statement.triple().object))
+    match (best, other) {
+        (Some(best), Some(other)) => {
+            Some(if compare_terms(other, best).is_lt() {
+                other
+            } else {
+                best
+            })
+        }
+        (None, Some(other)) => Some(other),
+        (best, None) => best,
+    }
 }
 
-/// The text of the first literal that isn't empty, or else empty.
+// Of the literals that aren't empty, the one that comes before all others.
+fn pick<'a>(statements: &[Statement<'a>]) -> Option<&'a Term>
+    ensures { option_copied result ≡ pick statements.now }
+{
+    let mut best = None;
+    for statement in statements {
+        best = earlier(best, filled(&statement.triple().object));
+    }
+    best
+}
+
+/// The text of the literal that isn't empty and comes before all others, or else empty.
 #[tactic(auto, unfolding(crate::specs::Picks::picked))]
 pub(crate) fn picked<'a>(statements: &[Statement<'a>]) -> &'a str
     ensures { result.now ≡ picked statements.now }
 {
-    match first_filled(statements) {
-        Some(statement) => text_of(&statement.triple().object),
+    match pick(statements) {
+        Some(literal) => text_of(literal),
         None => "",
     }
 }

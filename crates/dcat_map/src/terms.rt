@@ -68,26 +68,40 @@ fn datatype_of(term: &Term) -> &str
     }
 }
 
-/// The order of terms by which one of several literals is picked.
+/// The order of terms by which one of several literals is picked. It looks no further than where they first differ.
 #[tactic(auto, unfolding(crate::specs::Terms::term_cmp))]
 pub(crate) fn compare_terms(first: &Term, second: &Term) -> Ordering
     ensures { result ≡ term_cmp first.now second.now }
 {
-    rank_of(first)
-        .cmp(&rank_of(second))
-        .then(language_of(first).cmp(language_of(second)))
-        .then(text_of(first).cmp(text_of(second)))
-        .then(datatype_of(first).cmp(datatype_of(second)))
+    let by_rank = rank_of(first).cmp(&rank_of(second));
+    if by_rank.is_ne() {
+        return by_rank;
+    }
+    let by_language = language_of(first).cmp(language_of(second));
+    if by_language.is_ne() {
+        return by_language;
+    }
+    let by_text = text_of(first).cmp(text_of(second));
+    if by_text.is_ne() {
+        return by_text;
+    }
+    datatype_of(first).cmp(datatype_of(second))
 }
 
-/// The order of triples by subject, then predicate, then object.
+/// The order of triples by subject, then predicate, then object. It looks no further than where they first differ.
 #[tactic(auto, unfolding(crate::specs::Terms::triple_cmp))]
 pub(crate) fn compare_triples(first: &Triple, second: &Triple) -> Ordering
     ensures { result ≡ triple_cmp first.now second.now }
 {
-    compare_terms(&first.subject, &second.subject)
-        .then(first.predicate.cmp(&second.predicate))
-        .then(compare_terms(&first.object, &second.object))
+    let by_subject = compare_terms(&first.subject, &second.subject);
+    if by_subject.is_ne() {
+        return by_subject;
+    }
+    let by_predicate = first.predicate.cmp(&second.predicate);
+    if by_predicate.is_ne() {
+        return by_predicate;
+    }
+    compare_terms(&first.object, &second.object)
 }
 
 /// Whether the term is this IRI.

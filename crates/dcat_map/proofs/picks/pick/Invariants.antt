@@ -1,0 +1,11 @@
+use Rattle.std.proofs.Common.{◌≡◌, take}
+use Rattle.std.specs.List.{filter_map}
+use Rattle.std.specs.Option.{option_copied}
+use Rattle.dcat_map.specs.Sets.{least}
+use Rattle.dcat_map.specs.Terms.{term_cmp}
+use Rattle.dcat_map.specs.Picks.{filled}
+use Rattle.dcat_map.proofs.picks.pick.Given as goal
+
+abbrev pub invariant-loop-statement : goal.invariant-loop-statement
+invariant-loop-statement l =
+    option_copied l.best ≡ least term_cmp (filter_map (λ t. filled t.object) (take l.statement-index l.statements))

@@ -1,0 +1,88 @@
+//! The distributions that several datasets of a graph share, each described once.
+ghost use Rattle.std.specs.Prelude.{◌≡◌, List, IfOk, IfSome};
+ghost use Rattle.ntriples.specs.declared.term.Triple.{Triple};
+ghost use Rattle.dcat_map.specs.Distributions.{distribution_in, AreDescribed};
+
+use crate::distributions::{distribution_of, is_node};
+use crate::graph::Graph;
+use crate::node::Node;
+use crate::record::Distribution;
+use crate::terms::compare_terms;
+use crate::vocabulary::DISTRIBUTION;
+use ntriples::Term;
+use std::alloc::{AllocError, Global};
+
+/// An IRI or a blank node, and what the graph says of it as a distribution.
+#[derive(Drop)]
+pub(crate) struct Shared<'a> {
+    node: Node<'a>,
+    distribution: Distribution,
+}
+
+impl<'a> Shared<'a> {
+    fn of(alloc: Global, graph: &Graph<'_>, node: &'a Term) -> Result<Shared<'a>, AllocError>
+        ensures { IfOk result (λ shared. shared.distribution ≡ distribution_in graph.now shared.node) }
+    {
+        Ok(Shared {
+            distribution: distribution_of(alloc, graph, node)?,
+            node: Node::of(node),
+        })
+    }
+}
+
+/// Describes what several datasets of the graph have as a distribution.
+pub(crate) fn described_shared<'a>(
+    alloc: Global,
+    graph: &Graph<'a>,
+) -> Result<Vec<Shared<'a>>, AllocError>
+    ensures { IfOk result (λ shared. AreDescribed graph.now shared.items) }
+{
+    let nodes = shared_nodes(alloc, graph)?;
+    let mut shared = Vec::new(alloc);
+    for node in &nodes {
+        shared.push(Shared::of(alloc, graph, node.term())?)?;
+    }
+    Ok(shared)
+}
+
+/// What is known of the node, if it was described.
+pub(crate) fn find<'s>(shared: &'s [Shared<'_>], node: &Term) -> Option<&'s Distribution>
+    ensures { (g : List Triple) → AreDescribed g shared.now →
+        IfSome result (λ distribution. distribution.now ≡ distribution_in g node.now) }
+{
+    let place = shared.partition_point(|one| compare_terms(one.node.term(), node).is_lt());
+    let found = shared.get(place)?;
+    if compare_terms(found.node.term(), node).is_eq() {
+        Some(&found.distribution)
+    } else {
+        None
+    }
+}
+
+// The IRIs and blank nodes that several datasets have as a distribution, each once and in order.
+fn shared_nodes<'a>(alloc: Global, graph: &Graph<'a>) -> Result<Vec<Node<'a>>, AllocError> {
+    let mut nodes = all_nodes(alloc, graph)?;
+    nodes.sort_unstable();
+    let mut shared: Vec<Node<'a>> = Vec::new(alloc);
+    for pair in nodes.windows(2) {
+        if let [first, second] = pair {
+            if first == second {
+                shared.push(Node::of(second.term()))?;
+            }
+        }
+    }
+    shared.dedup();
+    Ok(shared)
+}
+
+// What some dataset has as a distribution, once for each.
+fn all_nodes<'a>(alloc: Global, graph: &Graph<'a>) -> Result<Vec<Node<'a>>, AllocError> {
+    let mut nodes = Vec::new(alloc);
+    for statement in graph.statements() {
+        let triple = statement.triple();
+        if triple.predicate.as_str() == DISTRIBUTION && is_node(&triple.object) {
+            nodes.push(Node::of(&triple.object))?;
+        }
+    }
+    Ok(nodes)
+}
