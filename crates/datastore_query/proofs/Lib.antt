@@ -1,3 +1,4 @@
+pub mod DistinctLemmas
 mod Examples
 pub mod ListedLemmas
 pub mod OrderLemmas

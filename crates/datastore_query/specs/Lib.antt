@@ -1,4 +1,5 @@
 pub mod Column
+pub mod Distinct
 pub mod Filter
 pub mod Query
 pub mod Results

@@ -1,20 +1,24 @@
 //! The rows of a query: selected, in order, and cut to a page.
-ghost use Rattle.std.specs.Prelude.{◌≡◌, All, IfOk, drop, filter, fold, map, take};
+ghost use Rattle.std.specs.Prelude.{◌≡◌, [], true, All, IfOk, IsTrue, OnOk, drop, filter, fold, map, nat_eq, take};
+ghost use Rattle.std.specs.HashMap.{get};
 ghost use Rattle.std.specs.List.{list_any};
 ghost use Rattle.table_schema.specs.Printed.{IsValue};
 ghost use Rattle.datastore_table.specs.Cells.{same_cells};
+ghost use Rattle.datastore_table.specs.Index.{digest_of};
 ghost use Rattle.datastore_query.specs.Column.{projected};
+ghost use Rattle.datastore_query.specs.Distinct.{AreNoted};
 ghost use Rattle.datastore_query.specs.Query.{firsts, is_selected, with_first};
 
 use crate::column::{Column, projected};
 use crate::filter::{Filter, passes_filters};
 use crate::order::LentRow;
 use crate::words::has_words;
-use datastore_table::Row;
+use datastore_table::{Row, cells_digest};
 use portal_base::copy::TryClone;
 use portal_base::seq::Seq;
 use portal_base::text::Text;
 use std::alloc::{AllocError, Global};
+use std::collections::HashMap;
 use table_schema::Cell;
 
 /// A part of a list: so many items at most, behind some that are left out.
@@ -103,15 +107,55 @@ fn is_among(rows: &[Seq<Cell>], row: &[Cell]) -> bool
     rows.iter().any(|other| is_same(row, other.as_slice()))
 }
 
+// Whether the row at this place is equal to this one.
+fn is_at(rows: &[Seq<Cell>], place: usize, row: &[Cell]) -> bool
+    ensures { IsTrue result → list_any (same_cells row.now) rows.now ≡ true }
+{
+    match rows.get(place) {
+        Some(other) => is_same(row, other.as_slice()),
+        None => false,
+    }
+}
+
+// Whether the row of this digest is among those that were kept, each of whose digests is noted with a place.
+fn is_kept(kept: &[Seq<Cell>], noted: &HashMap<u64, usize>, row: &[Cell], digest: u64) -> bool
+    requires noted { AreNoted kept.now (get nat_eq noted.now) }
+    requires digest { digest ≡ digest_of [] row.now }
+    ensures { result ≡ list_any (same_cells row.now) kept.now }
+{
+    match noted.get(&digest) {
+        Some(place) => is_at(kept, *place, row) || is_among(kept, row),
+        None => false,
+    }
+}
+
+// Keeps the row, unless it is kept already.
+fn keep(
+    kept: &mut Vec<Seq<Cell>>,
+    noted: &mut HashMap<u64, usize>,
+    row: Seq<Cell>,
+) -> Result<(), AllocError>
+    requires { AreNoted kept.old.items (get nat_eq noted.old) }
+    ensures kept { OnOk result (kept.new.items ≡ with_first same_cells kept.old.items row) }
+    ensures noted { OnOk result (AreNoted kept.new.items (get nat_eq noted.new)) }
+{
+    let digest = cells_digest(row.as_slice());
+    if is_kept(kept.as_slice(), noted, row.as_slice(), digest) {
+        return Ok(());
+    }
+    noted.insert(digest, kept.len())?;
+    kept.push(row)?;
+    Ok(())
+}
+
 /// Of equal rows the first.
 pub(crate) fn firsts(alloc: Global, rows: Vec<Seq<Cell>>) -> Result<Vec<Seq<Cell>>, AllocError>
     ensures { IfOk result (λ kept. kept.items ≡ firsts same_cells rows.items) }
 {
     let mut kept = Vec::new(alloc);
+    let mut noted = HashMap::new(alloc);
     for row in rows {
-        if !is_among(kept.as_slice(), row.as_slice()) {
-            kept.push(row)?;
-        }
+        keep(&mut kept, &mut noted, row)?;
     }
     Ok(kept)
 }

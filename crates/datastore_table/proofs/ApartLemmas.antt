@@ -45,9 +45,9 @@ or_true : (b : Bool) → (b || true) ≡ true
 or_true true = refl
 or_true false = refl
 
-any-map : {A B : Type 0} (f : A → B) (p : B → Bool) (xs : List A) → list_any p (map f xs) ≡ list_any (λ x. p (f x)) xs
-any-map f p [] = refl
-any-map f p (x ∷ xs) = ap (λ b. p (f x) || b) (any-map f p xs)
+pub any_map : {A B : Type 0} (f : A → B) (p : B → Bool) (xs : List A) → list_any p (map f xs) ≡ list_any (λ x. p (f x)) xs
+any_map f p [] = refl
+any_map f p (x ∷ xs) = ap (λ b. p (f x) || b) (any_map f p xs)
 
 -- ---- the key of a record is that of its cells
 
@@ -136,7 +136,7 @@ put_record-keys method schema number given work after up apart h = by (is_empty 
         own_key number schema.fields (kept_cells method (row_with schema.key own work.rows)) given cells parts.cells
         schema.key parts.key (keeps_none method schema.key own work.rows) in
         let full : has_null (cells_at schema.key cells) ≡ false =
-        any-map (cell_at cells) is_null schema.key ∙ parts.key in
+        any_map (cell_at cells) is_null schema.key ∙ parts.key in
         let was : are_apart (has_key_of schema.key) work.rows ≡ true =
         ap (λ b. b || are_apart (has_key_of schema.key) work.rows) (sym e) ∙ apart in
         let one = are_one (has_key_of schema.key) (key_turned schema.key) work.rows was in

@@ -44,7 +44,7 @@ use Rattle.datastore_table.proofs.RowLemmas.{both_hold}
 
 -- ---- rows by their tests
 
-any-found : {X : Type 0} (p : X → Bool) (xs : List X) → list_any p xs ≡ true → (x : X) × IsIn x xs × (p x ≡ true)
+pub any-found : {X : Type 0} (p : X → Bool) (xs : List X) → list_any p xs ≡ true → (x : X) × IsIn x xs × (p x ≡ true)
 any-found p [] h = absurd (cc)
 any-found {X} p (x ∷ xs) h = by (any-found p xs) (p x) refl h
   where
@@ -53,7 +53,7 @@ any-found {X} p (x ∷ xs) h = by (any-found p xs) (p x) refl h
     by more true e s = (x, inl refl, e)
     by more false e s = let rest = more s in (rest.0, inr rest.1, rest.2)
 
-found-any : {X : Type 0} (p : X → Bool) (x : X) (xs : List X) → IsIn x xs → p x ≡ true → list_any p xs ≡ true
+pub found-any : {X : Type 0} (p : X → Bool) (x : X) (xs : List X) → IsIn x xs → p x ≡ true → list_any p xs ≡ true
 found-any p x [] m h = absurd m
 found-any p x (y ∷ ys) (inl e) h = ap (λ b. b || list_any p ys) (ap p (sym e) ∙ h)
 found-any p x (y ∷ ys) (inr m) h = ap (λ b. p y || b) (found-any p x ys m h) ∙ or_true (p y)

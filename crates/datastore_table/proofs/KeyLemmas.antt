@@ -64,7 +64,7 @@ any-in p [] none b m = absurd m
 any-in p (row ∷ rows) none b (inl e) = ap p e ∙ (both_false (p row) (list_any p rows) none).0
 any-in p (row ∷ rows) none b (inr m) = any-in p rows (both_false (p row) (list_any p rows) none).1 b m
 
-in-any : (p : Row → Bool) (rows : List Row) → ((b : Row) → IsIn b rows → p b ≡ false) → list_any p rows ≡ false
+pub in-any : (p : Row → Bool) (rows : List Row) → ((b : Row) → IsIn b rows → p b ≡ false) → list_any p rows ≡ false
 in-any p [] none = refl
 in-any p (row ∷ rows) none =
     ap (λ t. t || list_any p rows) (none row (inl refl)) ∙ in-any p rows (λ b m. none b (inr m))

@@ -3,6 +3,7 @@ pub mod ApartLemmas
 pub mod CellLemmas
 pub mod CutLemmas
 mod Examples
+pub mod FoundLemmas
 pub mod HeldLemmas
 pub mod KeptLemmas
 pub mod KeyLemmas
@@ -10,7 +11,9 @@ pub mod MeetLemmas
 pub mod Merged
 pub mod NumberLemmas
 pub mod PutLemmas
+pub mod RestoredLemmas
 pub mod ResultLemmas
 pub mod RowLemmas
 pub mod SearchLemmas
+pub mod StockLemmas
 pub mod WorkLemmas

@@ -335,7 +335,7 @@ find-merged {X} cmp o p ws xs uw ux = by (find p ws) refl (find q xs) refl
     by (Some a) e (Some b) f =
         rw (e, f) (of_two a b (found-least cmp o p a ws uw e) (found-least cmp o q b xs ux f) (is_lt (cmp b a)) refl)
 
-is_some-find : {X : Type 0} (p : X → Bool) (xs : List X) → list_any p xs ≡ is_some (find p xs)
+pub is_some-find : {X : Type 0} (p : X → Bool) (xs : List X) → list_any p xs ≡ is_some (find p xs)
 is_some-find p [] = refl
 is_some-find {X} p (x ∷ xs) = by (is_some-find p xs) (p x)
   where

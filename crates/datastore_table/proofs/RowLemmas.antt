@@ -17,7 +17,7 @@ use Rattle.datastore_table.specs.Rows.{earlier, has_cells, has_id, has_like, is_
 use Rattle.datastore_table.specs.Rows.{row_cmp_total, rows_after, takes_cell}
 use Rattle.datastore_table.proofs.Merged.{find-merged, list_any-merged}
 
-find-same : {X : Type 0} (p q : X → Bool) → ((x : X) → p x ≡ q x) → (xs : List X) → find p xs ≡ find q xs
+pub find-same : {X : Type 0} (p q : X → Bool) → ((x : X) → p x ≡ q x) → (xs : List X) → find p xs ≡ find q xs
 find-same p q e [] = refl
 find-same p q e (x ∷ xs) = ap₂ (λ b o. cond b (Some x) o) (e x) (find-same p q e xs)
 
@@ -55,7 +55,7 @@ pub held_standing : (key : List ℕ) (cells : List Cell) (written rows : List Ro
     || list_any (λ row. has_cells key cells row && not (has_like written row)) rows)
 held_standing key cells written rows uw ur = any_standing (has_cells key cells) written rows uw ur
 
-same_id : (a b : ℕ) → is_eq (nat_cmp a b) ≡ (a == b)
+pub same_id : (a b : ℕ) → is_eq (nat_cmp a b) ≡ (a == b)
 same_id a b = unsigned_tied a b
 
 -- A row of that `_id` is like each other of it.

@@ -1,5 +1,6 @@
 pub mod Batch
 pub mod Cells
+pub mod Index
 pub mod Meets
 pub mod Put
 pub mod Record

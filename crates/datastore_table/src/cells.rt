@@ -64,7 +64,7 @@ pub(crate) fn has_null(cells: &[Cell]) -> bool
 }
 
 // Whether there is no cell at this place, or Null.
-fn is_null_at(cells: &[Cell], place: usize) -> bool
+pub(crate) fn is_null_at(cells: &[Cell], place: usize) -> bool
     ensures { result ≡ is_null (cell_at cells.now place) }
 {
     match cells.get(place) {
@@ -144,7 +144,7 @@ pub(crate) fn are_same_between(
 }
 
 #[tactic(auto, using(crate::proofs::CellLemmas::null_as_same))]
-fn is_same_between(cells: &[Cell], place: u32, others: &[Cell], elsewhere: u32) -> bool
+pub(crate) fn is_same_between(cells: &[Cell], place: u32, others: &[Cell], elsewhere: u32) -> bool
     ensures { result ≡ same_cell (cell_at cells.now place) (cell_at others.now elsewhere) }
 {
     match others.get(elsewhere as usize) {

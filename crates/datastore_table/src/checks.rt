@@ -5,8 +5,9 @@ ghost use Rattle.datastore_table.specs.References.{foreign_checked, foreign_fiel
 
 use crate::batch::Batch;
 use crate::fault::TableFault;
-use crate::references::{Standing, check_all};
+use crate::references::check_all;
 use crate::removal::{Removal, check_referred_from};
+use crate::rows::Standing;
 use crate::table::Table;
 use table_schema::Foreign;
 
@@ -30,6 +31,7 @@ pub fn check_foreign(batch: &Batch, foreign: u32, target: &Table) -> Result<(), 
         places,
         target.schema().key().as_slice(),
         &rows,
+        target.index(),
         &changed,
         batch.work.written(),
     )

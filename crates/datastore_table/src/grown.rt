@@ -1,11 +1,13 @@
 //! How many rows a batch would leave.
 ghost use Rattle.std.specs.Prelude.{◌≡◌, ◌+◌, ◌&&◌, not, length, nat_lt, IfOk, OnOk};
+ghost use Rattle.datastore_table.specs.Index.{IsKeyed};
 ghost use Rattle.datastore_table.specs.Put.{admitted, grown_length, has_key, is_new_key, most_rows, needs_key};
 ghost use Rattle.datastore_table.specs.Put.{new_keys, with_key};
 ghost use Rattle.datastore_table.specs.Results.{Answers};
 
 use crate::cells::{are_same, has_null};
 use crate::fault::TableFault;
+use crate::index::Index;
 use crate::method::Method;
 use crate::reading::key_of;
 use crate::row::Row;
@@ -25,13 +27,15 @@ pub(crate) fn admit(
     records: &[Json],
     schema: &Schema,
     rows: &[Row],
+    index: &Index,
 ) -> Result<(), TableFault>
+    requires { IsKeyed schema.now.key rows.now index.now }
     ensures { Answers result (admitted method records.now schema.now rows.now) }
 {
     if needs_key(method) && schema.key().is_empty() {
         return Err(TableFault::NoKey);
     }
-    let added = added_rows(alloc, method, records, schema, rows)?;
+    let added = added_rows(alloc, method, records, schema, rows, index)?;
     if is_full(rows.len(), added) {
         Err(TableFault::Full)
     } else {
@@ -62,12 +66,14 @@ fn added_rows(
     records: &[Json],
     schema: &Schema,
     rows: &[Row],
+    index: &Index,
 ) -> Result<usize, AllocError>
+    requires { IsKeyed schema.now.key rows.now index.now }
     ensures { IfOk result (λ added. length rows.now + added ≡ grown_length method schema.now rows.now records.now) }
 {
     match method {
         Method::Insert => Ok(records.len()),
-        Method::Upsert => Ok(new_keys(alloc, schema, rows, records)?.len()),
+        Method::Upsert => Ok(new_keys(alloc, schema, rows, index, records)?.len()),
         Method::Update => Ok(0),
     }
 }
@@ -77,14 +83,16 @@ fn new_keys(
     alloc: Global,
     schema: &Schema,
     rows: &[Row],
+    index: &Index,
     records: &[Json],
 ) -> Result<Vec<Seq<Cell>>, AllocError>
+    requires { IsKeyed schema.now.key rows.now index.now }
     ensures { IfOk result (λ keys. keys.items ≡ new_keys schema.now rows.now records.now) }
 {
     let mut keys = Vec::new(alloc);
     for given in records {
         let key = key_of(alloc, schema, given)?;
-        add_key(&mut keys, schema, rows, key)?;
+        add_key(&mut keys, schema, rows, index, key)?;
     }
     Ok(keys)
 }
@@ -94,27 +102,31 @@ fn add_key(
     keys: &mut Vec<Seq<Cell>>,
     schema: &Schema,
     rows: &[Row],
+    index: &Index,
     key: Seq<Cell>,
 ) -> Result<(), AllocError>
+    requires { IsKeyed schema.now.key rows.now index.now }
     ensures { OnOk result (keys.new.items ≡ with_key schema.now rows.now keys.old.items key) }
 {
-    if !is_wanted(keys.as_slice(), schema, rows, key.as_slice()) {
+    if !is_wanted(keys.as_slice(), schema, rows, index, key.as_slice()) {
         return Ok(());
     }
     keys.push(key)?;
     Ok(())
 }
 
-fn is_wanted(keys: &[Seq<Cell>], schema: &Schema, rows: &[Row], key: &[Cell]) -> bool
+fn is_wanted(keys: &[Seq<Cell>], schema: &Schema, rows: &[Row], index: &Index, key: &[Cell]) -> bool
+    requires { IsKeyed schema.now.key rows.now index.now }
     ensures { result ≡ (is_new_key schema.now rows.now key.now && not (has_key keys.now key.now)) }
 {
-    is_new_key(schema, rows, key) && !has_key(keys, key)
+    is_new_key(schema, rows, index, key) && !has_key(keys, key)
 }
 
-fn is_new_key(schema: &Schema, rows: &[Row], key: &[Cell]) -> bool
+fn is_new_key(schema: &Schema, rows: &[Row], index: &Index, key: &[Cell]) -> bool
+    requires { IsKeyed schema.now.key rows.now index.now }
     ensures { result ≡ is_new_key schema.now rows.now key.now }
 {
-    !(has_null(key) || row_with(rows, schema.key().as_slice(), key).is_some())
+    !(has_null(key) || row_with(rows, index, schema.key().as_slice(), key).is_some())
 }
 
 fn has_key(keys: &[Seq<Cell>], key: &[Cell]) -> bool

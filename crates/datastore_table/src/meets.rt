@@ -1,20 +1,24 @@
 //! Whether rows meet a schema.
-ghost use Rattle.std.specs.Prelude.{◌≡◌, ◌&&◌, ◌||◌, not, int_le, is_none, length};
+ghost use Rattle.std.specs.Prelude.{◌≡◌, ◌==◌, ◌&&◌, ◌||◌, true, not, int_le, is_none, length, [], ◌∷◌};
 ghost use Rattle.portal_base.specs.Moment.{first_moment, last_moment};
+ghost use Rattle.portal_base.specs.Ordered.{IsAscending};
 ghost use Rattle.std.specs.List.{list_all, list_any};
 ghost use Rattle.lexical_forms.specs.Digits.{is_empty};
 ghost use Rattle.table_schema.specs.Form.{kind_of};
 ghost use Rattle.table_schema.specs.Keys.{same_kind};
 ghost use Rattle.table_schema.specs.Reading.{kind_of_cell};
+ghost use Rattle.datastore_table.specs.Index.{columns_of, is_twice, IsIndexed, IsIndexedAt, IsKeyed, IsUniquelyIndexed};
 ghost use Rattle.datastore_table.specs.Meets.{are_accepted, are_apart, ascend_from, has_cell_of, has_key_of};
-ghost use Rattle.datastore_table.specs.Meets.{is_accepted};
-ghost use Rattle.datastore_table.specs.Meets.{is_held_by, is_numbered, is_of_kind, is_value, keys_apart, meets_schema};
-ghost use Rattle.datastore_table.specs.Meets.{is_restorable, row_meets, uniques_apart};
+ghost use Rattle.datastore_table.specs.Meets.{is_accepted, is_held_by, is_numbered, is_of_kind, is_value, keys_apart};
+ghost use Rattle.datastore_table.specs.Meets.{row_meets, uniques_apart};
 ghost use Rattle.datastore_table.specs.References.{is_broken};
+ghost use Rattle.datastore_table.specs.Rows.{row_cmp};
 
 use crate::cells::{are_same_between, has_null_at, is_null, is_same_at};
-use crate::references::is_broken_among;
+use crate::index::Index;
+use crate::references::is_broken;
 use crate::row::Row;
+use crate::rows::{Standing, row_at};
 use table_schema::{Cell, Field, Foreign, Kind, Schema};
 
 /// Above every number of billionths in size.
@@ -36,17 +40,21 @@ const SECONDS_PER_DAY: u32 = 86_400;
 
 const LAST_YEAR: u16 = 9999;
 
-// Whether the rows meet the schema.
-fn meets_schema(schema: &Schema, rows: &[Row]) -> bool
-    ensures { result ≡ meets_schema schema.now rows.now }
+/// Whether rows that each meet the schema do so together.
+pub(crate) fn are_related(schema: &Schema, rows: &[Row], index: &Index) -> bool
+    requires ascending { IsAscending row_cmp rows.now }
+    requires met { list_all (row_meets schema.now) rows.now ≡ true }
+    requires indexed { IsIndexed (columns_of schema.now) rows.now index.now }
+    ensures { result ≡ (keys_apart schema.now.key rows.now && (uniques_apart 0 schema.now.fields rows.now
+        && list_all (is_held_by schema.now.key rows.now) schema.now.foreign)) }
 {
-    do_all_meet(schema, rows)
-        && are_keys_apart(schema.key().as_slice(), rows)
-        && are_uniques_apart(schema.fields().as_slice(), rows)
-        && are_all_held(schema, rows)
+    are_keys_apart(schema, rows, index)
+        && are_uniques_apart(schema.fields().as_slice(), rows, index)
+        && are_all_held(schema, rows, index)
 }
 
-fn do_all_meet(schema: &Schema, rows: &[Row]) -> bool
+/// Whether each row meets the schema.
+pub(crate) fn do_all_meet(schema: &Schema, rows: &[Row]) -> bool
     ensures { result ≡ list_all (row_meets schema.now) rows.now }
 {
     rows.iter().all(|row| does_row_meet(schema, row))
@@ -57,13 +65,6 @@ fn does_row_meet(schema: &Schema, row: &Row) -> bool
 {
     let cells = row.cells.as_slice();
     are_accepted(schema.fields().as_slice(), cells) && !has_null_at(cells, schema.key().as_slice())
-}
-
-/// Whether these are the rows and the next `_id` of a table of the schema.
-pub(crate) fn is_restorable(schema: &Schema, rows: &[Row], next_id: u64) -> bool
-    ensures { result ≡ is_restorable schema.now rows.now next_id }
-{
-    is_numbered(rows, next_id) && meets_schema(schema, rows)
 }
 
 // Whether there is one cell for each field, which the field accepts.
@@ -147,58 +148,112 @@ fn is_moment(seconds: i64) -> bool
     FIRST_SECOND <= seconds && seconds <= LAST_SECOND
 }
 
-fn are_keys_apart(key: &[u32], rows: &[Row]) -> bool
-    ensures { result ≡ keys_apart key.now rows.now }
+#[tactic(auto, using(crate::proofs::StockLemmas::key_indexed))]
+fn are_keys_apart(schema: &Schema, rows: &[Row], index: &Index) -> bool
+    requires ascending { IsAscending row_cmp rows.now }
+    requires met { list_all (row_meets schema.now) rows.now ≡ true }
+    requires indexed { IsIndexed (columns_of schema.now) rows.now index.now }
+    ensures { result ≡ keys_apart schema.now.key rows.now }
 {
-    key.is_empty() || no_key_twice(key, rows)
+    let key = schema.key().as_slice();
+    key.is_empty() || no_key_twice(schema, key, rows, index)
 }
 
-fn no_key_twice(key: &[u32], rows: &[Row]) -> bool
+// Of two rows with equal keys the index has one under no digest.
+fn no_key_twice(schema: &Schema, key: &[u32], rows: &[Row], index: &Index) -> bool
+    requires ascending { IsAscending row_cmp rows.now }
+    requires met { list_all (row_meets schema.now) rows.now ≡ true }
+    requires key { key.now ≡ schema.now.key }
+    requires indexed { IsIndexedAt key.now rows.now index.now }
     ensures { result ≡ are_apart (has_key_of key.now) rows.now }
 {
-    for place in 0..rows.len() {
-        if is_key_among(key, &rows[place], &rows[place + 1..]) {
-            return false;
-        }
-    }
-    true
+    !is_any_key_twice(key, rows, index.crowded())
 }
 
-fn is_key_among(key: &[u32], row: &Row, others: &[Row]) -> bool
-    ensures { result ≡ list_any (has_key_of key.now row.now) others.now }
+// Whether another row than that of one of these `_id`s has its key.
+fn is_any_key_twice(key: &[u32], rows: &[Row], ids: &[u64]) -> bool
+    requires { IsAscending row_cmp rows.now }
+    ensures { result ≡ list_any (is_twice (has_key_of key.now) rows.now) ids.now }
 {
-    others.iter().any(|other| {
-        are_same_between(other.cells.as_slice(), key, row.cells.as_slice(), key)
-    })
+    ids.iter().any(|id| is_key_twice(key, rows, *id))
+}
+
+// Whether another row than that of this `_id` has its key.
+fn is_key_twice(key: &[u32], rows: &[Row], id: u64) -> bool
+    requires { IsAscending row_cmp rows.now }
+    ensures { result ≡ is_twice (has_key_of key.now) rows.now id }
+{
+    match row_at(rows, id) {
+        Some(row) => has_key_elsewhere(key, row, rows),
+        None => false,
+    }
+}
+
+fn has_key_elsewhere(key: &[u32], row: &Row, rows: &[Row]) -> bool
+    ensures { result ≡ list_any (λ other. not (other.id == row.now.id) && has_key_of key.now row.now other) rows.now }
+{
+    rows.iter().any(|other| has_same_key(key, row, other))
+}
+
+fn has_same_key(key: &[u32], row: &Row, other: &Row) -> bool
+    ensures { result ≡ (not (other.now.id == row.now.id) && has_key_of key.now row.now other.now) }
+{
+    !(other.id == row.id)
+        && are_same_between(other.cells.as_slice(), key, row.cells.as_slice(), key)
 }
 
 // Whether no unique field has equal cells other than Null in two rows.
-fn are_uniques_apart(fields: &[Field], rows: &[Row]) -> bool
+fn are_uniques_apart(fields: &[Field], rows: &[Row], index: &Index) -> bool
+    requires ascending { IsAscending row_cmp rows.now }
+    requires indexed { IsUniquelyIndexed fields.now rows.now index.now }
     ensures { result ≡ uniques_apart 0 fields.now rows.now }
 {
     for (place, field) in fields.iter().enumerate() {
-        if field.constraints().unique && !no_cell_twice(place, rows) {
+        if field.constraints().unique && !no_cell_twice(place, rows, index) {
             return false;
         }
     }
     true
 }
 
-fn no_cell_twice(place: usize, rows: &[Row]) -> bool
+// Of two rows with equal cells the index has one under no digest.
+fn no_cell_twice(place: usize, rows: &[Row], index: &Index) -> bool
+    requires ascending { IsAscending row_cmp rows.now }
+    requires indexed { IsIndexedAt (place ∷ []) rows.now index.now }
     ensures { result ≡ are_apart (has_cell_of place) rows.now }
 {
-    for at in 0..rows.len() {
-        if is_cell_among(place, &rows[at], &rows[at + 1..]) {
-            return false;
-        }
-    }
-    true
+    !is_any_cell_twice(place, rows, index.crowded())
 }
 
-fn is_cell_among(place: usize, row: &Row, others: &[Row]) -> bool
-    ensures { result ≡ list_any (has_cell_of place row.now) others.now }
+// Whether another row than that of one of these `_id`s has its cell at this place, other than Null.
+fn is_any_cell_twice(place: usize, rows: &[Row], ids: &[u64]) -> bool
+    requires { IsAscending row_cmp rows.now }
+    ensures { result ≡ list_any (is_twice (has_cell_of place) rows.now) ids.now }
 {
-    others.iter().any(|other| has_cell_of(place, row, other))
+    ids.iter().any(|id| is_cell_twice(place, rows, *id))
+}
+
+// Whether another row than that of this `_id` has its cell at this place, other than Null.
+fn is_cell_twice(place: usize, rows: &[Row], id: u64) -> bool
+    requires { IsAscending row_cmp rows.now }
+    ensures { result ≡ is_twice (has_cell_of place) rows.now id }
+{
+    match row_at(rows, id) {
+        Some(row) => has_cell_elsewhere(place, row, rows),
+        None => false,
+    }
+}
+
+fn has_cell_elsewhere(place: usize, row: &Row, rows: &[Row]) -> bool
+    ensures { result ≡ list_any (λ other. not (other.id == row.now.id) && has_cell_of place row.now other) rows.now }
+{
+    rows.iter().any(|other| has_same_cell(place, row, other))
+}
+
+fn has_same_cell(place: usize, row: &Row, other: &Row) -> bool
+    ensures { result ≡ (not (other.now.id == row.now.id) && has_cell_of place row.now other.now) }
+{
+    !(other.id == row.id) && has_cell_of(place, row, other)
 }
 
 fn has_cell_of(place: usize, row: &Row, other: &Row) -> bool
@@ -210,31 +265,35 @@ fn has_cell_of(place: usize, row: &Row, other: &Row) -> bool
     }
 }
 
-fn are_all_held(schema: &Schema, rows: &[Row]) -> bool
+fn are_all_held(schema: &Schema, rows: &[Row], index: &Index) -> bool
+    requires { IsKeyed schema.now.key rows.now index.now }
     ensures { result ≡ list_all (is_held_by schema.now.key rows.now) schema.now.foreign }
 {
     let key = schema.key().as_slice();
     let foreigns = schema.foreign().as_slice();
     foreigns
         .iter()
-        .all(|foreign| is_held_by(key, rows, foreign))
+        .all(|foreign| is_held_by(key, rows, index, foreign))
 }
 
-fn is_held_by(key: &[u32], rows: &[Row], foreign: &Foreign) -> bool
+fn is_held_by(key: &[u32], rows: &[Row], index: &Index, foreign: &Foreign) -> bool
+    requires { IsKeyed key.now rows.now index.now }
     ensures { result ≡ is_held_by key.now rows.now foreign.now }
 {
-    !foreign.resource.is_empty() || is_none_broken(foreign.fields.as_slice(), key, rows)
+    !foreign.resource.is_empty() || is_none_broken(foreign.fields.as_slice(), key, rows, index)
 }
 
-fn is_none_broken(places: &[u32], key: &[u32], rows: &[Row]) -> bool
+fn is_none_broken(places: &[u32], key: &[u32], rows: &[Row], index: &Index) -> bool
+    requires { IsKeyed key.now rows.now index.now }
     ensures { result ≡ list_all (λ row. not (is_broken places.now key.now rows.now row)) rows.now }
 {
+    let target = Standing { rows, written: &[] };
     rows.iter()
-        .all(|row| !is_broken_among(places, key, rows, row))
+        .all(|row| !is_broken(places, key, &target, index, row))
 }
 
-// Whether the `_id`s ascend from 1 or more to below the next one.
-fn is_numbered(rows: &[Row], next_id: u64) -> bool
+/// Whether the `_id`s ascend from 1 or more to below the next one.
+pub(crate) fn is_numbered(rows: &[Row], next_id: u64) -> bool
     ensures { result ≡ is_numbered rows.now next_id }
 {
     1 <= next_id && do_ascend(rows, next_id)

@@ -1,27 +1,63 @@
 //! Rows, as they stand after some were written.
 ghost use Rattle.std.specs.Prelude.{◌≡◌, ◌<◌, ◌≤◌, ◌+◌, ◌&&◌, ◌||◌, not, length, option_copied, vec_len, vec_capacity};
-ghost use Rattle.std.specs.Prelude.{find};
+ghost use Rattle.std.specs.Prelude.{find, false, slice_get, Some, [], ◌∷◌};
 ghost use Rattle.std.specs.Prelude.{nat_lt, get_or};
 ghost use Rattle.std.specs.List.{list_any, prefix_len};
 ghost use Rattle.std.specs.Ordering.{is_eq, is_lt, nat_cmp};
 ghost use Rattle.lexical_forms.specs.Digits.{is_empty};
 ghost use Rattle.portal_base.specs.Ordered.{IsAscending, placed};
-ghost use Rattle.datastore_table.specs.Cells.{has_null};
+ghost use Rattle.datastore_table.specs.Cells.{cell_at, has_null, is_null};
+ghost use Rattle.datastore_table.specs.Index.{only, takes_still, unwritten, IsAlone, IsIndexedAt, IsKeyed};
 ghost use Rattle.datastore_table.specs.Rows.{earlier, has_cells, has_like, is_other, is_taken, row_at, row_cmp};
 ghost use Rattle.datastore_table.specs.Rows.{row_with};
 ghost use Rattle.datastore_table.specs.Rows.{rows_after, takes_cell};
 
-use crate::cells::{are_same_at, has_null, is_null, is_same_at};
+use crate::cells::{are_same_at, has_null, is_null_at, is_same_between};
+use crate::found::row_under;
+use crate::index::Index;
 use crate::row::Row;
+use crate::wanted::Wanted;
 use portal_base::ordered::Ordered;
 use std::mem;
 use table_schema::Cell;
 
+/// Rows as they stand after some of them were written.
+#[derive(Clone, Copy)]
+pub(crate) struct Standing<'a> {
+    pub rows: &'a [Row],
+    pub written: &'a [Row],
+}
+
 /// The row of this `_id`.
 pub(crate) fn row_at(rows: &[Row], id: u64) -> Option<&Row>
+    requires { IsAscending row_cmp rows.now }
     ensures { option_copied result ≡ row_at id rows.now }
 {
-    rows.iter().find(|row| row.id == id)
+    match item_at(rows, place_of_id(rows, id)) {
+        Some(row) => only(row, id),
+        None => None,
+    }
+}
+
+fn item_at(rows: &[Row], place: usize) -> Option<&Row>
+    ensures { option_copied result ≡ slice_get rows.now place }
+{
+    rows.get(place)
+}
+
+// The row, where it is of this `_id`.
+fn only(row: &Row, id: u64) -> Option<&Row>
+    ensures { option_copied result ≡ only id (Some row.now) }
+{
+    if row.id == id { Some(row) } else { None }
+}
+
+// How many rows are of lower `_id`s, which are those at the front.
+fn place_of_id(rows: &[Row], id: u64) -> usize
+    requires { IsAscending row_cmp rows.now }
+    ensures { result ≡ prefix_len (λ row. is_lt (nat_cmp row.id id)) rows.now }
+{
+    rows.partition_point(|row| row.id.cmp(&id).is_lt())
 }
 
 /// Whether one of the rows has this `_id`.
@@ -51,48 +87,71 @@ fn first_with<'a>(rows: &'a [Row], places: &[u32], cells: &[Cell]) -> Option<&'a
     rows.iter().find(|row| has_cells(row, places, cells))
 }
 
-// The first of the rows that have no `_id` of these others.
+// The first of the rows that have no `_id` of those that were written.
 fn first_apart_with<'a>(
-    rows: &'a [Row],
-    others: &[Row],
+    standing: &Standing<'a>,
+    index: &Index,
     places: &[u32],
     cells: &[Cell],
 ) -> Option<&'a Row>
-    ensures { option_copied result
-        ≡ find (λ row. has_cells places.now cells.now row && not (has_like others.now row)) rows.now }
+    requires keyed { IsKeyed places.now standing.now.rows.now index.now }
+    requires some { is_empty places.now ≡ false }
+    requires full { has_null cells.now ≡ false }
+    ensures { option_copied result ≡ find
+        (λ row. has_cells places.now cells.now row && not (has_like standing.now.written.now row))
+        standing.now.rows.now }
 {
-    rows.iter().find(|row| has_cells(row, places, cells) && !has_row(others, row.id))
+    let row = row_under(standing.rows, index, places, Wanted::These(cells));
+    unwritten(standing.written, row)
 }
 
-/// The first of the rows that has these cells at these places. None has Null.
-pub(crate) fn row_with<'a>(rows: &'a [Row], places: &[u32], cells: &[Cell]) -> Option<&'a Row>
+// The row, where none of those that were written has its `_id`.
+fn unwritten<'a>(written: &[Row], row: Option<&'a Row>) -> Option<&'a Row>
+    ensures { option_copied result ≡ unwritten written.now (option_copied row.entry) }
+{
+    match row {
+        Some(row) if !has_row(written, row.id) => Some(row),
+        _ => None,
+    }
+}
+
+/// The first of the rows that has these cells at these places, which are those of the key. None has Null.
+#[tactic(auto, using(crate::proofs::FoundLemmas::alone_key))]
+pub(crate) fn row_with<'a>(
+    rows: &'a [Row],
+    index: &Index,
+    places: &[u32],
+    cells: &[Cell],
+) -> Option<&'a Row>
+    requires { IsKeyed places.now rows.now index.now }
     ensures { option_copied result ≡ row_with places.now cells.now rows.now }
 {
     if is_void(places, cells) {
         None
     } else {
-        first_with(rows, places, cells)
+        row_under(rows, index, places, Wanted::These(cells))
     }
 }
 
-/// The same of the rows as they stand after these were written.
+/// The same of the rows as they stand after some were written.
 #[tactic(auto, using(crate::proofs::RowLemmas::find_standing))]
 pub(crate) fn standing_row_with<'a>(
-    rows: &'a [Row],
-    written: &'a [Row],
+    standing: &Standing<'a>,
+    index: &Index,
     places: &[u32],
     cells: &[Cell],
 ) -> Option<&'a Row>
-    requires rows { IsAscending row_cmp rows.now }
-    requires written { IsAscending row_cmp written.now }
-    ensures { option_copied result ≡ row_with places.now cells.now (rows_after written.now rows.now) }
+    requires keyed { IsKeyed places.now standing.now.rows.now index.now }
+    requires written { IsAscending row_cmp standing.now.written.now }
+    ensures { option_copied result ≡ row_with places.now cells.now
+        (rows_after standing.now.written.now standing.now.rows.now) }
 {
     if is_void(places, cells) {
         return None;
     }
     earlier(
-        first_with(written, places, cells),
-        first_apart_with(rows, written, places, cells),
+        first_with(standing.written, places, cells),
+        first_apart_with(standing, index, places, cells),
     )
 }
 
@@ -126,11 +185,11 @@ pub(crate) fn standing_row_at<'a>(rows: &'a [Row], written: &'a [Row], id: u64) 
     }
 }
 
-// Whether the row, where it isn't the excepted one, has the cell at this place.
-fn takes_cell(row: &Row, except: Option<u64>, place: usize, cell: &Cell) -> bool
-    ensures { result ≡ takes_cell except place cell.now row.now }
+// Whether the row, where it isn't the excepted one, has the cell of these that stands at this place.
+fn takes_cell(row: &Row, except: Option<u64>, place: u32, cells: &[Cell]) -> bool
+    ensures { result ≡ takes_cell except place (cell_at cells.now place) row.now }
 {
-    is_other(row, except) && is_same_at(row.cells.as_slice(), place, cell)
+    is_other(row, except) && is_same_between(row.cells.as_slice(), place, cells, place)
 }
 
 fn is_other(row: &Row, except: Option<u64>) -> bool
@@ -142,42 +201,63 @@ fn is_other(row: &Row, except: Option<u64>) -> bool
     }
 }
 
-fn is_taken_among(rows: &[Row], except: Option<u64>, place: usize, cell: &Cell) -> bool
-    ensures { result ≡ list_any (takes_cell except place cell.now) rows.now }
+fn is_taken_among(rows: &[Row], except: Option<u64>, place: u32, cells: &[Cell]) -> bool
+    ensures { result ≡ list_any (takes_cell except place (cell_at cells.now place)) rows.now }
 {
-    rows.iter().any(|row| takes_cell(row, except, place, cell))
+    rows.iter().any(|row| takes_cell(row, except, place, cells))
 }
 
-// Whether it is taken by one of the rows that have no `_id` of these others.
+// Whether the row is another than the excepted one, and none of those that were written has its `_id`.
+fn takes_still(except: Option<u64>, written: &[Row], row: Option<&Row>) -> bool
+    ensures { result ≡ takes_still except written.now (option_copied row.entry) }
+{
+    match row {
+        Some(row) => is_other(row, except) && !has_row(written, row.id),
+        None => false,
+    }
+}
+
+// Whether the cell at this place is taken by one of the rows that have no `_id` of those that were written.
 fn is_taken_apart(
-    rows: &[Row],
-    others: &[Row],
+    standing: &Standing,
+    index: &Index,
     except: Option<u64>,
-    place: usize,
-    cell: &Cell,
+    place: u32,
+    cells: &[Cell],
 ) -> bool
-    ensures { result
-        ≡ list_any (λ row. takes_cell except place cell.now row && not (has_like others.now row)) rows.now }
+    requires ascending { IsAscending row_cmp standing.now.rows.now }
+    requires some { is_null (cell_at cells.now place) ≡ false }
+    requires alone { IsAlone (place ∷ []) (cell_at cells.now place ∷ []) standing.now.rows.now }
+    requires indexed { IsIndexedAt (place ∷ []) standing.now.rows.now index.now }
+    ensures { result ≡ list_any (λ row. takes_cell except place (cell_at cells.now place) row
+        && not (has_like standing.now.written.now row)) standing.now.rows.now }
 {
-    rows.iter().any(|row| takes_cell(row, except, place, cell) && !has_row(others, row.id))
+    let places = [place];
+    let row = row_under(standing.rows, index, &places, Wanted::At(cells, &places));
+    takes_still(except, standing.written, row)
 }
 
-/// Whether another row than the excepted one has the cell at this place, as the rows stand after these were written.
+/// Whether another row than the excepted one has the cell of these that stands at this place, as the rows stand after
+/// some were written.
 #[tactic(auto, using(crate::proofs::RowLemmas::taken_standing))]
 pub(crate) fn is_taken(
-    rows: &[Row],
-    written: &[Row],
+    standing: &Standing,
+    index: &Index,
     except: Option<u64>,
-    place: usize,
-    cell: &Cell,
+    place: u32,
+    cells: &[Cell],
 ) -> bool
-    requires rows { IsAscending row_cmp rows.now }
-    requires written { IsAscending row_cmp written.now }
-    ensures { result ≡ is_taken except place cell.now (rows_after written.now rows.now) }
+    requires rows { IsAscending row_cmp standing.now.rows.now }
+    requires written { IsAscending row_cmp standing.now.written.now }
+    requires alone { is_null (cell_at cells.now place) ≡ false →
+        IsAlone (place ∷ []) (cell_at cells.now place ∷ []) standing.now.rows.now }
+    requires indexed { IsIndexedAt (place ∷ []) standing.now.rows.now index.now }
+    ensures { result ≡ is_taken except place (cell_at cells.now place)
+        (rows_after standing.now.written.now standing.now.rows.now) }
 {
-    !is_null(cell)
-        && (is_taken_among(written, except, place, cell)
-            || is_taken_apart(rows, written, except, place, cell))
+    !is_null_at(cells, place as usize)
+        && (is_taken_among(standing.written, except, place, cells)
+            || is_taken_apart(standing, index, except, place, cells))
 }
 
 /// Puts an item in place of the one that is like it, which is handed back, or at its place as a new one. There is room
@@ -213,15 +293,4 @@ fn is_like_at<T: Ordered>(items: &[T], place: usize, item: &T) -> bool
     ensures { result ≡ (nat_lt place (length items.now) && is_eq (T.order (get_or items.now place item.now) item.now)) }
 {
     place < items.len() && items[place].compare(item).is_eq()
-}
-
-/// Puts rows among others, for which there is room. It takes no memory and can't fail.
-pub(crate) fn place_all(rows: &mut Vec<Row>, changed: Vec<Row>)
-    requires ascending { IsAscending row_cmp rows.old.items }
-    requires room { vec_len rows.old + length changed.items ≤ vec_capacity rows.old }
-    ensures { rows.new.items ≡ rows_after changed.items rows.old.items }
-{
-    for row in changed {
-        let _replaced = place(rows, row);
-    }
 }

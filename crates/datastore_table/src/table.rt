@@ -8,6 +8,7 @@ ghost use Rattle.table_schema.specs.Printed.{IsValue};
 ghost use Rattle.table_schema.specs.Values.{is_map};
 ghost use Rattle.datastore_table.specs.declared.fault.TableFault.TheVariants.{OutOfMemory};
 ghost use Rattle.datastore_table.specs.Batch.{cut_checked, cut_rows, IsReady, removed_keys, worked_on};
+ghost use Rattle.datastore_table.specs.Index.{IsKeyed, IsStockOf};
 ghost use Rattle.datastore_table.specs.Meets.{is_restorable, rows_of};
 ghost use Rattle.datastore_table.specs.Put.{put_records};
 ghost use Rattle.datastore_table.specs.Rows.{row_at, row_cmp, row_with, rows_after};
@@ -16,12 +17,14 @@ ghost use Rattle.datastore_table.specs.Table.{IsSameTable};
 use crate::batch::Batch;
 use crate::fault::TableFault;
 use crate::grown::admit;
-use crate::meets::is_restorable;
+use crate::index::Index;
+use crate::meets::{are_related, do_all_meet, is_numbered};
 use crate::method::Method;
-use crate::references::{Standing, check_selves};
-use crate::removal::{Removal, check_selves_referred, copy_of, cut, removed_keys};
+use crate::references::check_selves;
+use crate::removal::{Removal, check_selves_referred, copy_of, removed_keys};
 use crate::row::{Row, rows_of};
-use crate::rows::{place_all, row_at, row_with};
+use crate::rows::{Standing, row_at, row_with};
+use crate::stock::Stock;
 use crate::work::{Work, put_all};
 use portal_base::json_value::Json;
 use portal_base::seq::Seq;
@@ -36,26 +39,25 @@ use table_schema::{Cell, Schema};
 pub struct Table {
     alloc: Global,
     schema: Arc<Schema>,
-    rows: Vec<Row>,
+    stock: Stock,
     next_id: u64,
 }
 
 impl Model for Table {
     ghost use Rattle.std.specs.Arc.{arc_value};
-    ghost use Rattle.std.specs.Prelude.{◌-◌, vec_capacity, vec_len};
-    ghost use Rattle.datastore_table.specs.Meets.{IsTable};
+    ghost use Rattle.datastore_table.specs.Index.{IsStockOf};
     ghost use Rattle.datastore_table.specs.Table.{TableValue};
 
     ghost Value = { TableValue };
 
     ghost view = { λ t. record {
       schema = arc_value t.schema;
-      rows = t.rows.items;
+      rows = t.stock.rows.items;
       next_id = t.next_id;
-      room = vec_capacity t.rows - vec_len t.rows;
+      room = t.stock.ready;
     } };
 
-    ghost invariant = { λ t. IsTable (arc_value t.schema) t.rows.items t.next_id };
+    ghost invariant = { λ t. IsStockOf (arc_value t.schema) t.stock t.next_id };
 }
 
 impl Table {
@@ -66,13 +68,14 @@ impl Table {
         ensures next_id { IfOk result (λ table. table.next_id ≡ 1) }
         ensures fault { IfErr result (λ fault. fault ≡ OutOfMemory) }
     {
+        let stock = Stock::of_rows(alloc, &schema, Vec::new(alloc))?;
         let Ok(schema) = Arc::new(alloc, schema) else {
             return Err(TableFault::OutOfMemory);
         };
         Ok(Table {
             alloc,
             schema,
-            rows: Vec::new(alloc),
+            stock,
             next_id: 1,
         })
     }
@@ -90,17 +93,17 @@ impl Table {
         ensures rows { IfOk result (λ made. IfSome made (λ table. table.rows ≡ rows_of rows)) }
         ensures next_id { IfOk result (λ made. IfSome made (λ table. table.next_id ≡ next_id)) }
     {
-        let rows = rows_of(alloc, rows)?;
-        if !is_restorable(&schema, rows.as_slice(), next_id) {
+        let made = restored(alloc, &schema, rows_of(alloc, rows)?, next_id)?;
+        let Some(stock) = made else {
             return Ok(None);
-        }
+        };
         let Ok(schema) = Arc::new(alloc, schema) else {
             return Err(AllocError);
         };
         Ok(Some(Table {
             alloc,
             schema,
-            rows,
+            stock,
             next_id,
         }))
     }
@@ -115,7 +118,7 @@ impl Table {
     pub fn len(&self) -> u64
         ensures { result ≡ length self.now.rows }
     {
-        self.rows.len() as u64
+        self.stock.rows.len() as u64
     }
 
     pub fn next_id(&self) -> u64
@@ -130,7 +133,7 @@ impl Table {
         ensures ascending { IsAscending row_cmp result.now }
         ensures values { All (λ row. All IsValue row.cells) result.now }
     {
-        self.rows.as_slice()
+        self.stock.rows.as_slice()
     }
 
     /// The cells of the row of this `_id`.
@@ -138,7 +141,7 @@ impl Table {
         ensures cells { option_copied result ≡ option_map (λ row. row.cells) (row_at id self.now.rows) }
         ensures values { IfSome result (λ cells. All IsValue cells.now) }
     {
-        match row_at(self.rows.as_slice(), id) {
+        match row_at(self.stock.rows.as_slice(), id) {
             Some(row) => Some(&row.cells),
             None => None,
         }
@@ -149,7 +152,8 @@ impl Table {
         ensures { result ≡ is_some (row_with self.now.schema.key key.now self.now.rows) }
     {
         row_with(
-            self.rows.as_slice(),
+            self.stock.rows.as_slice(),
+            &self.stock.index,
             self.schema.key().as_slice(),
             key.as_slice(),
         )
@@ -171,7 +175,7 @@ impl Table {
     {
         let work = self.worked(method, rows.as_slice())?;
         let schema = Arc::try_clone(&self.schema)?;
-        self.rows.reserve(work.changed().len())?;
+        self.stock.reserve(work.changed().len())?;
         Ok(Batch { schema, work })
     }
 
@@ -183,7 +187,7 @@ impl Table {
         ensures schema { self.new.schema ≡ self.old.schema }
     {
         let next_id = batch.work.next_id();
-        place_all(&mut self.rows, batch.work.into_changed());
+        self.stock.put(batch.work.into_changed());
         self.next_id = next_id;
     }
 
@@ -212,7 +216,14 @@ impl Table {
         ensures next_id { self.new.next_id ≡ self.old.next_id }
         ensures schema { self.new.schema ≡ self.old.schema }
     {
-        cut(&mut self.rows, removal.ids.as_slice());
+        self.stock.cut(removal.ids.as_slice());
+    }
+
+    /// What leads to its rows.
+    pub(crate) fn index(&self) -> &Index
+        ensures { IsKeyed self.now.schema.key self.now.rows result.now }
+    {
+        &self.stock.index
     }
 
     // The rows of these `_id`s, each with the cells of its key alone.
@@ -220,7 +231,7 @@ impl Table {
         ensures { IfOk result (λ keys. keys.items ≡ removed_keys self.now.schema.key ids.now self.now.rows) }
     {
         let key = self.schema.key().as_slice();
-        removed_keys(self.alloc, key, ids, self.rows.as_slice())
+        removed_keys(self.alloc, key, ids, self.stock.rows.as_slice())
     }
 
     // Whether the rows that stay keep the references of the table to itself, where these go.
@@ -229,7 +240,7 @@ impl Table {
         ensures { result ≡ cut_checked ids.now self.now }
     {
         let foreigns = self.schema.foreign().as_slice();
-        check_selves_referred(foreigns, keys, self.rows.as_slice(), ids)
+        check_selves_referred(foreigns, keys, self.stock.rows.as_slice(), ids)
     }
 
     // What a batch writes, if nothing refuses it.
@@ -239,21 +250,44 @@ impl Table {
         ensures fault { IfErr result (λ fault. (fault ≡ OutOfMemory)
             ⊎ (put_records method records.now self.now ≡ Err fault)) }
     {
-        let rows = self.rows.as_slice();
-        admit(self.alloc, method, records, &self.schema, rows)?;
+        let rows = self.stock.rows.as_slice();
+        let index = &self.stock.index;
+        admit(self.alloc, method, records, &self.schema, rows, index)?;
         let work = put_all(
             self.alloc,
             method,
             &self.schema,
             records,
             rows,
+            index,
             self.next_id,
         )?;
         let standing = Standing {
             rows,
             written: work.changed(),
         };
-        check_selves(&self.schema, &standing, work.written())?;
+        check_selves(&self.schema, &standing, index, work.written())?;
         Ok(work)
     }
+}
+
+// A stock of these rows, if they are those of a table.
+fn restored(
+    alloc: Global,
+    schema: &Schema,
+    rows: Vec<Row>,
+    next_id: u64,
+) -> Result<Option<Stock>, AllocError>
+    ensures exactly { IfOk result (λ made. is_some made ≡ is_restorable schema.now rows.items next_id) }
+    ensures rows { IfOk result (λ made. IfSome made (λ stock. stock.rows.items ≡ rows.items)) }
+    ensures stock { IfOk result (λ made. IfSome made (λ stock. IsStockOf schema.now stock next_id)) }
+{
+    if !is_numbered(rows.as_slice(), next_id) || !do_all_meet(schema, rows.as_slice()) {
+        return Ok(None);
+    }
+    let stock = Stock::of_rows(alloc, schema, rows)?;
+    if !are_related(schema, stock.rows.as_slice(), &stock.index) {
+        return Ok(None);
+    }
+    Ok(Some(stock))
 }

@@ -1,5 +1,5 @@
 //! One record, tried against the rows as they stand.
-ghost use Rattle.std.specs.Prelude.{◌≡◌, option_copied};
+ghost use Rattle.std.specs.Prelude.{◌≡◌, true, IfOk, Some, option_copied, slice_get};
 ghost use Rattle.portal_base.specs.Ordered.{IsAscending};
 ghost use Rattle.datastore_table.specs.Put.{checked, id_of, kept_cells, key_fault, missing_fault, tried_on};
 ghost use Rattle.datastore_table.specs.Put.{tried_record};
@@ -8,17 +8,19 @@ ghost use Rattle.datastore_table.specs.Record.{unknown_in};
 ghost use Rattle.datastore_table.specs.Results.{Answers, in_turn};
 ghost use Rattle.datastore_table.specs.Rows.{is_taken, row_cmp, rows_after};
 ghost use Rattle.datastore_table.specs.Cells.{cell_at, has_null_at};
+ghost use Rattle.datastore_table.specs.Index.{IsStocked};
 
 use crate::cells::has_null_at;
 use crate::fault::TableFault;
+use crate::index::Index;
 use crate::method::Method;
 use crate::reading::{cells_of, key_of, unknown_in};
 use crate::row::Row;
-use crate::rows::{is_taken, standing_row_with};
+use crate::rows::{Standing, is_taken, standing_row_with};
 use portal_base::copy::TryClone;
 use portal_base::json_value::Json;
 use portal_base::seq::Seq;
-use std::alloc::Global;
+use std::alloc::{AllocError, Global};
 use table_schema::{Cell, Field, Schema};
 
 /// The `_id` of the row that has the record's key, if one has it, and the record's cells.
@@ -28,17 +30,17 @@ pub(crate) fn tried_record(
     schema: &Schema,
     number: u64,
     given: &Json,
-    rows: &[Row],
-    written: &[Row],
+    standing: &Standing,
+    index: &Index,
 ) -> Result<(Option<u64>, Seq<Cell>), TableFault>
-    requires rows { IsAscending row_cmp rows.now }
-    requires written { IsAscending row_cmp written.now }
-    ensures { Answers result
-        (tried_record method schema.now number given.now (rows_after written.now rows.now)) }
+    requires stocked { IsStocked schema.now standing.now.rows.now index.now }
+    requires written { IsAscending row_cmp standing.now.written.now }
+    ensures { Answers result (tried_record method schema.now number given.now
+        (rows_after standing.now.written.now standing.now.rows.now)) }
 {
     let key = key_of(alloc, schema, given)?;
-    let row = standing_row_with(rows, written, schema.key().as_slice(), key.as_slice());
-    tried_on(alloc, method, schema, number, given, row, rows, written)
+    let row = standing_row_with(standing, index, schema.key().as_slice(), key.as_slice());
+    tried_on(alloc, method, schema, number, given, row, standing, index)
 }
 
 // The same, where this row has the record's key.
@@ -49,13 +51,13 @@ fn tried_on(
     number: u64,
     given: &Json,
     row: Option<&Row>,
-    rows: &[Row],
-    written: &[Row],
+    standing: &Standing,
+    index: &Index,
 ) -> Result<(Option<u64>, Seq<Cell>), TableFault>
-    requires rows { IsAscending row_cmp rows.now }
-    requires written { IsAscending row_cmp written.now }
-    ensures { Answers result
-        (tried_on method schema.now number given.now (option_copied row.entry) (rows_after written.now rows.now)) }
+    requires stocked { IsStocked schema.now standing.now.rows.now index.now }
+    requires written { IsAscending row_cmp standing.now.written.now }
+    ensures { Answers result (tried_on method schema.now number given.now (option_copied row.entry)
+        (rows_after standing.now.written.now standing.now.rows.now)) }
 {
     let fields = schema.fields().as_slice();
     let cells = cells_of(alloc, number, fields, kept_cells(method, row), given)?;
@@ -63,7 +65,7 @@ fn tried_on(
     check_key(schema, number, cells.as_slice())?;
     check_method(method, number, row)?;
     let id = id_of(row);
-    check_unique(alloc, fields, number, id, cells.as_slice(), rows, written)?;
+    check_unique(alloc, schema, number, id, cells.as_slice(), standing, index)?;
     Ok((id, cells))
 }
 
@@ -121,60 +123,74 @@ fn check_method(method: Method, number: u64, row: Option<&Row>) -> Result<(), Ta
 // No unique field has a cell that another row has.
 fn check_unique(
     alloc: Global,
-    fields: &[Field],
+    schema: &Schema,
     number: u64,
     except: Option<u64>,
     cells: &[Cell],
-    rows: &[Row],
-    written: &[Row],
+    standing: &Standing,
+    index: &Index,
 ) -> Result<(), TableFault>
-    requires rows { IsAscending row_cmp rows.now }
-    requires written { IsAscending row_cmp written.now }
-    ensures { Answers result
-        (in_turn (unique_fault number except cells.now (rows_after written.now rows.now)) 0 fields.now tt) }
+    requires stocked { IsStocked schema.now standing.now.rows.now index.now }
+    requires written { IsAscending row_cmp standing.now.written.now }
+    ensures { Answers result (in_turn (unique_fault number except cells.now
+        (rows_after standing.now.written.now standing.now.rows.now)) 0 schema.now.fields tt) }
 {
+    let fields = schema.fields().as_slice();
     for (place, field) in fields.iter().enumerate() {
-        check_field(alloc, field, number, except, place, cells, rows, written)?;
+        check_field(
+            alloc, schema, field, number, except, place, cells, standing, index,
+        )?;
     }
     Ok(())
 }
 
 fn check_field(
     alloc: Global,
+    schema: &Schema,
     field: &Field,
     number: u64,
     except: Option<u64>,
     place: usize,
     cells: &[Cell],
-    rows: &[Row],
-    written: &[Row],
+    standing: &Standing,
+    index: &Index,
 ) -> Result<(), TableFault>
-    requires rows { IsAscending row_cmp rows.now }
-    requires written { IsAscending row_cmp written.now }
-    ensures { Answers result
-        (unique_fault number except cells.now (rows_after written.now rows.now) place field.now tt) }
+    requires stocked { IsStocked schema.now standing.now.rows.now index.now }
+    requires written { IsAscending row_cmp standing.now.written.now }
+    requires at { slice_get schema.now.fields place ≡ Some field.now }
+    ensures { Answers result (unique_fault number except cells.now
+        (rows_after standing.now.written.now standing.now.rows.now) place field.now tt) }
 {
-    if !field.constraints().unique || !is_taken_at(rows, written, except, place, cells) {
+    if !field.constraints().unique
+        || !is_taken_at(schema, field, standing, index, except, place, cells)?
+    {
         return Ok(());
     }
     let name = field.name().try_clone(alloc)?;
     Err(TableFault::Unique(number, name))
 }
 
-// Whether another row has the cell of these that stands at this place.
+// Whether another row has the cell of these that stands at the place of this unique field. There is no memory for more
+// fields than a `u32` counts.
+#[tactic(auto, using(crate::proofs::FoundLemmas::alone_unique))]
 fn is_taken_at(
-    rows: &[Row],
-    written: &[Row],
+    schema: &Schema,
+    field: &Field,
+    standing: &Standing,
+    index: &Index,
     except: Option<u64>,
     place: usize,
     cells: &[Cell],
-) -> bool
-    requires rows { IsAscending row_cmp rows.now }
-    requires written { IsAscending row_cmp written.now }
-    ensures { result ≡ is_taken except place (cell_at cells.now place) (rows_after written.now rows.now) }
+) -> Result<bool, AllocError>
+    requires stocked { IsStocked schema.now standing.now.rows.now index.now }
+    requires written { IsAscending row_cmp standing.now.written.now }
+    requires at { slice_get schema.now.fields place ≡ Some field.now }
+    requires unique { field.now.constraints.unique ≡ true }
+    ensures { IfOk result (λ taken. taken ≡ is_taken except place (cell_at cells.now place)
+        (rows_after standing.now.written.now standing.now.rows.now)) }
 {
-    match cells.get(place) {
-        Some(cell) => is_taken(rows, written, except, place, cell),
-        None => false,
+    match u32::try_from(place) {
+        Ok(place) => Ok(is_taken(standing, index, except, place, cells)),
+        Err(_) => Err(AllocError),
     }
 }

@@ -4,13 +4,15 @@ ghost use Rattle.portal_base.specs.Ordered.{IsAscending};
 ghost use Rattle.datastore_table.specs.declared.fault.TableFault.TheVariants.{OutOfMemory};
 ghost use Rattle.datastore_table.specs.declared.row.Row.{Row};
 ghost use Rattle.datastore_table.specs.Batch.{worked_on};
+ghost use Rattle.datastore_table.specs.Index.{IsStocked};
 ghost use Rattle.datastore_table.specs.Put.{begun, next_after, put_from, put_record, row_id, with_cells};
 ghost use Rattle.datastore_table.specs.Rows.{row_cmp};
 
 use crate::fault::TableFault;
+use crate::index::Index;
 use crate::method::Method;
 use crate::row::Row;
-use crate::rows::place;
+use crate::rows::{Standing, place};
 use crate::tried::tried_record;
 use portal_base::json_value::Json;
 use portal_base::seq::Seq;
@@ -129,15 +131,20 @@ fn put_record(
     number: u64,
     given: &Json,
     rows: &[Row],
+    index: &Index,
     work: &mut Work,
 ) -> Result<(), TableFault>
-    requires { IsAscending row_cmp rows.now }
+    requires { IsStocked schema.now rows.now index.now }
     ensures ok { OnOk result (put_record method schema.now number given.now (worked_on rows.now work.old)
         ≡ Ok (worked_on rows.now work.new)) }
     ensures err { IfErr result (λ fault. (fault ≡ OutOfMemory)
         ⊎ (put_record method schema.now number given.now (worked_on rows.now work.old) ≡ Err fault)) }
 {
-    let (id, cells) = tried_record(alloc, method, schema, number, given, rows, work.changed())?;
+    let standing = Standing {
+        rows,
+        written: work.changed(),
+    };
+    let (id, cells) = tried_record(alloc, method, schema, number, given, &standing, index)?;
     work.write(id, cells)
 }
 
@@ -148,9 +155,10 @@ pub(crate) fn put_all(
     schema: &Schema,
     records: &[Json],
     rows: &[Row],
+    index: &Index,
     next_id: u64,
 ) -> Result<Work, TableFault>
-    requires { IsAscending row_cmp rows.now }
+    requires { IsStocked schema.now rows.now index.now }
     ensures ok { IfOk result (λ work. put_from method schema.now 1 records.now (begun rows.now next_id)
         ≡ Ok (worked_on rows.now work)) }
     ensures err { IfErr result (λ fault. (fault ≡ OutOfMemory)
@@ -165,6 +173,7 @@ pub(crate) fn put_all(
             place as u64 + 1,
             given,
             rows,
+            index,
             &mut work,
         )?;
     }

@@ -6,5 +6,7 @@ use Rattle.datastore_table.proofs.tried.check_unique.Given as goal
 
 abbrev pub invariant-loop-place : goal.invariant-loop-place
 invariant-loop-place l =
-    in_turn (unique_fault l.number l.except l.cells (rows_after l.written l.rows)) 0 l.fields tt
-    ≡ in_turn (unique_fault l.number l.except l.cells (rows_after l.written l.rows)) l.place (drop l.place l.fields) tt
+    in_turn (unique_fault l.number l.except l.cells (rows_after l.standing.written.now l.standing.rows.now)) 0
+    l.schema.fields tt
+    ≡ in_turn (unique_fault l.number l.except l.cells (rows_after l.standing.written.now l.standing.rows.now)) l.place
+    (drop l.place l.schema.fields) tt

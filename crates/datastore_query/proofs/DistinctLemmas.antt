@@ -1,0 +1,45 @@
+-- Rows that were kept have their digests noted.
+use Rattle.std.proofs.Common.{◌≡◌, ◌∙◌, ℕ, Bool, true, false, ◌||◌, cond, List, [], ◌∷◌, ◌++◌, Option, Some, None, ap, refl, sym}
+use Rattle.std.specs.Prelude.{All, is_some, nat_eq}
+use Rattle.std.specs.List.{list_any}
+use Rattle.std.proofs.lemmas.List.Elements.{All-head, All-push, All-tail, All-weaker}
+use Rattle.table_schema.specs.declared.cell.Cell.{Cell}
+use Rattle.datastore_table.specs.Cells.{same_cells}
+use Rattle.datastore_table.specs.Index.{digest_of}
+use Rattle.datastore_table.proofs.KeyLemmas.{cells-is}
+use Rattle.datastore_query.specs.Distinct.{AreNoted}
+
+abbrev IsNoted : (ℕ → Option ℕ) → List Cell → Type 0
+IsNoted noted row = is_some (noted (digest_of [] row)) ≡ true
+
+-- A row whose digest isn't noted is none of those that were kept.
+pub not_kept : (kept : List (List Cell)) (noted : ℕ → Option ℕ) (row : List Cell) → AreNoted kept noted
+    → noted (digest_of [] row) ≡ None → list_any (same_cells row) kept ≡ false
+not_kept [] noted row all none = refl
+not_kept (other ∷ kept) noted row all none =
+    by (same_cells row other) refl
+    ∙ not_kept kept noted row (All-tail (IsNoted noted) other kept all) none
+  where
+    by : (b : Bool) → same_cells row other ≡ b
+        → (same_cells row other || list_any (same_cells row) kept) ≡ list_any (same_cells row) kept
+    by false e = ap (λ b. b || list_any (same_cells row) kept) e
+    by true e =
+        let same : row ≡ other = cells-is row other e in
+        let free : noted (digest_of [] other) ≡ None = ap (λ r. noted (digest_of [] r)) (sym same) ∙ none in
+        let held : is_some (noted (digest_of [] other)) ≡ true = All-head (IsNoted noted) other kept all in
+        absurd (cc (ap is_some free, held))
+
+-- One more is kept, with its digest.
+pub noted_more : (kept : List (List Cell)) (row : List Cell) (digest place : ℕ) (old new : ℕ → Option ℕ)
+    → digest ≡ digest_of [] row → ((d : ℕ) → new d ≡ cond (nat_eq digest d) (Some place) (old d))
+    → new digest ≡ Some place → AreNoted kept old → AreNoted (kept ++ row ∷ []) new
+noted_more kept row digest place old new is put own all =
+    All-push (IsNoted new) kept row (All-weaker (IsNoted old) (IsNoted new) still kept all)
+    (ap (λ d. is_some (new d)) (sym is) ∙ ap is_some own)
+  where
+    still : (other : List Cell) → IsNoted old other → IsNoted new other
+    still other held = ap is_some (put (digest_of [] other)) ∙ by (nat_eq digest (digest_of [] other))
+      where
+        by : (b : Bool) → is_some (cond b (Some place) (old (digest_of [] other))) ≡ true
+        by true = refl
+        by false = held

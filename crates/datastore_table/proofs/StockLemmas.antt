@@ -1,0 +1,334 @@
+-- A stock of rows: the index leads to each, also after a change.
+use Rattle.std.proofs.Common.{◌≡◌, ◌∙◌, ◌⊎◌, inl, inr, ℕ, zero, suc, ◌+◌, ◌*◌, ◌≤◌, Bool, true, false, ◌&&◌, not, List, []}
+use Rattle.std.proofs.Common.{◌∷◌}
+use Rattle.std.proofs.Common.{◌++◌, ◌<◌, ◌==◌, ap, refl, subst, sym, arith, slice_get, get_or, Some, if◌then◌else◌}
+use Rattle.std.proofs.Common.{drop, drop-cons, length}
+use Rattle.std.proofs.lemmas.Bool.Decides.{nat_tests}
+use Rattle.std.proofs.lemmas.Cmp.{tied_itself}
+use Rattle.std.specs.Cmp.{nat_cmp_total}
+use Rattle.std.specs.List.{Contains, list_all}
+use Rattle.std.specs.Ordering.{is_eq, nat_cmp}
+use Rattle.lexical_forms.specs.Digits.{is_empty}
+use Rattle.portal_base.specs.Ordered.{placed}
+use Rattle.portal_base.proofs.Filtered.{IsIn-filter}
+use Rattle.portal_base.proofs.Placed.{IsIn-placed}
+use Rattle.portal_base.proofs.Unique.{IsIn, IsIn-get_or}
+use Rattle.table_schema.specs.Field.{FieldValue, SchemaValue}
+use Rattle.datastore_table.specs.declared.index.Index.{Index}
+use Rattle.datastore_table.specs.declared.row.Row.{Row}
+use Rattle.datastore_table.specs.declared.stock.Stock.{Stock}
+use Rattle.datastore_table.specs.Batch.{cut_rows, is_among}
+use Rattle.datastore_table.specs.Cells.{cells_at}
+use Rattle.datastore_table.specs.Index.{EntersAt, EntersRow, HasRoomFor, IsIndexed, IsIndexedAt, IsLedBeside, IsLedTo}
+use Rattle.datastore_table.specs.Index.{IsSound, IsStockOf, IsStocked, IsUniquelyIndexed, Leaves}
+use Rattle.datastore_table.specs.Index.{LeavesAll, LeavesRows}
+use Rattle.datastore_table.specs.Index.{columns_of, digest_of, id_under, unique_columns, IsCandidate}
+use Rattle.datastore_table.specs.Meets.{is_held_by, is_numbered, IsTable, keys_apart, meets_schema, row_meets}
+use Rattle.datastore_table.specs.Meets.{uniques_apart}
+use Rattle.datastore_table.specs.Rows.{has_like, row_cmp}
+use Rattle.datastore_table.proofs.HeldLemmas.{found-any}
+use Rattle.datastore_table.proofs.KeptLemmas.{met-parts, restorable-table}
+use Rattle.datastore_table.proofs.KeyLemmas.{any-in, not_true, true_false}
+
+-- ---- the columns
+
+pub in_right : {X : Type 0} (z : X) (xs ys : List X) → IsIn z ys → IsIn z (xs ++ ys)
+in_right z [] ys m = m
+in_right z (x ∷ xs) ys m = inr (in_right z xs ys m)
+
+key_in : (schema : SchemaValue) → is_empty schema.key ≡ false → IsIn schema.key (columns_of schema)
+key_in schema some =
+    subst (λ b. IsIn schema.key ((if b then [] else schema.key ∷ []) ++ unique_columns 0 schema.fields)) (sym some)
+    (inl refl)
+
+unique_in : (from place : ℕ) (fields : List FieldValue) (field : FieldValue) → slice_get fields place ≡ Some field
+    → field.constraints.unique ≡ true → IsIn ((from + place) ∷ []) (unique_columns from fields)
+unique_in from place [] field at unique = absurd (cc)
+unique_in from zero (f ∷ fields) field at unique =
+    let same : f ≡ field = cc in
+    let own : f.constraints.unique ≡ true = ap (λ (x : FieldValue). x.constraints.unique) same ∙ unique in
+    let here : from + 0 ≡ from = omega arith in
+    subst (λ b. IsIn ((from + 0) ∷ []) (if b then (from ∷ []) ∷ unique_columns (from + 1) fields
+    else unique_columns (from + 1) fields)) (sym own) (inl (ap (λ k. k ∷ []) here))
+unique_in from (suc place) (f ∷ fields) field at unique =
+    let step : from + 1 + place ≡ from + suc place = omega arith in
+    let later : IsIn ((from + suc place) ∷ []) (unique_columns (from + 1) fields) =
+    subst (λ k. IsIn (k ∷ []) (unique_columns (from + 1) fields)) step
+    (unique_in (from + 1) place fields field at unique) in
+    by f.constraints.unique later
+  where
+    by : (b : Bool) → IsIn ((from + suc place) ∷ []) (unique_columns (from + 1) fields)
+        → IsIn ((from + suc place) ∷ []) (if b then (from ∷ []) ∷ unique_columns (from + 1) fields
+        else unique_columns (from + 1) fields)
+    by true m = inr m
+    by false m = m
+
+pub key_indexed : (schema : SchemaValue) (rows : List Row) (index : Index) → IsIndexed (columns_of schema) rows index
+    → is_empty schema.key ≡ false → IsIndexedAt schema.key rows index
+key_indexed schema rows index indexed some = indexed schema.key (key_in schema some)
+
+pub unique_indexed : (schema : SchemaValue) (rows : List Row) (index : Index)
+    → IsIndexed (columns_of schema) rows index → IsUniquelyIndexed schema.fields rows index
+unique_indexed schema rows index indexed place field at unique =
+    indexed (place ∷ [])
+    (in_right (place ∷ []) (if is_empty schema.key then [] else schema.key ∷ []) (unique_columns 0 schema.fields)
+    (subst (λ k. IsIn (k ∷ []) (unique_columns 0 schema.fields)) (zero_add place)
+    (unique_in 0 place schema.fields field at unique)))
+  where
+    zero_add : (k : ℕ) → 0 + k ≡ k
+    zero_add k = omega arith
+
+-- A table's rows are found by its index.
+pub stocked : (schema : SchemaValue) (stock : Stock) (next_id : ℕ) → IsStockOf schema stock next_id
+    → IsStocked schema stock.rows.items stock.index
+stocked schema stock next_id whole =
+    let met = met-parts schema stock.rows.items whole.table.meets in
+    let indexed : IsIndexed (columns_of schema) stock.rows.items stock.index =
+    subst (λ cs. IsIndexed cs stock.rows.items stock.index) whole.columns whole.sound.indexed in
+    record {
+      keyed = record {
+        ascending = whole.table.numbered.ascending;
+        apart = met.keys;
+        indexed = key_indexed schema stock.rows.items stock.index indexed;
+      };
+      uniques = met.uniques;
+      unique = unique_indexed schema stock.rows.items stock.index indexed;
+    }
+
+-- ---- changes
+
+-- The rows that stay are led to.
+pub cut_indexed : (columns : List (List ℕ)) (ids : List ℕ) (rows : List Row) (old new : Index)
+    → IsIndexed columns rows old → LeavesAll old new ids → IsIndexed columns (cut_rows ids rows) new
+cut_indexed columns ids rows old new indexed leaves places m row n full =
+    let stays = IsIn-filter (λ (r : Row). not (is_among ids r.id)) row rows n in
+    leaves.kept _ row.id (not_true (is_among ids row.id) stays.1) (indexed places m row stays.0 full)
+
+like_itself : (a b : Row) → a.id ≡ b.id → is_eq (row_cmp a b) ≡ true
+like_itself a b same = ap (λ i. is_eq (nat_cmp a.id i)) (sym same) ∙ ap is_eq (tied_itself nat_cmp_total a.id)
+
+-- Those on which nothing will be written are.
+pub left_beside : (columns : List (List ℕ)) (changed rows : List Row) (old new : Index) → IsIndexed columns rows old
+    → LeavesRows old new changed → IsLedBeside columns changed rows new
+left_beside columns changed rows old new indexed leaves places m row n unlike full =
+    leaves.kept _ row.id
+    (λ w k same. true_false (is_eq (row_cmp row w)) (like_itself row w same)
+    (any-in (λ (other : Row). is_eq (row_cmp row other)) changed unlike w k))
+    (indexed places m row n full)
+
+-- So they are behind a row that was entered and placed.
+pub led_placed : (columns : List (List ℕ)) (w : Row) (changed rows : List Row) (old new : Index)
+    → IsLedBeside columns (w ∷ changed) rows old → EntersRow old new columns w
+    → IsLedBeside columns changed (placed row_cmp w rows) new
+led_placed columns w changed rows old new led enters places m row n unlike = by (IsIn-placed row_cmp w row rows n)
+  where
+    by : (row ≡ w) ⊎ (IsIn row rows × (is_eq (row_cmp row w) ≡ false)) → IsLedTo places new row
+    by (inl same) = subst (λ (r : Row). IsLedTo places new r) (sym same) (enters.led places m)
+    by (inr k) = λ full. enters.kept _ row.id (led places m row k.0 both full)
+      where
+        both : has_like (w ∷ changed) row ≡ false
+        both = rw (k.1, unlike) refl
+
+pub led_all : (columns : List (List ℕ)) (rows : List Row) (index : Index) → IsLedBeside columns [] rows index
+    → IsIndexed columns rows index
+led_all columns rows index led places m row n = led places m row n refl
+
+-- ---- one more of a list
+
+-- the rest of a list, and the rest behind its first item
+rest_of : {X : Type 0} (xs : List X) (k : ℕ) (x : X) → k < length xs → x ≡ get_or xs k x
+    → drop k xs ≡ x ∷ drop (k + 1) xs
+rest_of xs k x lt is =
+    drop-cons xs k x lt ∙ ap (λ y. y ∷ drop (suc k) xs) (sym is) ∙ ap (λ n. x ∷ drop n xs) (step k)
+  where
+    step : (n : ℕ) → suc n ≡ n + 1
+    step n = omega arith
+
+-- What stands in the rest is the first item, or stands behind it.
+split_rest : {X : Type 0} (xs : List X) (k : ℕ) (x z : X) → k < length xs → x ≡ get_or xs k x
+    → IsIn z (drop k xs) → (z ≡ x) ⊎ IsIn z (drop (k + 1) xs)
+split_rest xs k x z lt is m = subst (λ ys. IsIn z ys) (rest_of xs k x lt is) m
+
+pub room_split : (index : Index) (n m : ℕ) → HasRoomFor index (suc n * m) → HasRoomFor index (n * m + m)
+room_split index n m room = subst (λ r. HasRoomFor index r) (step n m) room
+  where
+    step : (a b : ℕ) → suc a * b ≡ a * b + b
+    step a b = omega arith
+
+-- the rows are led to, but for those of the rest
+abbrev pub IsLedTill : List (List ℕ) → List Row → List Row → Index → Type 0
+IsLedTill columns rest rows index =
+    (places : List ℕ) → IsIn places columns → (row : Row) → IsIn row rows → IsIn row rest ⊎ IsLedTo places index row
+
+pub enter_more : (columns : List (List ℕ)) (rows : List Row) (k : ℕ) (row : Row) (old new : Index) → k < length rows
+    → row ≡ get_or rows k row → IsLedTill columns (drop k rows) rows old → EntersRow old new columns row
+    → IsLedTill columns (drop (k + 1) rows) rows new
+enter_more columns rows k row old new lt is led enters places m r n = by (led places m r n)
+  where
+    by : IsIn r (drop k rows) ⊎ IsLedTo places old r → IsIn r (drop (k + 1) rows) ⊎ IsLedTo places new r
+    by (inl rest) = split (split_rest rows k row r lt is rest)
+      where
+        split : (r ≡ row) ⊎ IsIn r (drop (k + 1) rows) → IsIn r (drop (k + 1) rows) ⊎ IsLedTo places new r
+        split (inl same) = inr (subst (λ (x : Row). IsLedTo places new x) (sym same) (enters.led places m))
+        split (inr later) = inl later
+    by (inr there) = inr (λ full. enters.kept _ r.id (there full))
+
+pub room_more : (columns : List (List ℕ)) (rows : List Row) (k : ℕ) (row : Row) (old : Index) → k < length rows
+    → row ≡ get_or rows k row → HasRoomFor old (length (drop k rows) * length columns)
+    → HasRoomFor old (length (drop (k + 1) rows) * length columns + length columns)
+room_more columns rows k row old lt is room =
+    room_split old (length (drop (k + 1) rows)) (length columns)
+    (subst (λ (xs : List Row). HasRoomFor old (length xs * length columns)) (rest_of rows k row lt is) room)
+
+pub leave_more : (changed : List Row) (k : ℕ) (row : Row) (old mid new : Index) → k < length changed
+    → row ≡ get_or changed k row → LeavesRows old mid changed → Leaves mid new row.id → LeavesRows old new changed
+leave_more changed k row old mid new lt is so_far leaves = record {
+  kept = λ d i apart candidate.
+      leaves.kept d i (λ same. apart row (IsIn-get_or row changed k lt (sym is)) same)
+      (so_far.kept d i apart candidate);
+  room = λ more room. leaves.room more (so_far.room more room);
+}
+
+pub leave_next : (ids : List ℕ) (k id : ℕ) (old mid new : Index) → k < length ids → id ≡ get_or ids k id
+    → LeavesAll old mid ids → Leaves mid new id → LeavesAll old new ids
+leave_next ids k id old mid new lt is so_far leaves = record {
+  kept = λ d i apart candidate.
+      leaves.kept d i (λ same. true_false (is_among ids i) (among i same) apart) (so_far.kept d i apart candidate);
+  room = λ more room. leaves.room more (so_far.room more room);
+}
+  where
+    among : (i : ℕ) → i ≡ id → is_among ids i ≡ true
+    among i same =
+        found-any (λ j. j == i) id ids (IsIn-get_or id ids k lt (sym is)) (eq_test id i (sym same))
+      where
+        eq_test : (a b : ℕ) → a ≡ b → (a == b) ≡ true
+        eq_test a b h = grind (arith, nat_tests)
+
+-- the item at a place, whatever would stand past the end
+item_at : (xs : List ℕ) (k d e : ℕ) → k < length xs → get_or xs k d ≡ get_or xs k e
+item_at [] k d e lt = absurd (omega arith)
+item_at (x ∷ xs) zero d e lt = refl
+item_at (x ∷ xs) (suc k) d e lt = item_at xs k d e (omega (arith, lt))
+
+pub leave_next_at : (ids : List ℕ) (k : ℕ) (old mid new : Index) → k < length ids → LeavesAll old mid ids
+    → Leaves mid new (get_or ids k 0) → LeavesAll old new ids
+leave_next_at ids k old mid new lt so_far leaves =
+    leave_next ids k (get_or ids k 0) old mid new lt (item_at ids k 0 (get_or ids k 0) lt) so_far leaves
+
+pub room_less : (index : Index) (more less : ℕ) → HasRoomFor index more → less ≤ more → HasRoomFor index less
+room_less index more less room le = record {
+  by_digest = omega (arith, room.by_digest, le);
+  crowded = omega (arith, room.crowded, le);
+}
+
+-- the row is led to, but for the lists of places of the rest
+abbrev pub IsLedButBy : List (List ℕ) → List (List ℕ) → Row → Index → Type 0
+IsLedButBy columns rest row index =
+    (places : List ℕ) → IsIn places columns → IsIn places rest ⊎ IsLedTo places index row
+
+pub led_more : (columns : List (List ℕ)) (k : ℕ) (places : List ℕ) (row : Row) (old new : Index) → k < length columns
+    → places ≡ get_or columns k places → IsLedButBy columns (drop k columns) row old → EntersAt old new places row
+    → IsLedButBy columns (drop (k + 1) columns) row new
+led_more columns k places row old new lt is led enters p m = by (led p m)
+  where
+    by : IsIn p (drop k columns) ⊎ IsLedTo p old row → IsIn p (drop (k + 1) columns) ⊎ IsLedTo p new row
+    by (inl rest) = split (split_rest columns k places p lt is rest)
+      where
+        split : (p ≡ places) ⊎ IsIn p (drop (k + 1) columns) → IsIn p (drop (k + 1) columns) ⊎ IsLedTo p new row
+        split (inl same) = inr (subst (λ (q : List ℕ). IsLedTo q new row) (sym same) enters.led)
+        split (inr later) = inl later
+    by (inr there) = inr (λ full. enters.kept _ row.id (there full))
+
+pub places_room : (columns : List (List ℕ)) (k : ℕ) (places : List ℕ) (index : Index) (more : ℕ)
+    → k < length columns → places ≡ get_or columns k places → HasRoomFor index (more + length (drop k columns))
+    → HasRoomFor index (more + length (drop (k + 1) columns) + 1)
+places_room columns k places index more lt is room =
+    subst (λ n. HasRoomFor index n) (step more (length (drop (k + 1) columns)))
+    (subst (λ (xs : List (List ℕ)). HasRoomFor index (more + length xs)) (rest_of columns k places lt is) room)
+  where
+    step : (a b : ℕ) → a + suc b ≡ a + b + 1
+    step a b = omega arith
+
+pub leaves_through : (old mid new : Index) (id : ℕ) → Leaves old mid id → Leaves mid new id → Leaves old new id
+leaves_through old mid new id first second = record {
+  kept = λ d i other candidate. second.kept d i other (first.kept d i other candidate);
+  room = λ more room. second.room more (first.room more room);
+}
+
+-- ---- all of a list
+
+drop_end : {X : Type 0} (xs : List X) (k : ℕ) → length xs ≤ k → drop k xs ≡ []
+drop_end [] zero le = refl
+drop_end [] (suc k) le = refl
+drop_end (x ∷ xs) zero le = absurd (omega (arith, le))
+drop_end (x ∷ xs) (suc k) le = drop_end xs k (omega (arith, le))
+
+pub entered_all : (columns : List (List ℕ)) (k : ℕ) (row : Row) (old new : Index) → length columns ≤ k
+    → IsLedButBy columns (drop k columns) row new → ((d i : ℕ) → IsCandidate old d i → IsCandidate new d i)
+    → ((more : ℕ) → HasRoomFor old (more + length columns) → HasRoomFor new (more + length (drop k columns)))
+    → EntersRow old new columns row
+entered_all columns k row old new le led kept room = record {
+  led = λ p m. by p (led p m);
+  kept = kept;
+  room = λ more fits. subst (λ n. HasRoomFor new n) (add_zero more)
+      (subst (λ (xs : List (List ℕ)). HasRoomFor new (more + length xs)) (drop_end columns k le) (room more fits));
+}
+  where
+    by : (p : List ℕ) → IsIn p (drop k columns) ⊎ IsLedTo p new row → IsLedTo p new row
+    by p (inl rest) = absurd (subst (λ ys. IsIn p ys) (drop_end columns k le) rest)
+    by p (inr there) = there
+
+    add_zero : (n : ℕ) → n + 0 ≡ n
+    add_zero n = omega arith
+
+pub room_times : (index : Index) (less more each : ℕ) → less ≤ more → HasRoomFor index (more * each)
+    → HasRoomFor index (less * each)
+room_times index less more each le room = room_less index (more * each) (less * each) room (times less more each le)
+  where
+    times : (a b m : ℕ) → a ≤ b → a * m ≤ b * m
+    times a b m h = grind arith
+
+-- ---- the same
+
+pub indexed_same : (columns : List (List ℕ)) (was rows : List Row) (old new : Index) → rows ≡ was
+    → ((d : ℕ) → id_under new d ≡ id_under old d) → new.crowded.items ≡ old.crowded.items
+    → IsIndexed columns was old → IsIndexed columns rows new
+indexed_same columns was rows old new same under crowded indexed places m row n full =
+    by (indexed places m row (subst (λ rs. IsIn row rs) same n) full)
+  where
+    d : ℕ
+    d = digest_of places (cells_at places row.cells)
+
+    by : IsCandidate old d row.id → IsCandidate new d row.id
+    by (inl there) = inl (under d ∙ there)
+    by (inr among) = inr (subst (λ ids. Contains ids row.id) (sym crowded) among)
+
+-- A stock with the same rows is the table's as well.
+pub stock_kept : (schema : SchemaValue) (old new : Stock) (next_id : ℕ) → IsStockOf schema old next_id → IsSound new
+    → new.rows.items ≡ old.rows.items → new.columns.items ≡ old.columns.items → IsStockOf schema new next_id
+stock_kept schema old new next_id whole sound rows columns = record {
+  table = subst (λ (r : List Row). IsTable schema r next_id) (sym rows) whole.table;
+  sound = sound;
+  columns = columns ∙ whole.columns;
+}
+
+-- ---- restored rows
+
+both : (a b : Bool) → a ≡ true → b ≡ true → (a && b) ≡ true
+both a b h k = rw (h, k) refl
+
+-- A stock of rows that were found to be a table's is that table's.
+pub restored_stock : (schema : SchemaValue) (rows : List Row) (stock : Stock) (next_id : ℕ)
+    → is_numbered rows next_id ≡ true → list_all (row_meets schema) rows ≡ true
+    → (keys_apart schema.key rows && (uniques_apart 0 schema.fields rows
+    && list_all (is_held_by schema.key rows) schema.foreign)) ≡ true
+    → stock.rows.items ≡ rows → IsSound stock → stock.columns.items ≡ columns_of schema → IsStockOf schema stock next_id
+restored_stock schema rows stock next_id numbered met related same sound columns = record {
+  table = subst (λ (r : List Row). IsTable schema r next_id) (sym same)
+      (restorable-table schema rows next_id
+      (both (is_numbered rows next_id) (meets_schema schema rows) numbered
+      (both (list_all (row_meets schema) rows) (keys_apart schema.key rows && (uniques_apart 0 schema.fields rows
+      && list_all (is_held_by schema.key rows) schema.foreign)) met related)));
+  sound = sound;
+  columns = columns;
+}

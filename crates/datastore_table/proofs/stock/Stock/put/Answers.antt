@@ -1,0 +1,25 @@
+use Rattle.std.proofs.Common.{◌*◌, length, subst, sym, List, ℕ}
+use Rattle.datastore_table.specs.declared.row.Row.{Row}
+use Rattle.datastore_table.specs.Index.{HasRoomFor, IsLedBeside, LeavesRows}
+use Rattle.datastore_table.proofs.StockLemmas.{left_beside, room_times}
+use Rattle.datastore_table.proofs.stock.Stock.put.Goals as goal
+
+pub place_all-requires-clause-places : goal.place_all-requires-clause-places
+place_all-requires-clause-places c =
+    subst (λ (cs : List (List ℕ)). HasRoomFor c.leave_rows.new.index (length c.args.changed.items * length cs))
+    (sym c.as_slice-columns.ensures.value)
+    (c.leave_rows.ensures.room _
+    (room_times c.args.self.now.index (length c.args.changed.items) c.args.self.now.ready
+    (length c.args.self.now.columns.items) c.requires.room c.requires.sound.ready.index))
+
+pub place_all-requires-clause-led : goal.place_all-requires-clause-led
+place_all-requires-clause-led c =
+    let old = c.args.self.now in
+    let changed = c.args.changed.items in
+    let leaves : LeavesRows old.index c.leave_rows.new.index changed =
+    subst (λ (rs : List Row). LeavesRows old.index c.leave_rows.new.index rs) c.as_slice-2.ensures.value
+    c.leave_rows.ensures in
+    subst (λ (cs : List (List ℕ)). IsLedBeside cs changed old.rows.items c.leave_rows.new.index)
+    (sym c.as_slice-columns.ensures.value)
+    (left_beside old.columns.items changed old.rows.items old.index c.leave_rows.new.index c.requires.sound.indexed
+    leaves)

@@ -1,0 +1,114 @@
+//! A table of three fields, and batches of 500 records for it.
+ghost use Rattle.std.specs.Prelude.{◌≡◌};
+ghost use Rattle.std.specs.List.{list_all};
+ghost use Rattle.table_schema.specs.Values.{is_map};
+
+use datastore_table::{Method, Table};
+use portal_base::json_value::Json;
+use portal_base::seq::Seq;
+use portal_base::text::Text;
+use std::alloc::{AllocError, Global};
+use std::io::{self, ErrorKind};
+use table_schema::Schema;
+
+const DESCRIPTOR: &str =
+    "{\"fields\":[{\"name\":\"id\",\"type\":\"integer\"},{\"name\":\"place\"},{\"name\":\"value\",\
+    \"type\":\"integer\"}],\"primaryKey\":\"id\"}";
+
+/// How many records a batch has.
+const BATCH: u64 = 500;
+
+/// How far apart the keys of the batches of known keys are.
+const STRIDE: u64 = 7919;
+
+fn invalid() -> io::Error {
+    io::Error::from(ErrorKind::InvalidData)
+}
+
+fn table(alloc: Global) -> io::Result<Table> {
+    let Ok(schema) = Schema::read(alloc, DESCRIPTOR.as_bytes()) else {
+        return Err(invalid());
+    };
+    match Table::create(alloc, schema) {
+        Ok(table) => Ok(table),
+        Err(_) => Err(io::Error::from(ErrorKind::OutOfMemory)),
+    }
+}
+
+/// The record of a key.
+fn record(alloc: Global, key: u64) -> Result<Json, AllocError> {
+    let place = format!(in alloc; "Station {key}")?;
+    let mut members = Vec::with_capacity(alloc, 3)?;
+    members.push((Text::from_static("id"), Json::Whole(i128::from(key))))?;
+    members.push((
+        Text::from_static("place"),
+        Json::Text(Text::from_str(alloc, place.as_str())?),
+    ))?;
+    members.push((
+        Text::from_static("value"),
+        Json::Whole(i128::from(key % 1000)),
+    ))?;
+    Ok(Json::Map(Seq::from(members)))
+}
+
+fn is_record(item: &Json) -> bool
+    ensures { result ≡ is_map item.now }
+{
+    matches!(item, Json::Map(_))
+}
+
+fn are_records(items: &[Json]) -> bool
+    ensures { result ≡ list_all is_map items.now }
+{
+    items.iter().all(is_record)
+}
+
+/// Puts the records of these keys into the table.
+fn put(alloc: Global, table: &mut Table, method: Method, keys: &[u64]) -> io::Result<()> {
+    let mut records = Vec::with_capacity(alloc, keys.len())?;
+    for key in keys {
+        records.push(record(alloc, *key)?)?;
+    }
+    let records = Seq::from(records);
+    if !are_records(records.as_slice()) {
+        return Err(invalid());
+    }
+    match table.prepare(method, &records) {
+        Ok(batch) => {
+            table.commit(batch);
+            Ok(())
+        }
+        Err(_) => Err(invalid()),
+    }
+}
+
+/// The keys of the batch at this place, one after another, or far apart among so many.
+fn keys_of(alloc: Global, place: u64, among: Option<u64>) -> Result<Vec<u64>, AllocError> {
+    let mut keys = Vec::with_capacity(alloc, BATCH as usize)?;
+    let first = place.wrapping_mul(BATCH);
+    for at in 0..BATCH {
+        keys.push(key_at(first.wrapping_add(at), among))?;
+    }
+    Ok(keys)
+}
+
+fn key_at(at: u64, among: Option<u64>) -> u64 {
+    match among {
+        Some(rows) if rows > 0 => at.wrapping_mul(STRIDE) % rows,
+        _ => at,
+    }
+}
+
+/// A table of so many rows, with so many batches of known keys put behind them.
+pub fn loaded(alloc: Global, rows: u64, batches: u64) -> io::Result<Table> {
+    let mut table = table(alloc)?;
+    for place in 0..rows / BATCH {
+        let keys = keys_of(alloc, place, None)?;
+        put(alloc, &mut table, Method::Insert, keys.as_slice())?;
+    }
+    for place in 0..batches {
+        let keys = keys_of(alloc, place, Some(table.len()))?;
+        put(alloc, &mut table, Method::Upsert, keys.as_slice())?;
+    }
+    Ok(table)
+}
