@@ -45,7 +45,8 @@ or_true : (b : Bool) → (b || true) ≡ true
 or_true true = refl
 or_true false = refl
 
-pub any_map : {A B : Type 0} (f : A → B) (p : B → Bool) (xs : List A) → list_any p (map f xs) ≡ list_any (λ x. p (f x)) xs
+pub any_map : {A B : Type 0} (f : A → B) (p : B → Bool) (xs : List A)
+    → list_any p (map f xs) ≡ list_any (λ x. p (f x)) xs
 any_map f p [] = refl
 any_map f p (x ∷ xs) = ap (λ b. p (f x) || b) (any_map f p xs)
 

@@ -1,5 +1,6 @@
 -- Rows that are like one another have one `_id` that stands under no digest.
-use Rattle.std.proofs.Common.{◌≡◌, ◌∙◌, ◌⊎◌, inl, inr, ℕ, ◌==◌, Bool, true, false, ◌&&◌, ◌||◌, not, List, [], ◌∷◌, Option}
+use Rattle.std.proofs.Common.{◌≡◌, ◌∙◌, ◌⊎◌, inl, inr, ℕ, ◌==◌, Bool, true, false, ◌&&◌, ◌||◌, not, List, [], ◌∷◌}
+use Rattle.std.proofs.Common.{Option}
 use Rattle.std.proofs.Common.{Some, None, ap, refl, subst, sym, arith}
 use Rattle.std.proofs.lemmas.Bool.Decides.{nat_tests}
 use Rattle.std.specs.List.{Contains, list_all, list_any}
@@ -137,7 +138,8 @@ in_all p (y ∷ ys) all x (inr m) = in_all p ys (both_hold (p y) (list_all p ys)
 
 pub keys_crowded : (schema : SchemaValue) (rows : List Row) (index : Index) → IsAscending row_cmp rows
     → list_all (row_meets schema) rows ≡ true → IsIndexedAt schema.key rows index
-    → not (list_any (is_twice (has_key_of schema.key) rows) index.crowded.items) ≡ are_apart (has_key_of schema.key) rows
+    → not (list_any (is_twice (has_key_of schema.key) rows) index.crowded.items)
+    ≡ are_apart (has_key_of schema.key) rows
 keys_crowded schema rows index up met indexed =
     apart_crowded (has_key_of schema.key) (key_turned schema.key) rows index.crowded.items up
     (λ a b m n l differ. crowded_pair schema.key index a b (indexed a m) (indexed b n) (full a m)

@@ -1,5 +1,6 @@
 -- A stock of rows: the index leads to each, also after a change.
-use Rattle.std.proofs.Common.{◌≡◌, ◌∙◌, ◌⊎◌, inl, inr, ℕ, zero, suc, ◌+◌, ◌*◌, ◌≤◌, Bool, true, false, ◌&&◌, not, List, []}
+use Rattle.std.proofs.Common.{◌≡◌, ◌∙◌, ◌⊎◌, inl, inr, ℕ, zero, suc, ◌+◌, ◌*◌, ◌≤◌, Bool, true, false, ◌&&◌, not}
+use Rattle.std.proofs.Common.{List, []}
 use Rattle.std.proofs.Common.{◌∷◌}
 use Rattle.std.proofs.Common.{◌++◌, ◌<◌, ◌==◌, ap, refl, subst, sym, arith, slice_get, get_or, Some, if◌then◌else◌}
 use Rattle.std.proofs.Common.{drop, drop-cons, length}
@@ -14,6 +15,7 @@ use Rattle.portal_base.proofs.Filtered.{IsIn-filter}
 use Rattle.portal_base.proofs.Placed.{IsIn-placed}
 use Rattle.portal_base.proofs.Unique.{IsIn, IsIn-get_or}
 use Rattle.table_schema.specs.Field.{FieldValue, SchemaValue}
+use Rattle.table_schema.specs.declared.cell.Cell.{Cell}
 use Rattle.datastore_table.specs.declared.index.Index.{Index}
 use Rattle.datastore_table.specs.declared.row.Row.{Row}
 use Rattle.datastore_table.specs.declared.stock.Stock.{Stock}
@@ -21,7 +23,7 @@ use Rattle.datastore_table.specs.Batch.{cut_rows, is_among}
 use Rattle.datastore_table.specs.Cells.{cells_at}
 use Rattle.datastore_table.specs.Index.{EntersAt, EntersRow, HasRoomFor, IsIndexed, IsIndexedAt, IsLedBeside, IsLedTo}
 use Rattle.datastore_table.specs.Index.{IsSound, IsStockOf, IsStocked, IsUniquelyIndexed, Leaves}
-use Rattle.datastore_table.specs.Index.{LeavesAll, LeavesRows}
+use Rattle.datastore_table.specs.Index.{IsLeft, LeavesAll, LeavesRows}
 use Rattle.datastore_table.specs.Index.{columns_of, digest_of, id_under, unique_columns, IsCandidate}
 use Rattle.datastore_table.specs.Meets.{is_held_by, is_numbered, IsTable, keys_apart, meets_schema, row_meets}
 use Rattle.datastore_table.specs.Meets.{uniques_apart}
@@ -205,7 +207,7 @@ leave_next ids k id old mid new lt is so_far leaves = record {
         eq_test a b h = grind (arith, nat_tests)
 
 -- the item at a place, whatever would stand past the end
-item_at : (xs : List ℕ) (k d e : ℕ) → k < length xs → get_or xs k d ≡ get_or xs k e
+pub item_at : (xs : List ℕ) (k d e : ℕ) → k < length xs → get_or xs k d ≡ get_or xs k e
 item_at [] k d e lt = absurd (omega arith)
 item_at (x ∷ xs) zero d e lt = refl
 item_at (x ∷ xs) (suc k) d e lt = item_at xs k d e (omega (arith, lt))
@@ -252,8 +254,64 @@ places_room columns k places index more lt is room =
 pub leaves_through : (old mid new : Index) (id : ℕ) → Leaves old mid id → Leaves mid new id → Leaves old new id
 leaves_through old mid new id first second = record {
   kept = λ d i other candidate. second.kept d i other (first.kept d i other candidate);
+  there = λ d i candidate. first.there d i (second.there d i candidate);
   room = λ more room. second.room more (first.room more room);
 }
+
+-- what leads to these cells is taken out, but by the lists of places of the rest
+abbrev pub IsGoneBut : List (List ℕ) → List (List ℕ) → List Cell → ℕ → Index → Type 0
+IsGoneBut columns rest cells id index =
+    (places : List ℕ) → IsIn places columns
+    → IsIn places rest ⊎ (IsCandidate index (digest_of places (cells_at places cells)) id → ⊥)
+
+pub gone_more : (columns : List (List ℕ)) (k : ℕ) (places : List ℕ) (cells : List Cell) (id : ℕ) (old new : Index)
+    → k < length columns → places ≡ get_or columns k places → IsGoneBut columns (drop k columns) cells id old
+    → Leaves old new id → (IsCandidate new (digest_of places (cells_at places cells)) id → ⊥)
+    → IsGoneBut columns (drop (k + 1) columns) cells id new
+gone_more columns k places cells id old new lt is gone leaves here p m = by (gone p m)
+  where
+    by : IsIn p (drop k columns) ⊎ (IsCandidate old (digest_of p (cells_at p cells)) id → ⊥)
+        → IsIn p (drop (k + 1) columns) ⊎ (IsCandidate new (digest_of p (cells_at p cells)) id → ⊥)
+    by (inl rest) = split (split_rest columns k places p lt is rest)
+      where
+        split : (p ≡ places) ⊎ IsIn p (drop (k + 1) columns)
+            → IsIn p (drop (k + 1) columns) ⊎ (IsCandidate new (digest_of p (cells_at p cells)) id → ⊥)
+        split (inl same) =
+            inr (subst (λ (q : List ℕ). IsCandidate new (digest_of q (cells_at q cells)) id → ⊥) (sym same) here)
+        split (inr later) = inl later
+    by (inr away) = inr (λ candidate. away (leaves.there _ id candidate))
+
+-- It doesn't lead to the `_id` by a digest from under which it was taken, where it doesn't stand beside.
+pub gone_here : (digest id : ℕ) (index : Index) → (id_under index digest ≡ Some id → ⊥)
+    → (Contains index.crowded.items id → ⊥) → IsCandidate index digest id → ⊥
+gone_here digest id index under beside (inl there) = under there
+gone_here digest id index under beside (inr among) = beside among
+
+pub left_still : (columns : List (List ℕ)) (rows : List Row) (i id : ℕ) (old new : Index) → Leaves old new id
+    → IsLeft columns rows i old → IsLeft columns rows i new
+left_still columns rows i id old new leaves left row at places m candidate =
+    left row at places m (leaves.there _ i candidate)
+
+-- of the items of a list, those of the rest aren't left yet
+abbrev pub IsLeftBut : {X : Type 0} → (X → ℕ) → List (List ℕ) → List Row → List X → List X → Index → Type 0
+IsLeftBut {X} id_of columns rows items rest index =
+    (x : X) → IsIn x items → IsIn x rest ⊎ IsLeft columns rows (id_of x) index
+
+pub left_more : {X : Type 0} (id_of : X → ℕ) (columns : List (List ℕ)) (rows : List Row) (items : List X) (k : ℕ)
+    (x : X) (old new : Index) → k < length items → x ≡ get_or items k x
+    → IsLeftBut id_of columns rows items (drop k items) old → Leaves old new (id_of x)
+    → IsLeft columns rows (id_of x) new → IsLeftBut id_of columns rows items (drop (k + 1) items) new
+left_more {X} id_of columns rows items k x old new lt is left leaves here y m = by (left y m)
+  where
+    by : IsIn y (drop k items) ⊎ IsLeft columns rows (id_of y) old
+        → IsIn y (drop (k + 1) items) ⊎ IsLeft columns rows (id_of y) new
+    by (inl rest) = split (split_rest items k x y lt is rest)
+      where
+        split : (y ≡ x) ⊎ IsIn y (drop (k + 1) items)
+            → IsIn y (drop (k + 1) items) ⊎ IsLeft columns rows (id_of y) new
+        split (inl same) = inr (subst (λ z. IsLeft columns rows (id_of z) new) (sym same) here)
+        split (inr later) = inl later
+    by (inr away) = inr (left_still columns rows (id_of y) (id_of x) old new leaves away)
 
 -- ---- all of a list
 
@@ -262,6 +320,15 @@ drop_end [] zero le = refl
 drop_end [] (suc k) le = refl
 drop_end (x ∷ xs) zero le = absurd (omega (arith, le))
 drop_end (x ∷ xs) (suc k) le = drop_end xs k (omega (arith, le))
+
+-- What isn't in the rest behind the end is left.
+pub all_but_end : {X : Type 0} (P : X → Type 0) (items : List X) (k : ℕ) → length items ≤ k
+    → ((x : X) → IsIn x items → IsIn x (drop k items) ⊎ P x) → (x : X) → IsIn x items → P x
+all_but_end P items k le all x m = by (all x m)
+  where
+    by : IsIn x (drop k items) ⊎ P x → P x
+    by (inl rest) = absurd (subst (λ xs. IsIn x xs) (drop_end items k le) rest)
+    by (inr holds) = holds
 
 pub entered_all : (columns : List (List ℕ)) (k : ℕ) (row : Row) (old new : Index) → length columns ≤ k
     → IsLedButBy columns (drop k columns) row new → ((d i : ℕ) → IsCandidate old d i → IsCandidate new d i)

@@ -1,5 +1,6 @@
 -- The index by which a table finds rows: their `_id`s by digests of their cells. No public clause cites this.
-use Rattle.std.specs.Prelude.{◌≡◌, ℕ, ◌+◌, ◌*◌, ◌≤◌, ◌==◌, nat_eq, ◌⊎◌, Bool, true, false, ◌&&◌, not, List, [], ◌∷◌, ◌++◌}
+use Rattle.std.specs.Prelude.{◌≡◌, ℕ, ◌+◌, ◌*◌, ◌≤◌, ◌==◌, nat_eq, ◌⊎◌, Bool, true, false, ◌&&◌, not, List, [], ◌∷◌}
+use Rattle.std.specs.Prelude.{◌++◌}
 use Rattle.std.specs.Prelude.{fold, length, if◌then◌else◌}
 use Rattle.std.specs.Prelude.{Option, Some, None, slice_get}
 use Rattle.std.specs.List.{Contains, list_any}
@@ -66,9 +67,10 @@ pub record Enters (old new : Index) (digest id : ℕ) : Type 0 where
   pub kept : (d i : ℕ) → IsCandidate old d i → IsCandidate new d i
   pub room : (more : ℕ) → HasRoomFor old (more + 1) → HasRoomFor new more
 
--- other `_id`s stand as before
+-- other `_id`s stand as before, and none is new
 pub record Leaves (old new : Index) (id : ℕ) : Type 0 where
   pub kept : (d i : ℕ) → (i ≡ id → ⊥) → IsCandidate old d i → IsCandidate new d i
+  pub there : (d i : ℕ) → IsCandidate new d i → IsCandidate old d i
   pub room : (more : ℕ) → HasRoomFor old more → HasRoomFor new more
 
 -- ---- an index of rows
@@ -168,6 +170,15 @@ abbrev pub IsLedBeside : List (List ℕ) → List Row → List Row → Index →
 IsLedBeside columns changed rows index =
     (places : List ℕ) → IsIn places columns → (row : Row) → IsIn row rows → has_like changed row ≡ false
     → IsLedTo places index row
+
+-- The index doesn't lead to the `_id` by these cells, at any of these lists of places.
+abbrev pub IsGone : List (List ℕ) → List Cell → ℕ → Index → Type 0
+IsGone columns cells id index =
+    (places : List ℕ) → IsIn places columns → IsCandidate index (digest_of places (cells_at places cells)) id → ⊥
+
+-- It doesn't lead to the row of this `_id`, if there is one.
+abbrev pub IsLeft : List (List ℕ) → List Row → ℕ → Index → Type 0
+IsLeft columns rows id index = (row : Row) → row_at id rows ≡ Some row → IsGone columns row.cells id index
 
 -- All but the `_id`s of these rows stand as before.
 pub record LeavesRows (old new : Index) (rows : List Row) : Type 0 where

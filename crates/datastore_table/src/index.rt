@@ -3,7 +3,8 @@
 //! Cells are looked up by a digest of them, so that the index owns no cell and changes without memory where room was
 //! made before. Under each digest stands one `_id`. One that comes to a digest at which another stands goes into a
 //! list beside, which is searched whole, and which is empty as long as no two digests meet.
-ghost use Rattle.std.specs.Prelude.{◌≡◌, ℕ, [], Bool, None, OnOk, not, filter, ◌==◌, ◌≢◌, Some};
+ghost use Rattle.std.specs.Prelude.{◌≡◌, ℕ, OnOk, Some};
+ghost use Rattle.std.specs.List.{Contains};
 
 use indexmap::IndexMap;
 use std::alloc::{AllocError, AllocFailed, Global};
@@ -79,7 +80,9 @@ impl Index {
 
     /// Takes the `_id` out from under the digest, where it stands there. It takes no memory.
     pub(crate) fn leave(&mut self, digest: u64, id: u64)
-        ensures { Leaves self.old self.new id }
+        ensures leaves { Leaves self.old self.new id }
+        ensures gone { id_under self.new digest ≡ Some id → ⊥ }
+        ensures crowded { self.new.crowded.items ≡ self.old.crowded.items }
     {
         if self.id_under(digest) == Some(id) {
             let _ = self.by_digest.swap_remove(&digest);
@@ -88,7 +91,8 @@ impl Index {
 
     /// Takes the `_id` out of those that stand under no digest. It takes no memory.
     pub(crate) fn forget(&mut self, id: u64)
-        ensures { Leaves self.old self.new id }
+        ensures leaves { Leaves self.old self.new id }
+        ensures gone { Contains self.new.crowded.items id → ⊥ }
     {
         self.crowded.retain(|other| *other != id);
     }

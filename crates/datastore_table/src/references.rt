@@ -1,5 +1,6 @@
 //! References between rows: what a batch or a removal must not break.
-ghost use Rattle.std.specs.Prelude.{◌≡◌, ◌<◌, ◌&&◌, ◌||◌, not, false, is_some, length, option_copied, find, slice_index_or};
+ghost use Rattle.std.specs.Prelude.{◌≡◌, ◌<◌, ◌&&◌, ◌||◌, not, false, is_some, length, option_copied, find};
+ghost use Rattle.std.specs.Prelude.{slice_index_or};
 ghost use Rattle.std.specs.List.{list_any};
 ghost use Rattle.lexical_forms.specs.Digits.{is_empty};
 ghost use Rattle.portal_base.specs.Ordered.{IsAscending};

@@ -1,11 +1,15 @@
 //! The rows of a table, with the index by which they are found.
 //!
 //! A change is prepared by `reserve`, which alone takes memory, and made by `put` or `cut`.
-ghost use Rattle.std.specs.Prelude.{◌≡◌, ◌+◌, ◌*◌, ◌<◌, ◌≤◌, ◌++◌, [], ◌∷◌, length, vec_len, vec_capacity, IfOk, OnOk, OnErr};
+ghost use Rattle.std.specs.Prelude.{◌≡◌, ℕ, ◌+◌, ◌*◌, ◌<◌, ◌≤◌, ◌++◌, [], ◌∷◌, length, vec_len, vec_capacity};
+ghost use Rattle.std.specs.Prelude.{IfOk, OnOk, OnErr};
 ghost use Rattle.portal_base.specs.Ordered.{IsAscending, placed};
+ghost use Rattle.portal_base.proofs.Unique.{IsIn};
+ghost use Rattle.datastore_table.specs.declared.row.Row.{Row};
 ghost use Rattle.datastore_table.specs.Batch.{cut_rows};
 ghost use Rattle.datastore_table.specs.Index.{columns_of, key_columns, unique_columns, EntersAt, EntersRow, HasRoomFor};
-ghost use Rattle.datastore_table.specs.Index.{IsIndexed, IsLedBeside, IsSound, Leaves, LeavesAll, LeavesRows};
+ghost use Rattle.datastore_table.specs.Index.{IsGone, IsIndexed, IsLedBeside, IsLeft, IsSound};
+ghost use Rattle.datastore_table.specs.Index.{Leaves, LeavesAll, LeavesRows};
 ghost use Rattle.datastore_table.specs.Rows.{row_cmp, rows_after};
 
 use crate::cells::has_null_at;
@@ -222,7 +226,8 @@ fn enter_at(index: &mut Index, places: &[u32], row: &Row)
 /// Takes out what leads to the rows of these rows' `_id`s.
 fn leave_rows(index: &mut Index, columns: &[Seq<u32>], rows: &[Row], changed: &[Row])
     requires { IsAscending row_cmp rows.now }
-    ensures { LeavesRows index.old index.new changed.now }
+    ensures leaves { LeavesRows index.old index.new changed.now }
+    ensures left { (row : Row) → IsIn row changed.now → IsLeft columns.now rows.now row.id index.new }
 {
     for row in changed {
         leave_id(index, columns, rows, row.id);
@@ -232,7 +237,8 @@ fn leave_rows(index: &mut Index, columns: &[Seq<u32>], rows: &[Row], changed: &[
 /// Takes out what leads to the rows of these `_id`s.
 fn leave_all(index: &mut Index, columns: &[Seq<u32>], rows: &[Row], ids: &[u64])
     requires { IsAscending row_cmp rows.now }
-    ensures { LeavesAll index.old index.new ids.now }
+    ensures leaves { LeavesAll index.old index.new ids.now }
+    ensures left { (id : ℕ) → IsIn id ids.now → IsLeft columns.now rows.now id index.new }
 {
     for id in ids {
         leave_id(index, columns, rows, *id);
@@ -241,7 +247,8 @@ fn leave_all(index: &mut Index, columns: &[Seq<u32>], rows: &[Row], ids: &[u64])
 
 fn leave_id(index: &mut Index, columns: &[Seq<u32>], rows: &[Row], id: u64)
     requires { IsAscending row_cmp rows.now }
-    ensures { Leaves index.old index.new id }
+    ensures leaves { Leaves index.old index.new id }
+    ensures left { IsLeft columns.now rows.now id index.new }
 {
     if let Some(row) = row_at(rows, id) {
         leave_row(index, columns, row.cells.as_slice(), id);
@@ -249,13 +256,14 @@ fn leave_id(index: &mut Index, columns: &[Seq<u32>], rows: &[Row], id: u64)
 }
 
 fn leave_row(index: &mut Index, columns: &[Seq<u32>], cells: &[Cell], id: u64)
-    ensures { Leaves index.old index.new id }
+    ensures leaves { Leaves index.old index.new id }
+    ensures gone { IsGone columns.now cells.now id index.new }
 {
+    index.forget(id);
     for places in columns {
         let places = places.as_slice();
         index.leave(digest_at(places, cells, places), id);
     }
-    index.forget(id);
 }
 
 /// Puts rows among others, for which there is room. It takes no memory and can't fail.

@@ -1,6 +1,6 @@
-//! Inserts rows into a table, 500 in a batch, puts batches of 500 known keys into it, asks it by a filter and for sorted
-//! pages, and prints how many rows there are, how many the filters passed and how many the pages had. The words are four
-//! numbers: of rows, of the batches behind them, of filters and of pages.
+//! Inserts rows into a table, 500 in a batch, puts batches of 500 known keys into it, asks it by a filter and for
+//! sorted pages, and prints how many rows there are, how many the filters passed and how many the pages had. The words
+//! are four numbers: of rows, of the batches behind them, of filters and of pages.
 #![tactic(auto)]
 
 mod ask;

@@ -12,10 +12,10 @@ returns-clause-sound c =
     record {
       indexed = subst (λ (rs : List Row). IsIndexed old.columns.items rs c.leave_all.new.index) (sym rows)
           (cut_indexed old.columns.items c.args.ids.now old.rows.items old.index c.leave_all.new.index
-          c.requires.sound.indexed c.leave_all.ensures);
+          c.requires.sound.indexed c.leave_all.ensures.leaves);
       ready = record {
         rows = search rules;
-        index = c.leave_all.ensures.room (0 * length old.columns.items)
+        index = c.leave_all.ensures.leaves.room (0 * length old.columns.items)
             (room_times old.index 0 old.ready (length old.columns.items) (omega arith)
             c.requires.sound.ready.index);
       };

@@ -8,7 +8,7 @@ pub place_all-requires-clause-places : goal.place_all-requires-clause-places
 place_all-requires-clause-places c =
     subst (λ (cs : List (List ℕ)). HasRoomFor c.leave_rows.new.index (length c.args.changed.items * length cs))
     (sym c.as_slice-columns.ensures.value)
-    (c.leave_rows.ensures.room _
+    (c.leave_rows.ensures.leaves.room _
     (room_times c.args.self.now.index (length c.args.changed.items) c.args.self.now.ready
     (length c.args.self.now.columns.items) c.requires.room c.requires.sound.ready.index))
 
@@ -18,7 +18,7 @@ place_all-requires-clause-led c =
     let changed = c.args.changed.items in
     let leaves : LeavesRows old.index c.leave_rows.new.index changed =
     subst (λ (rs : List Row). LeavesRows old.index c.leave_rows.new.index rs) c.as_slice-2.ensures.value
-    c.leave_rows.ensures in
+    c.leave_rows.ensures.leaves in
     subst (λ (cs : List (List ℕ)). IsLedBeside cs changed old.rows.items c.leave_rows.new.index)
     (sym c.as_slice-columns.ensures.value)
     (left_beside old.columns.items changed old.rows.items old.index c.leave_rows.new.index c.requires.sound.indexed
