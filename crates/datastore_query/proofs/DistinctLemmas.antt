@@ -3,7 +3,7 @@ use Rattle.std.proofs.Common.{◌≡◌, ◌∙◌, ℕ, Bool, true, false, ◌|
 use Rattle.std.proofs.Common.{refl, sym}
 use Rattle.std.specs.Prelude.{All, is_some, nat_eq}
 use Rattle.std.specs.List.{list_any}
-use Rattle.std.proofs.lemmas.List.Elements.{All-head, All-push, All-tail, All-weaker}
+use Rattle.std.proofs.lemmas.List.Elements.{All-head, All-tail}
 use Rattle.table_schema.specs.declared.cell.Cell.{Cell}
 use Rattle.datastore_table.specs.Cells.{same_cells}
 use Rattle.datastore_table.specs.Index.{digest_of}
@@ -29,18 +29,3 @@ not_kept (other ∷ kept) noted row all none =
         let free : noted (digest_of [] other) ≡ None = ap (λ r. noted (digest_of [] r)) (sym same) ∙ none in
         let held : is_some (noted (digest_of [] other)) ≡ true = All-head (IsNoted noted) other kept all in
         absurd (cc (ap is_some free, held))
-
--- One more is kept, with its digest.
-pub noted_more : (kept : List (List Cell)) (row : List Cell) (digest place : ℕ) (old new : ℕ → Option ℕ)
-    → digest ≡ digest_of [] row → ((d : ℕ) → new d ≡ cond (nat_eq digest d) (Some place) (old d))
-    → new digest ≡ Some place → AreNoted kept old → AreNoted (kept ++ row ∷ []) new
-noted_more kept row digest place old new is put own all =
-    All-push (IsNoted new) kept row (All-weaker (IsNoted old) (IsNoted new) still kept all)
-    (ap (λ d. is_some (new d)) (sym is) ∙ ap is_some own)
-  where
-    still : (other : List Cell) → IsNoted old other → IsNoted new other
-    still other held = ap is_some (put (digest_of [] other)) ∙ by (nat_eq digest (digest_of [] other))
-      where
-        by : (b : Bool) → is_some (cond b (Some place) (old (digest_of [] other))) ≡ true
-        by true = refl
-        by false = held

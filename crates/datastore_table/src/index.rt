@@ -3,7 +3,7 @@
 //! Cells are looked up by a digest of them, so that the index owns no cell and changes without memory where room was
 //! made before. Under each digest stands one `_id`. One that comes to a digest at which another stands goes into a
 //! list beside, which is searched whole, and which is empty as long as no two digests meet.
-ghost use Rattle.std.specs.Prelude.{◌≡◌, ℕ, OnOk, Some};
+ghost use Rattle.std.specs.Prelude.{◌≡◌, ℕ, [], None, OnOk, Some};
 ghost use Rattle.std.specs.List.{Contains};
 
 use indexmap::IndexMap;
@@ -20,7 +20,10 @@ impl Index {
     ghost use Rattle.datastore_table.specs.Index.{id_under, HasRoomFor, Enters, Leaves};
 
     /// An index of no `_id`, which takes no memory.
-    pub(crate) fn new(alloc: Global) -> Index {
+    pub(crate) fn new(alloc: Global) -> Index
+        ensures under { (digest : ℕ) → id_under result digest ≡ None }
+        ensures crowded { result.crowded.items ≡ [] }
+    {
         Index {
             by_digest: IndexMap::new(alloc),
             crowded: Vec::new(alloc),
