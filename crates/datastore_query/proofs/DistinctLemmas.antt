@@ -1,7 +1,7 @@
 -- Rows that were kept have their digests noted.
-use Rattle.std.proofs.Common.{◌≡◌, ◌∙◌, ℕ, Bool, true, false, ◌||◌, cond, List, [], ◌∷◌, ◌++◌, Option, Some, None, ap}
+use Rattle.std.proofs.Common.{◌≡◌, ◌∙◌, ℕ, Bool, true, false, ◌||◌, List, [], ◌∷◌, Option, None, ap}
 use Rattle.std.proofs.Common.{refl, sym}
-use Rattle.std.specs.Prelude.{All, is_some, nat_eq}
+use Rattle.std.specs.Prelude.{is_some}
 use Rattle.std.specs.List.{list_any}
 use Rattle.std.proofs.lemmas.List.Elements.{All-head, All-tail}
 use Rattle.table_schema.specs.declared.cell.Cell.{Cell}

@@ -1,6 +1,6 @@
 -- What is listed holds the values of the table's cells.
-use Rattle.std.proofs.Common.{◌≡◌, ◌∙◌, ℕ, ◌<◌, ◌^◌, Bool, true, false, cond, List, [], ◌∷◌, ◌++◌, length, map, filter, take, drop, refl, fold, zero, suc}
-use Rattle.std.specs.Prelude.{All, nat_lt, pos, slice_get, unwrap_or, decimal}
+use Rattle.std.proofs.Common.{ℕ, ◌^◌, Bool, true, false, cond, List, [], ◌∷◌, ◌++◌, map, drop, fold, zero, suc}
+use Rattle.std.specs.Prelude.{All, nat_lt, pos, decimal}
 use Rattle.std.specs.List.{list_any}
 use Rattle.std.proofs.lemmas.List.Elements.{All-cons, All-drop, All-filter, All-head, All-map, All-nil}
 use Rattle.std.proofs.lemmas.List.Elements.{All-push, All-tail, All-take, All-weaker}

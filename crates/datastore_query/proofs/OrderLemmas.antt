@@ -1,10 +1,9 @@
 -- Rows of different `_id`s are nowhere alike.
-use Rattle.std.proofs.Common.{◌≡◌, ◌∙◌, ℕ, Bool, true, false, ◌||◌, List, [], ◌∷◌, refl, sym, ap, ap₂}
+use Rattle.std.proofs.Common.{◌≡◌, ◌∙◌, false, ◌||◌, List, [], ◌∷◌, refl, ap, ap₂}
 use Rattle.std.specs.declared.cmp.Ordering.{Ordering}
 use Rattle.std.specs.declared.cmp.Ordering.TheVariants.{Less, Equal, Greater}
-use Rattle.std.specs.Ordering.{is_eq, nat_cmp, ordering_reverse, ordering_then}
+use Rattle.std.specs.Ordering.{is_eq, ordering_reverse, ordering_then}
 use Rattle.std.specs.List.{list_any}
-use Rattle.std.specs.Cmp.{IsTotalOrder}
 use Rattle.portal_base.specs.Ordered.{IsAscending, IsBelowAll}
 use Rattle.portal_base.proofs.Inserted.{AreApart}
 use Rattle.datastore_table.specs.declared.row.Row.{Row}

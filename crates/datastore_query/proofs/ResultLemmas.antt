@@ -1,7 +1,7 @@
 -- Results one after another, as a loop takes them.
-use Rattle.std.proofs.Common.{◌≡◌, ◌∙◌, ℕ, ◌+◌, ◌<◌, ◌≤◌, List, [], ◌∷◌, ◌++◌, length, drop, get_or, refl, ap, sym}
+use Rattle.std.proofs.Common.{◌≡◌, ◌∙◌, ℕ, ◌+◌, ◌<◌, List, [], ◌∷◌, ◌++◌, length, drop, get_or, refl, ap, sym}
 use Rattle.std.proofs.Common.{append_assoc, append-nil, Result, Ok, Err}
-use Rattle.std.proofs.lemmas.List.{at_drop_more, at_drop_all}
+use Rattle.std.proofs.lemmas.List.{at_drop_more}
 use Rattle.datastore_query.specs.Results.{each_read, in_front}
 
 abbrev pub behind : {B E : Type 0} → List B → Result (List B) E → Result (List B) E

@@ -1,6 +1,6 @@
 -- The parts of a sort's text, as they are cut off it.
-use Rattle.std.proofs.Common.{◌≡◌, ◌∙◌, ℕ, suc, ◌+◌, ◌<◌, ◌≤◌, List, [], ◌∷◌, length, take, drop, get_or, refl, ap, sym}
-use Rattle.std.proofs.Common.{Bool, true, false, cond, arith, rules}
+use Rattle.std.proofs.Common.{◌≡◌, ◌∙◌, ℕ, ◌+◌, ◌<◌, ◌≤◌, List, length, take, drop, get_or, refl, ap, sym}
+use Rattle.std.proofs.Common.{Bool, true, false, cond, arith}
 use Rattle.std.specs.Prelude.{Option, Some, None, option_map}
 use Rattle.std.specs.Str.{bytes_eq, IsUtf8, IsCharBoundary, trim_end}
 use Rattle.std.proofs.Common.{◌-◌, ◌++◌, ◌&&◌, subst}
@@ -11,8 +11,8 @@ use Rattle.std.proofs.lemmas.Bool.{eqb-true}
 use Rattle.std.proofs.lemmas.Bool.Decides.{nat_tests}
 use Rattle.std.proofs.lemmas.Slice.Eq.{bytes_eq-Decides}
 use Rattle.std.proofs.lemmas.Str.{IsCharBoundary-after_ascii}
-use Rattle.datastore_query.specs.SortText.{before_space, comma_from, in_front, is_between_quotes, is_end, is_quote}
-use Rattle.datastore_query.specs.SortText.{parts_from, quoted_behind, without_word}
+use Rattle.datastore_query.specs.SortText.{before_space, comma_from, is_between_quotes, is_end, is_quote}
+use Rattle.datastore_query.specs.SortText.{quoted_behind, without_word}
 
 -- a place in what is left, counted from the text's start
 abbrev pub counted_on : ℕ → Option ℕ → Option ℕ

@@ -1,4 +1,4 @@
-use Rattle.std.proofs.Common.{◌≡◌, ◌∷◌, ◌++◌, drop}
+use Rattle.std.proofs.Common.{◌≡◌, ◌++◌, drop}
 use Rattle.datastore_query.specs.Column.{all_columns, places_from}
 use Rattle.datastore_query.proofs.column.all_columns.Given as goal
 

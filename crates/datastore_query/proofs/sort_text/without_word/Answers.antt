@@ -1,7 +1,5 @@
-use Rattle.std.proofs.Common.{◌≡◌, ℕ, List, None, Some, sym, ap, ◌∙◌}
+use Rattle.std.proofs.Common.{sym, ap, ◌∙◌}
 use Rattle.std.specs.Option.{option_copied}
-use Rattle.std.specs.Prelude.{Option}
-use Rattle.datastore_query.specs.SortText.{before_space, without_word}
 use Rattle.datastore_query.proofs.SortLemmas.{before_space-none, before_space-some, without_word-none}
 use Rattle.datastore_query.proofs.SortLemmas.{without_word-some}
 use Rattle.datastore_query.proofs.sort_text.without_word.Goals as goal
