@@ -1,5 +1,6 @@
 //! Prepared batches.
 
+use crate::row::Row;
 use crate::work::Work;
 use std::marker::Model;
 use std::sync::Arc;
@@ -19,4 +20,18 @@ impl Model for Batch {
     ghost Value = { BatchValue };
 
     ghost view = { λ b. record { schema = arc_value b.schema; work = b.work } };
+}
+
+impl Batch {
+    ghost use Rattle.std.specs.Prelude.{◌≡◌};
+    ghost use Rattle.portal_base.specs.Ordered.{IsAscending};
+    ghost use Rattle.datastore_table.specs.Rows.{row_cmp};
+
+    /// The rows that the batch writes, as they stand after it, ascending by `_id`.
+    pub fn changed(&self) -> &[Row]
+        ensures rows { result.now ≡ self.now.work.changed }
+        ensures ascending { IsAscending row_cmp result.now }
+    {
+        self.work.changed()
+    }
 }

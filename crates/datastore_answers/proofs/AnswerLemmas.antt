@@ -1,0 +1,89 @@
+-- How an answer on a table comes about.
+use Rattle.std.proofs.Common.{◌≡◌, ℕ, true, List, [], Option, Some, None, Result, Ok, Err, refl, sym, ap, ◌∙◌, subst}
+use Rattle.std.specs.Prelude.{codes}
+use Rattle.packages.specs.Named.{Placed}
+use Rattle.portal_base.specs.Faults.{Fault, noted_if}
+use Rattle.portal_base.specs.declared.json_value.Json.{Json}
+use Rattle.portal_calls.specs.Answer.{ruled}
+use Rattle.portal_calls.specs.declared.answer.Answer.{Answer}
+use Rattle.portal_calls.specs.declared.answer.Answer.TheVariants.{Refused}
+use Rattle.portal_calls.specs.declared.answer.Denial.{Denial}
+use Rattle.visibility.specs.Seen.{Seen}
+use Rattle.visibility.specs.Visibility.{may_edit_in}
+use Rattle.datastore_table.specs.declared.method.Method.{Method}
+use Rattle.datastore_answers.specs.Answered.{answer_among, answer_on, on_table, on_thing, resource_at, tables_beside}
+use Rattle.datastore_answers.specs.Answers.{putting, upserting_as}
+use Rattle.datastore_answers.specs.Changed.{TableChange}
+use Rattle.datastore_answers.specs.Linked.{put_among, put_at, put_for}
+use Rattle.datastore_answers.specs.Tables.{table_at, tables_seen}
+use Rattle.datastore_answers.specs.Told.{Told, put_fault, records_told, told_in, told_of_put}
+use Rattle.datastore_answers.specs.declared.answer.TableAnswer.{TableAnswer}
+use Rattle.datastore_answers.specs.declared.answer.TableAnswer.TheVariants.{NoTable, Answered}
+use Rattle.datastore_answers.specs.declared.resource_table.ResourceTable.{ResourceTable}
+use Rattle.datastore_answers.proofs.SeenLemmas.{answer-seen}
+
+-- ---- the resource and its table
+
+-- On a table that is there the answer is given.
+pub on-there : {C : Type 0} (key : List ℕ) (seen : Seen) (tables : List ResourceTable)
+    (answer : Placed → List ResourceTable → ResourceTable → Answer C) (placed : Placed) (t : ResourceTable)
+    (given : Answer C) → Ok placed ≡ resource_at key seen
+    → table_at placed.resource.number (tables_beside placed tables) ≡ Some t
+    → given ≡ answer placed (tables_beside placed tables) t
+    → Answered given ≡ answer_on key seen (tables_seen seen.datasets tables) answer
+on-there {C} key seen tables answer placed t given found there same =
+    ap Answered same
+    ∙ ap (λ o. on_table o (answer placed (tables_beside placed tables))) (sym there)
+    ∙ ap (λ (r : Result Placed Denial). on_thing r (λ p. answer_among answer p (tables_beside p tables))) found
+    ∙ sym (answer-seen key seen tables answer)
+
+-- Where there is none, that is told.
+pub on-none : {C : Type 0} (key : List ℕ) (seen : Seen) (tables : List ResourceTable)
+    (answer : Placed → List ResourceTable → ResourceTable → Answer C) (placed : Placed)
+    → Ok placed ≡ resource_at key seen → table_at placed.resource.number (tables_beside placed tables) ≡ None
+    → NoTable ≡ answer_on key seen (tables_seen seen.datasets tables) answer
+on-none {C} key seen tables answer placed found none =
+    ap (λ o. on_table o (answer placed (tables_beside placed tables))) (sym none)
+    ∙ ap (λ (r : Result Placed Denial). on_thing r (λ p. answer_among answer p (tables_beside p tables))) found
+    ∙ sym (answer-seen key seen tables answer)
+
+-- What isn't found is denied.
+pub on-denied : {C : Type 0} (key : List ℕ) (seen : Seen) (tables : List ResourceTable)
+    (answer : Placed → List ResourceTable → ResourceTable → Answer C) (denial : Denial)
+    → Err denial ≡ resource_at key seen
+    → Answered (Refused denial) ≡ answer_on key seen (tables_seen seen.datasets tables) answer
+on-denied {C} key seen tables answer denial found =
+    ap (λ (r : Result Placed Denial). on_thing r (λ p. answer_among answer p (tables_beside p tables))) found
+    ∙ sym (answer-seen key seen tables answer)
+
+-- ---- records
+
+-- Records that were read are put into the table.
+pub put-answer : (seen : Seen) (placed : Placed) (beside : List ResourceTable) (t : ResourceTable) (how : Method)
+    (records : List Json) (read : Told (List Json)) (given : Answer TableChange)
+    → may_edit_in seen.people seen.call.caller placed.dataset ≡ true
+    → table_at placed.resource.number beside ≡ Some t → Ok records ≡ read
+    → given ≡ ruled seen.quota (noted_if (codes "records")
+    (put_fault (put_at beside placed.resource.number how records)) []) (putting placed how records)
+    → given ≡ upserting_as seen placed beside t (Ok how) read
+put-answer seen placed beside t how records read given may there is same =
+    subst (λ r. given ≡ upserting_as seen placed beside t (Ok how) r) is
+    (rw may (same ∙ ap (λ o. ruled seen.quota (noted_if (codes "records") (put_fault (put_for beside how records o)) [])
+    (putting placed how records)) there))
+
+-- What can't be read is told, and nothing is put.
+pub refused-answer : (seen : Seen) (placed : Placed) (beside : List ResourceTable) (t : ResourceTable)
+    (how : Told Method) (read given_read : Told (List Json)) (given : Answer TableChange)
+    → may_edit_in seen.people seen.call.caller placed.dataset ≡ true → given_read ≡ read
+    → records_told beside t how given_read ≡ told_in given_read
+    → ((other : Answer TableChange) → given ≡ ruled seen.quota (noted_if (codes "records") (told_in given_read)
+    (noted_if (codes "method") (told_in how) [])) other)
+    → given ≡ upserting_as seen placed beside t how read
+refused-answer seen placed beside t how read given_read given may is told same =
+    subst (λ r. given ≡ upserting_as seen placed beside t how r) is
+    (rw (may, told) (same _))
+
+pub method-told : (beside : List ResourceTable) (t : ResourceTable) (message : List ℕ) (read : Told (List Json))
+    → records_told beside t (Err message) read ≡ told_in read
+method-told beside t message (Ok records) = refl
+method-told beside t message (Err other) = refl

@@ -1,0 +1,78 @@
+-- The dictionaries in which replies show tables, with keys that ascend by bytes. Keys are those of CKAN 2.10's DataStore.
+use Rattle.std.specs.Prelude.{ℕ, pos, List, [], ◌∷◌, map, length, codes}
+use Rattle.portal_base.specs.declared.json_value.Json.{Json}
+use Rattle.portal_base.specs.declared.json_value.Json as json
+use Rattle.table_schema.specs.Field.{FieldValue, SchemaValue}
+use Rattle.table_schema.specs.Form.{kind_of}
+use Rattle.table_schema.specs.Written.{names_value}
+use Rattle.table_schema.specs.declared.form.Kind.{Kind}
+use Rattle.table_schema.specs.declared.form.Kind.TheVariants as kind
+use Rattle.datastore_table.specs.declared.method.Method.{Method}
+use Rattle.datastore_table.specs.declared.method.Method.TheVariants as method
+use Rattle.datastore_answers.specs.declared.resource_table.ResourceTable.{ResourceTable}
+
+-- the type of a column
+abbrev pub type_name : Kind → List ℕ
+type_name kind.Text = codes "text"
+type_name kind.Integer = codes "int"
+type_name kind.Number = codes "numeric"
+type_name kind.Boolean = codes "bool"
+type_name kind.Date = codes "date"
+type_name kind.Time = codes "time"
+type_name kind.Datetime = codes "timestamp"
+type_name kind.Year = codes "year"
+type_name kind.YearMonth = codes "yearmonth"
+
+abbrev pub field_dictionary : FieldValue → Json
+field_dictionary field = json.Map (
+    (codes "id", json.Text field.name)
+    ∷ (codes "type", json.Text (type_name (kind_of field.form)))
+    ∷ [])
+
+-- the table's fields in the schema's order
+abbrev pub fields_shown : SchemaValue → Json
+fields_shown schema = json.List (map field_dictionary schema.fields)
+
+-- the names of the key's fields
+abbrev pub key_shown : SchemaValue → Json
+key_shown schema = names_value schema.fields schema.key
+
+-- how many rows a table has, and its key
+abbrev pub meta_dictionary : ℕ → Json → Json
+meta_dictionary count key = json.Map (
+    (codes "count", json.Whole (pos count))
+    ∷ (codes "primary_key", key)
+    ∷ [])
+
+-- a table: its fields, how many rows it has, and its key
+abbrev pub info_dictionary : ResourceTable → Json
+info_dictionary t = json.Map (
+    (codes "fields", fields_shown t.table.schema)
+    ∷ (codes "meta", meta_dictionary (length t.table.rows) (key_shown t.table.schema))
+    ∷ [])
+
+abbrev pub method_name : Method → List ℕ
+method_name method.Upsert = codes "upsert"
+method_name method.Insert = codes "insert"
+method_name method.Update = codes "update"
+
+-- a batch that was put into the table of the resource of that id: how many records it had
+abbrev pub upsert_dictionary : List ℕ → Method → List Json → Json
+upsert_dictionary resource how records = json.Map (
+    (codes "count", json.Whole (pos (length records)))
+    ∷ (codes "method", json.Text (method_name how))
+    ∷ (codes "resource_id", json.Text resource)
+    ∷ [])
+
+-- ---- tables and rows that go
+
+-- a table that is gone, of the resource of that id
+abbrev pub gone_dictionary : List ℕ → Json
+gone_dictionary resource = json.Map ((codes "resource_id", json.Text resource) ∷ [])
+
+-- so many rows that are gone of it
+abbrev pub cut_dictionary : ℕ → List ℕ → Json
+cut_dictionary count resource = json.Map (
+    (codes "deleted", json.Whole (pos count))
+    ∷ (codes "resource_id", json.Text resource)
+    ∷ [])

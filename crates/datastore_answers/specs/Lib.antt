@@ -1,0 +1,9 @@
+pub mod Answered
+pub mod Answers
+pub mod Changed
+pub mod Dictionary
+pub mod Linked
+pub mod Order
+pub mod Plan
+pub mod Tables
+pub mod Told

@@ -1,0 +1,249 @@
+//! The answers to calls on the tables of resources.
+//!
+//! Each names the resource, its table, the right, the reading of the body and the change. What it answers is a function
+//! of the call and of what the caller sees. A batch is prepared where it is decided on, since a table tells only so
+//! whether it takes it; the tables stay as they are.
+ghost use Rattle.std.specs.Prelude.{◌≡◌, ◌≢◌, [], codes, IfOk, IsSome, IsTrue, None, Some};
+ghost use Rattle.std.specs.List.{list_all};
+ghost use Rattle.portal_base.specs.Faults.{noted_if};
+ghost use Rattle.packages.specs.Placing.{placed_now};
+ghost use Rattle.portal_calls.specs.Answer.{AcceptsOnly, ruled};
+ghost use Rattle.portal_calls.specs.declared.answer.Answer.{Answer};
+ghost use Rattle.table_schema.specs.Values.{is_map};
+ghost use Rattle.visibility.specs.Seen.{seen_by};
+ghost use Rattle.datastore_answers.specs.Answered.{AcceptsSuch, address_of, answer_with, table_answer_with};
+ghost use Rattle.datastore_answers.specs.Answers.{answer_to_datastore_info, answer_to_datastore_upsert, putting};
+ghost use Rattle.datastore_answers.specs.Answers.{upserting_as};
+ghost use Rattle.datastore_answers.specs.Changed.{TableChange};
+ghost use Rattle.datastore_answers.specs.Changed as change;
+ghost use Rattle.datastore_answers.specs.Linked.{AreLinked, put_at};
+ghost use Rattle.datastore_answers.specs.Plan.{IsPlanned, IsPutReady, change_of};
+ghost use Rattle.datastore_answers.specs.Tables.{Stored, table_at, tables_in, tables_of, tables_seen};
+ghost use Rattle.datastore_answers.specs.Told.{put_fault, records_in, told_in};
+ghost use Rattle.datastore_answers.specs.declared.resource_table.ResourceTable.{ResourceTable};
+
+use crate::answer::TableAnswer;
+use crate::copies::copies_of;
+use crate::dictionary::{info_json, upsert_json};
+use crate::lookup::{address_of, id_of, resource_at};
+use crate::plan::TablePlan;
+use crate::tables::Tables;
+use crate::told::{fault_text, method_in, records_in};
+use datastore_table::{Batch, Method, TableFault};
+use packages::named::PlacedResource;
+use portal_base::faults::Faults;
+use portal_base::json_value::Json;
+use portal_base::seq::Seq;
+use portal_base::text::Text;
+use portal_calls::answer::{Answer, Denial, Quota, Right, denial_by};
+use std::alloc::{AllocError, Global};
+use visibility::asked::Asked;
+
+// ---- readings
+
+/// The answer to a `datastore_info`.
+pub fn datastore_info(
+    alloc: Global,
+    asked: &Asked<'_>,
+    tables: &Tables,
+) -> Result<TableAnswer<TablePlan>, AllocError>
+    ensures { IfOk result (λ answer. table_answer_with change_of answer
+        ≡ answer_to_datastore_info (seen_by asked.now)
+        (tables_seen (seen_by asked.now).datasets (tables_of tables.now))) }
+{
+    let placed = match resource_at(alloc, asked, "id")? {
+        Ok(placed) => placed,
+        Err(denial) => return Ok(TableAnswer::Answered(Answer::Refused(denial))),
+    };
+    match tables.get(&placed.dataset.id, placed.resource.number) {
+        Some(table) => Ok(TableAnswer::Answered(Answer::Shown(info_json(
+            alloc, table,
+        )?))),
+        None => Ok(TableAnswer::NoTable),
+    }
+}
+
+// ---- rules
+
+/// What is refused for broken rules.
+fn refused(quota: Quota, faults: Faults) -> Result<Answer<TablePlan>, AllocError>
+    requires { faults ≢ [] }
+    ensures refusal { IfOk result (λ answer. (given : Answer TableChange) →
+        answer_with change_of answer ≡ ruled quota faults given) }
+    ensures nothing { IfOk result (λ answer. (stored : Stored) → AcceptsOnly (λ plan. IsPlanned plan stored) answer) }
+{
+    match denial_by(quota, faults)? {
+        Some(denial) => Ok(Answer::Refused(denial)),
+        None => unreachable!(),
+    }
+}
+
+// ---- rows that come and change
+
+/// A batch of records for the table of the resource, or what is told of it.
+fn tried_batch(
+    alloc: Global,
+    placed: &PlacedResource<'_>,
+    tables: &mut Tables,
+    method: Method,
+    records: &Seq<Json>,
+) -> Result<Result<Batch, Text>, AllocError>
+    requires stands { IsSome (table_at placed.now.resource.now.number
+        (tables_in placed.now.dataset.now.id (tables_of tables.old))) }
+    requires maps { IsTrue (list_all is_map records.now) }
+    requires linked { AreLinked (tables_of tables.old) }
+    ensures same { tables_of tables.new ≡ tables_of tables.old }
+    ensures told { IfOk result (λ tried. told_in tried
+        ≡ put_fault (put_at (tables_in placed.now.dataset.now.id (tables_of tables.old))
+            placed.now.resource.now.number method records.now)) }
+    ensures ready { IfOk result (λ tried. IfOk tried (λ batch.
+        IsPutReady (address_of (placed_now placed.now)) method records.now batch tables.new)) }
+{
+    match tables.batch(
+        &placed.dataset.id,
+        placed.resource.number,
+        method,
+        records,
+    ) {
+        Ok(batch) => Ok(Ok(batch)),
+        Err(TableFault::OutOfMemory) => Err(AllocError),
+        Err(fault) => Ok(Err(fault_text(alloc, &fault)?)),
+    }
+}
+
+/// The plan of a batch for the table of the resource.
+fn put_plan(
+    alloc: Global,
+    placed: &PlacedResource<'_>,
+    method: Method,
+    records: &Seq<Json>,
+    batch: Batch,
+) -> Result<TablePlan, AllocError>
+    ensures change { IfOk result (λ plan. change_of plan
+        ≡ change.Put (address_of (placed_now placed.now)) method records.now) }
+    ensures planned { IfOk result (λ plan. (stored : Stored) →
+        IsPutReady (address_of (placed_now placed.now)) method records.now batch stored → IsPlanned plan stored) }
+{
+    let address = address_of(alloc, placed)?;
+    let records = copies_of(alloc, records)?;
+    Ok(TablePlan::Put(address, method, records, batch))
+}
+
+/// The answer to records for the table of a resource that the caller may edit.
+fn upsert_at(
+    alloc: Global,
+    quota: Quota,
+    placed: &PlacedResource<'_>,
+    tables: &mut Tables,
+    method: Method,
+    records: &Seq<Json>,
+) -> Result<Answer<TablePlan>, AllocError>
+    requires stands { IsSome (table_at placed.now.resource.now.number
+        (tables_in placed.now.dataset.now.id (tables_of tables.old))) }
+    requires maps { IsTrue (list_all is_map records.now) }
+    requires linked { AreLinked (tables_of tables.old) }
+    ensures same { tables_of tables.new ≡ tables_of tables.old }
+    ensures answer { IfOk result (λ answer. answer_with change_of answer
+        ≡ ruled quota (noted_if (codes "records")
+            (put_fault (put_at (tables_in placed.now.dataset.now.id (tables_of tables.old))
+            placed.now.resource.now.number method records.now)) [])
+            (putting (placed_now placed.now) method records.now)) }
+    ensures ready { IfOk result (λ answer. AcceptsOnly (λ plan. IsPlanned plan tables.new) answer) }
+{
+    let mut faults = Faults::new(alloc);
+    let batch = match tried_batch(alloc, placed, tables, method, records)? {
+        Ok(batch) => batch,
+        Err(message) => {
+            faults.note(Text::from_static("records"), message)?;
+            return refused(quota, faults);
+        }
+    };
+    if let Some(denial) = denial_by(quota, faults)? {
+        return Ok(Answer::Refused(denial));
+    }
+    let shown = upsert_json(alloc, id_of(alloc, placed)?, method, records)?;
+    let plan = put_plan(alloc, placed, method, records, batch)?;
+    Ok(Answer::Accepted(shown, plan))
+}
+
+/// What is refused of a body whose method or records can't be read.
+fn upsert_refused(
+    alloc: Global,
+    quota: Quota,
+    method: Result<Method, Text>,
+    records: Result<&Seq<Json>, Text>,
+) -> Result<Answer<TablePlan>, AllocError>
+    requires { told_in method ≡ None → told_in records ≡ None → ⊥ }
+    ensures refusal { IfOk result (λ answer. (given : Answer TableChange) → answer_with change_of answer
+        ≡ ruled quota (noted_if (codes "records") (told_in records.entry) (noted_if (codes "method") (told_in method) []))
+            given) }
+    ensures nothing { IfOk result (λ answer. (stored : Stored) → AcceptsOnly (λ plan. IsPlanned plan stored) answer) }
+{
+    let mut faults = Faults::new(alloc);
+    if let Err(message) = method {
+        faults.note(Text::from_static("method"), message)?;
+    }
+    if let Err(message) = records {
+        faults.note(Text::from_static("records"), message)?;
+    }
+    refused(quota, faults)
+}
+
+/// The answer to a `datastore_upsert` on the table of the resource, for which the method was read.
+fn upsert_on(
+    alloc: Global,
+    asked: &Asked<'_>,
+    placed: &PlacedResource<'_>,
+    tables: &mut Tables,
+    method: Result<Method, Text>,
+) -> Result<Answer<TablePlan>, AllocError>
+    requires stands { IsSome (table_at placed.now.resource.now.number
+        (tables_in placed.now.dataset.now.id (tables_of tables.old))) }
+    requires linked { AreLinked (tables_of tables.old) }
+    ensures same { tables_of tables.new ≡ tables_of tables.old }
+    ensures answer { IfOk result (λ answer. (t : ResourceTable) →
+        table_at placed.now.resource.now.number (tables_in placed.now.dataset.now.id (tables_of tables.old)) ≡ Some t
+        → answer_with change_of answer
+        ≡ upserting_as (seen_by asked.now) (placed_now placed.now)
+            (tables_in placed.now.dataset.now.id (tables_of tables.old)) t
+            method (records_in asked.now.call.now.request.body)) }
+    ensures ready { IfOk result (λ answer. AcceptsOnly (λ plan. IsPlanned plan tables.new) answer) }
+{
+    if !asked.may_edit(placed.dataset) {
+        return Ok(Answer::Refused(Denial::NotAuthorized(Right::EditDataset)));
+    }
+    let none = Seq::new(alloc);
+    let records = records_in(alloc, &none, &asked.call.request.body)?;
+    match (method, records) {
+        (Ok(method), Ok(records)) => upsert_at(alloc, asked.quota, placed, tables, method, records),
+        (Ok(method), Err(message)) => upsert_refused(alloc, asked.quota, Ok(method), Err(message)),
+        (Err(message), records) => upsert_refused(alloc, asked.quota, Err(message), records),
+    }
+}
+
+/// The answer to a `datastore_upsert`.
+pub fn datastore_upsert(
+    alloc: Global,
+    asked: &Asked<'_>,
+    tables: &mut Tables,
+) -> Result<TableAnswer<TablePlan>, AllocError>
+    requires linked { AreLinked (tables_of tables.old) }
+    ensures same { tables_of tables.new ≡ tables_of tables.old }
+    ensures answer { IfOk result (λ answer. table_answer_with change_of answer
+        ≡ answer_to_datastore_upsert (seen_by asked.now)
+        (tables_seen (seen_by asked.now).datasets (tables_of tables.old))) }
+    ensures ready { IfOk result (λ answer. AcceptsSuch (λ plan. IsPlanned plan tables.new) answer) }
+{
+    let placed = match resource_at(alloc, asked, "resource_id")? {
+        Ok(placed) => placed,
+        Err(denial) => return Ok(TableAnswer::Answered(Answer::Refused(denial))),
+    };
+    let Some(table) = tables.get(&placed.dataset.id, placed.resource.number) else {
+        return Ok(TableAnswer::NoTable);
+    };
+    let key = table.table.schema().key().as_slice();
+    let method = method_in(alloc, key, &asked.call.request.body)?;
+    Ok(TableAnswer::Answered(upsert_on(
+        alloc, asked, &placed, tables, method,
+    )?))
+}

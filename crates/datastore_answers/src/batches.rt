@@ -1,0 +1,156 @@
+//! Batches of records, prepared on the table of a resource among the tables of its dataset.
+ghost use Rattle.std.specs.Prelude.{◌≡◌, ◌⊎◌, ◌<◌, Ok, Err, IfOk, IfErr, OnOk, IsSome, IsTrue, Some, None, length};
+ghost use Rattle.std.specs.Prelude.{option_copied, option_map, slice_get};
+ghost use Rattle.std.specs.List.{list_all};
+ghost use Rattle.table_schema.specs.Values.{is_map};
+ghost use Rattle.portal_base.specs.Ordered.{IsAscending, found};
+ghost use Rattle.datastore_table.specs.Batch.{IsReady, worked_on};
+ghost use Rattle.datastore_table.specs.Put.{put_records};
+ghost use Rattle.datastore_table.specs.Rows.{row_cmp};
+ghost use Rattle.datastore_table.specs.declared.fault.TableFault.TheVariants.{OutOfMemory};
+ghost use Rattle.datastore_answers.specs.Linked.{AreLinked, alone, link_checked, links_checked, put_at, put_own, target_of};
+ghost use Rattle.datastore_answers.specs.Order.{at_address};
+ghost use Rattle.datastore_answers.specs.Plan.{IsBatchAt, IsPutReady};
+ghost use Rattle.datastore_answers.specs.Tables.{bare, table_at, tables_in, tables_of};
+ghost use Rattle.datastore_answers.specs.Told.{put_fault};
+
+use crate::place::place_at;
+use crate::resource_table::ResourceTable;
+use crate::tables::Tables;
+use datastore_table::{Batch, Method, TableFault, check_foreign};
+use portal_base::json_value::Json;
+use portal_base::seq::Seq;
+use portal_base::text::Text;
+use table_schema::Foreign;
+
+// Prepares a batch on the table, which stays as it is.
+fn prepared(
+    table: &mut ResourceTable,
+    method: Method,
+    records: &Seq<Json>,
+) -> Result<Batch, TableFault>
+    requires { IsTrue (list_all is_map records.now) }
+    ensures same { bare table.new ≡ bare table.old }
+    ensures schema { IfOk result (λ batch. batch.schema ≡ table.new.table.schema) }
+    ensures changed { IfOk result (λ batch. IsAscending row_cmp batch.work.changed) }
+    ensures rows { IfOk result (λ _. IsAscending row_cmp table.new.table.rows) }
+    ensures made { IfOk result (λ batch.
+        put_records method records.now table.new.table ≡ Ok (worked_on table.new.table.rows batch.work)) }
+    ensures ready { IfOk result (λ batch. IsReady batch table.new.table) }
+    ensures fault { IfErr result (λ fault. (fault ≡ OutOfMemory)
+        ⊎ (put_records method records.now table.new.table ≡ Err fault)) }
+{
+    let batch = table.table.prepare(method, records)?;
+    let _changed = batch.changed();
+    let _rows = table.table.rows();
+    Ok(batch)
+}
+
+impl Tables {
+    /// Prepares a batch of records, which are dictionaries, on the table of the dataset's resource of this number. It
+    /// takes all the memory of the batch. The tables stay as they are.
+    pub(crate) fn batch(
+        &mut self,
+        dataset: &Text,
+        number: u32,
+        method: Method,
+        records: &Seq<Json>,
+    ) -> Result<Batch, TableFault>
+        requires stands { IsSome (table_at number (tables_in dataset.now (tables_of self.old))) }
+        requires maps { IsTrue (list_all is_map records.now) }
+        requires linked { AreLinked (tables_of self.old) }
+        ensures same { tables_of self.new ≡ tables_of self.old }
+        ensures taken { IfOk result (λ _. put_fault
+            (put_at (tables_in dataset.now (tables_of self.old)) number method records.now) ≡ None) }
+        ensures ready { IfOk result (λ batch. IsPutReady (record { dataset = dataset.now; number = number })
+            method records.now batch self.new) }
+        ensures fault { IfErr result (λ fault. (fault ≡ OutOfMemory)
+            ⊎ (put_at (tables_in dataset.now (tables_of self.old)) number method records.now ≡ Err fault)) }
+    {
+        let batch = self.prepared_at(dataset, number, method, records)?;
+        match self.get(dataset, number) {
+            Some(table) => {
+                self.check_links(table, &batch)?;
+                Ok(batch)
+            }
+            None => unreachable!(),
+        }
+    }
+
+    // Prepares a batch on that table, whose references to other tables aren't looked at.
+    fn prepared_at(
+        &mut self,
+        dataset: &Text,
+        number: u32,
+        method: Method,
+        records: &Seq<Json>,
+    ) -> Result<Batch, TableFault>
+        requires stands { IsSome
+            (found (at_address (record { dataset = dataset.now; number = number })) self.old.tables) }
+        requires maps { IsTrue (list_all is_map records.now) }
+        ensures same { tables_of self.new ≡ tables_of self.old }
+        ensures batch { IfOk result (λ batch. IsBatchAt (record { dataset = dataset.now; number = number })
+            method records.now batch self.new) }
+        ensures fault { IfErr result (λ fault. (fault ≡ OutOfMemory) ⊎ (put_own method records.now
+            (found (at_address (record { dataset = dataset.now; number = number })) self.old.tables) ≡ Err fault)) }
+    {
+        match place_at(self.tables.as_slice(), dataset, number) {
+            Some(place) => prepared(&mut self.tables[place], method, records),
+            None => unreachable!(),
+        }
+    }
+
+    // Whether each row of the batch on the table refers to rows of other tables that are there.
+    fn check_links(&self, table: &ResourceTable, batch: &Batch) -> Result<(), TableFault>
+        requires schema { batch.now.schema ≡ table.now.table.schema }
+        ensures ok { OnOk result (links_checked (tables_in table.now.address.dataset (tables_of self.now)) table.now
+            (alone batch.now.work) ≡ Ok tt) }
+        ensures err { IfErr result (λ fault. (fault ≡ OutOfMemory)
+            ⊎ (links_checked (tables_in table.now.address.dataset (tables_of self.now)) table.now
+            (alone batch.now.work) ≡ Err fault)) }
+    {
+        for (place, foreign) in table.table.schema().foreign().as_slice().iter().enumerate() {
+            self.check_link(table, batch, place, foreign)?;
+        }
+        Ok(())
+    }
+
+    // The same by the foreign key at this place, counted from 0.
+    fn check_link(
+        &self,
+        table: &ResourceTable,
+        batch: &Batch,
+        place: usize,
+        foreign: &Foreign,
+    ) -> Result<(), TableFault>
+        requires schema { batch.now.schema ≡ table.now.table.schema }
+        requires stands { slice_get table.now.table.schema.foreign place ≡ Some foreign.now }
+        ensures ok { OnOk result (link_checked (tables_in table.now.address.dataset (tables_of self.now)) table.now
+            (alone batch.now.work) place foreign.now tt ≡ Ok tt) }
+        ensures err { IfErr result (λ fault. (fault ≡ OutOfMemory)
+            ⊎ (link_checked (tables_in table.now.address.dataset (tables_of self.now)) table.now
+            (alone batch.now.work) place foreign.now tt ≡ Err fault)) }
+    {
+        if foreign.resource.is_empty() {
+            return Ok(());
+        }
+        let Ok(number) = u32::try_from(place) else {
+            return Err(TableFault::OutOfMemory);
+        };
+        match self.target(table, place) {
+            Some(target) => check_foreign(batch, number, &target.table),
+            None => Ok(()),
+        }
+    }
+
+    // The table of the resource that the foreign key at this place means.
+    fn target(&self, table: &ResourceTable, place: usize) -> Option<&ResourceTable>
+        ensures { option_map bare (option_copied result)
+            ≡ target_of (tables_in table.now.address.dataset (tables_of self.now)) table.now place }
+    {
+        match table.means.as_slice().get(place) {
+            Some(number) => self.get(&table.address.dataset, *number),
+            None => None,
+        }
+    }
+}

@@ -1,0 +1,150 @@
+//! The dictionaries in which replies show tables.
+ghost use Rattle.std.specs.Prelude.{◌≡◌, map, IfOk};
+ghost use Rattle.portal_base.specs.declared.json_value.Json.{Json};
+ghost use Rattle.portal_base.specs.declared.json_value.Json as json;
+ghost use Rattle.table_schema.specs.Written.{name_at, names_value};
+ghost use Rattle.datastore_answers.specs.Dictionary.{type_name, field_dictionary, fields_shown, key_shown};
+ghost use Rattle.datastore_answers.specs.Dictionary.{info_dictionary, meta_dictionary, method_name, upsert_dictionary};
+
+use crate::resource_table::ResourceTable;
+use datastore_table::Method;
+use portal_base::dictionary::Value;
+use portal_base::json_value::Json;
+use portal_base::seq::Seq;
+use portal_base::text::Text;
+use std::alloc::{AllocError, Global};
+use table_schema::{Field, Kind, Schema};
+
+fn type_name(kind: Kind) -> &'static str
+    ensures { result.now ≡ type_name kind }
+{
+    match kind {
+        Kind::Text => "text",
+        Kind::Integer => "int",
+        Kind::Number => "numeric",
+        Kind::Boolean => "bool",
+        Kind::Date => "date",
+        Kind::Time => "time",
+        Kind::Datetime => "timestamp",
+        Kind::Year => "year",
+        Kind::YearMonth => "yearmonth",
+    }
+}
+
+fn field_json(alloc: Global, field: &Field) -> Result<Json, AllocError>
+    ensures { IfOk result (λ json. json ≡ field_dictionary field.now) }
+{
+    Json::dictionary(
+        alloc,
+        [
+            ("id", Value::Text(field.name())),
+            ("type", Value::Static(type_name(field.form().kind()))),
+        ],
+    )
+}
+
+fn field_list(alloc: Global, fields: &[Field]) -> Result<Seq<Json>, AllocError>
+    ensures { IfOk result (λ list. list ≡ map field_dictionary fields.now) }
+{
+    let mut list = Vec::with_capacity(alloc, fields.len())?;
+    for field in fields {
+        list.push(field_json(alloc, field)?)?;
+    }
+    Ok(Seq::from(list))
+}
+
+/// The table's fields.
+pub(crate) fn fields_json(alloc: Global, schema: &Schema) -> Result<Json, AllocError>
+    ensures { IfOk result (λ json. json ≡ fields_shown schema.now) }
+{
+    Ok(Json::List(field_list(alloc, schema.fields().as_slice())?))
+}
+
+fn name_at(fields: &[Field], place: u32) -> &str
+    ensures { result.now ≡ name_at fields.now place }
+{
+    match fields.get(place as usize) {
+        Some(field) => field.name().as_str(),
+        None => "",
+    }
+}
+
+fn names_at(alloc: Global, fields: &[Field], places: &[u32]) -> Result<Json, AllocError>
+    ensures { IfOk result (λ json. json ≡ names_value fields.now places.now) }
+{
+    let mut list = Vec::with_capacity(alloc, places.len())?;
+    for place in places {
+        let name = Text::from_str(alloc, name_at(fields, *place))?;
+        list.push(Json::Text(name))?;
+    }
+    Ok(Json::List(Seq::from(list)))
+}
+
+/// The names of the key's fields.
+pub(crate) fn key_json(alloc: Global, schema: &Schema) -> Result<Json, AllocError>
+    ensures { IfOk result (λ json. json ≡ key_shown schema.now) }
+{
+    names_at(
+        alloc,
+        schema.fields().as_slice(),
+        schema.key().as_slice(),
+    )
+}
+
+fn meta_json(alloc: Global, count: usize, key: Json) -> Result<Json, AllocError>
+    ensures { IfOk result (λ json. json ≡ meta_dictionary count key) }
+{
+    Json::dictionary(
+        alloc,
+        [
+            ("count", Value::Whole(count)),
+            ("primary_key", Value::Json(key)),
+        ],
+    )
+}
+
+/// A table: its fields, how many rows it has, and its key.
+pub(crate) fn info_json(alloc: Global, table: &ResourceTable) -> Result<Json, AllocError>
+    ensures { IfOk result (λ json. json ≡ info_dictionary table.now) }
+{
+    let schema = table.table.schema();
+    let key = key_json(alloc, schema)?;
+    let meta = meta_json(alloc, table.table.rows().len(), key)?;
+    let fields = fields_json(alloc, schema)?;
+    Json::dictionary(
+        alloc,
+        [
+            ("fields", Value::Json(fields)),
+            ("meta", Value::Json(meta)),
+        ],
+    )
+}
+
+fn method_name(method: Method) -> &'static str
+    ensures { result.now ≡ method_name method }
+{
+    match method {
+        Method::Upsert => "upsert",
+        Method::Insert => "insert",
+        Method::Update => "update",
+    }
+}
+
+/// A batch that was put into the table of the resource of that id.
+pub(crate) fn upsert_json(
+    alloc: Global,
+    resource: Text,
+    method: Method,
+    records: &Seq<Json>,
+) -> Result<Json, AllocError>
+    ensures { IfOk result (λ json. json ≡ upsert_dictionary resource method records.now) }
+{
+    Json::dictionary(
+        alloc,
+        [
+            ("count", Value::Whole(records.len())),
+            ("method", Value::Static(method_name(method))),
+            ("resource_id", Value::Json(Json::Text(resource))),
+        ],
+    )
+}

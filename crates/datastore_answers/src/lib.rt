@@ -1,0 +1,15 @@
+//! What calls on the DataStore's tables are answered.
+#![tactic(auto)]
+
+pub mod address;
+pub mod answer;
+pub mod answers;
+mod batches;
+mod copies;
+mod dictionary;
+mod lookup;
+mod place;
+pub mod plan;
+pub mod resource_table;
+pub mod tables;
+mod told;
