@@ -1,24 +1,29 @@
 -- How an answer on a table comes about.
 use Rattle.std.proofs.Common.{◌≡◌, ℕ, true, List, [], Option, Some, None, Result, Ok, Err, refl, sym, ap, ◌∙◌, subst}
-use Rattle.std.specs.Prelude.{codes}
+use Rattle.std.specs.Prelude.{IfOk, codes}
+use Rattle.std.specs.Borrow.{Bor}
+use Rattle.std.specs.Result.{result_map_both}
 use Rattle.packages.specs.Named.{Placed}
 use Rattle.portal_base.specs.Faults.{Fault, noted_if}
 use Rattle.portal_base.specs.declared.json_value.Json.{Json}
-use Rattle.portal_calls.specs.Answer.{ruled}
+use Rattle.portal_calls.specs.Answer.{AcceptsOnly, ruled}
 use Rattle.portal_calls.specs.declared.answer.Answer.{Answer}
 use Rattle.portal_calls.specs.declared.answer.Answer.TheVariants.{Refused}
 use Rattle.portal_calls.specs.declared.answer.Denial.{Denial}
 use Rattle.visibility.specs.Seen.{Seen}
 use Rattle.visibility.specs.Visibility.{may_edit_in}
 use Rattle.datastore_table.specs.declared.method.Method.{Method}
-use Rattle.datastore_answers.specs.Answered.{answer_among, answer_on, on_table, on_thing, resource_at, tables_beside}
+use Rattle.datastore_answers.specs.Answered.{answer_among, answer_on, answer_with, on_table, on_thing, resource_at}
+use Rattle.datastore_answers.specs.Answered.{tables_beside}
 use Rattle.datastore_answers.specs.Answers.{putting, upserting_as}
 use Rattle.datastore_answers.specs.Changed.{TableChange}
 use Rattle.datastore_answers.specs.Linked.{put_among, put_at, put_for}
-use Rattle.datastore_answers.specs.Tables.{table_at, tables_seen}
+use Rattle.datastore_answers.specs.Plan.{IsPlanned, change_of}
+use Rattle.datastore_answers.specs.Tables.{Stored, table_at, tables_seen}
 use Rattle.datastore_answers.specs.Told.{Told, put_fault, records_told, told_in, told_of_put}
 use Rattle.datastore_answers.specs.declared.answer.TableAnswer.{TableAnswer}
 use Rattle.datastore_answers.specs.declared.answer.TableAnswer.TheVariants.{NoTable, Answered}
+use Rattle.datastore_answers.specs.declared.plan.TablePlan.{TablePlan}
 use Rattle.datastore_answers.specs.declared.resource_table.ResourceTable.{ResourceTable}
 use Rattle.datastore_answers.proofs.SeenLemmas.{answer-seen}
 
@@ -87,3 +92,35 @@ pub method-told : (beside : List ResourceTable) (t : ResourceTable) (message : L
     → records_told beside t (Err message) read ≡ told_in read
 method-told beside t message (Ok records) = refl
 method-told beside t message (Err other) = refl
+
+-- What accepts nothing whatever stands accepts nothing here.
+pub at-stored : {E : Type 0} (r : Result (Answer TablePlan) E) (stored : Stored)
+    → IfOk r (λ a. (s : Stored) → AcceptsOnly (λ p. IsPlanned p s) a)
+    → IfOk r (λ a. AcceptsOnly (λ p. IsPlanned p stored) a)
+at-stored (Ok a) stored nothing = nothing stored
+at-stored (Err e) stored nothing = tt
+
+-- What is told of what was read is told of it behind a reference.
+told-now : (recs : Result (Bor (List Json)) (List ℕ)) → told_in recs
+    ≡ told_in (result_map_both (λ (r : Bor (List Json)). r.now) (λ (m : List ℕ). m) recs)
+told-now (Ok r) = refl
+told-now (Err m) = refl
+
+-- A method that can't be read is told, with what is told of the records.
+pub method-refused : {E : Type 0} (result : Result (Answer TablePlan) E) (seen : Seen) (placed : Placed)
+    (beside : List ResourceTable) (how : Told Method) (message : List ℕ) (recs : Result (Bor (List Json)) (List ℕ))
+    (read : Told (List Json)) → may_edit_in seen.people seen.call.caller placed.dataset ≡ true → how ≡ Err message
+    → result_map_both (λ (r : Bor (List Json)). r.now) (λ (m : List ℕ). m) recs ≡ read
+    → IfOk result (λ a. (other : Answer TableChange) → answer_with change_of a ≡ ruled seen.quota
+    (noted_if (codes "records") (told_in recs) (noted_if (codes "method") (Some message) [])) other)
+    → IfOk result (λ a. (t : ResourceTable) → table_at placed.resource.number beside ≡ Some t
+    → answer_with change_of a ≡ upserting_as seen placed beside t how read)
+method-refused (Err e) seen placed beside how message recs read may is same refusal = tt
+method-refused (Ok a) seen placed beside how message recs read may is same refusal = λ t there.
+    refused-answer seen placed beside t how read read (answer_with change_of a) may refl
+    (subst (λ h. records_told beside t h read ≡ told_in read) (sym is) (method-told beside t message read))
+    (λ other. refusal other
+    ∙ ap (λ told. ruled seen.quota (noted_if (codes "records") told (noted_if (codes "method") (Some message) [])) other)
+    (told-now recs ∙ ap told_in same)
+    ∙ ap (λ h. ruled seen.quota (noted_if (codes "records") (told_in read) (noted_if (codes "method") (told_in h) []))
+    other) (sym is))

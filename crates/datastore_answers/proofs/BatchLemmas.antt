@@ -76,9 +76,11 @@ linked-found : (ts : List ResourceTable) (dataset : List ℕ) (number : ℕ) (t 
 linked-found ts dataset number t linked there =
     let among = IsIn-find (λ u. u.address.number == number) t (tables_in dataset ts) there in
     let stood = IsIn-filter (λ u. bytes_eq u.address.dataset dataset) t ts among.0 in
-    let same : t.address.dataset ≡ dataset = (bytes_eq-Decides t.address.dataset dataset).0 stood.1 in
-    (same, subst (λ d. is_linked (tables_in d ts) t ≡ true) same
-    (list_all-IsIn (λ u. is_linked (tables_in u.address.dataset ts) u) ts linked t stood.0))
+    let same : t.address.dataset ≡ dataset = (bytes_eq-Decides t.address.dataset dataset).0 stood.1 in (
+      same,
+      subst (λ d. is_linked (tables_in d ts) t ≡ true) same
+          (list_all-IsIn (λ u. is_linked (tables_in u.address.dataset ts) u) ts linked t stood.0),
+    )
 
 -- What a batch that a table takes is told among the others hangs on its references to them.
 pub batch-told : (ts : List ResourceTable) (dataset : List ℕ) (number : ℕ) (method : Method) (records : List Json)

@@ -1,5 +1,6 @@
 pub mod AnswerLemmas
 pub mod BatchLemmas
+pub mod FitLemmas
 pub mod LinkLemmas
 pub mod SeenLemmas
 pub mod TableLemmas

@@ -27,7 +27,6 @@ address_of placed = record { dataset = placed.dataset.id; number = placed.resour
 abbrev pub tables_beside : Placed → List ResourceTable → List ResourceTable
 tables_beside placed tables = tables_in placed.dataset.id tables
 
-
 -- ---- answers on it
 
 abbrev pub on_thing : {X C : Type 0} → Result X Denial → (X → TableAnswer C) → TableAnswer C

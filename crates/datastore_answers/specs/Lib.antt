@@ -2,6 +2,7 @@ pub mod Answered
 pub mod Answers
 pub mod Changed
 pub mod Dictionary
+pub mod Fit
 pub mod Linked
 pub mod Order
 pub mod Plan

@@ -1,9 +1,8 @@
 //! By what the tables of resources are named, and the order in which they stand.
+use crate::resource_table::ResourceTable;
 use portal_base::ordered::{Key, Ordered};
 use portal_base::text::Text;
 use std::cmp::Ordering;
-
-use crate::resource_table::ResourceTable;
 
 /// A resource's id in its two parts: the id of its dataset, and its number there.
 #[derive(Drop)]

@@ -56,9 +56,7 @@ pub fn datastore_info(
         Err(denial) => return Ok(TableAnswer::Answered(Answer::Refused(denial))),
     };
     match tables.get(&placed.dataset.id, placed.resource.number) {
-        Some(table) => Ok(TableAnswer::Answered(Answer::Shown(info_json(
-            alloc, table,
-        )?))),
+        Some(table) => Ok(TableAnswer::Answered(Answer::Shown(info_json(alloc, table)?))),
         None => Ok(TableAnswer::NoTable),
     }
 }
@@ -95,16 +93,11 @@ fn tried_batch(
     ensures same { tables_of tables.new ≡ tables_of tables.old }
     ensures told { IfOk result (λ tried. told_in tried
         ≡ put_fault (put_at (tables_in placed.now.dataset.now.id (tables_of tables.old))
-            placed.now.resource.now.number method records.now)) }
+        placed.now.resource.now.number method records.now)) }
     ensures ready { IfOk result (λ tried. IfOk tried (λ batch.
         IsPutReady (address_of (placed_now placed.now)) method records.now batch tables.new)) }
 {
-    match tables.batch(
-        &placed.dataset.id,
-        placed.resource.number,
-        method,
-        records,
-    ) {
+    match tables.batch(&placed.dataset.id, placed.resource.number, method, records) {
         Ok(batch) => Ok(Ok(batch)),
         Err(TableFault::OutOfMemory) => Err(AllocError),
         Err(fault) => Ok(Err(fault_text(alloc, &fault)?)),
@@ -145,9 +138,9 @@ fn upsert_at(
     ensures same { tables_of tables.new ≡ tables_of tables.old }
     ensures answer { IfOk result (λ answer. answer_with change_of answer
         ≡ ruled quota (noted_if (codes "records")
-            (put_fault (put_at (tables_in placed.now.dataset.now.id (tables_of tables.old))
-            placed.now.resource.now.number method records.now)) [])
-            (putting (placed_now placed.now) method records.now)) }
+        (put_fault (put_at (tables_in placed.now.dataset.now.id (tables_of tables.old))
+        placed.now.resource.now.number method records.now)) [])
+        (putting (placed_now placed.now) method records.now)) }
     ensures ready { IfOk result (λ answer. AcceptsOnly (λ plan. IsPlanned plan tables.new) answer) }
 {
     let mut faults = Faults::new(alloc);
@@ -176,7 +169,7 @@ fn upsert_refused(
     requires { told_in method ≡ None → told_in records ≡ None → ⊥ }
     ensures refusal { IfOk result (λ answer. (given : Answer TableChange) → answer_with change_of answer
         ≡ ruled quota (noted_if (codes "records") (told_in records.entry) (noted_if (codes "method") (told_in method) []))
-            given) }
+        given) }
     ensures nothing { IfOk result (λ answer. (stored : Stored) → AcceptsOnly (λ plan. IsPlanned plan stored) answer) }
 {
     let mut faults = Faults::new(alloc);
@@ -205,8 +198,8 @@ fn upsert_on(
         table_at placed.now.resource.now.number (tables_in placed.now.dataset.now.id (tables_of tables.old)) ≡ Some t
         → answer_with change_of answer
         ≡ upserting_as (seen_by asked.now) (placed_now placed.now)
-            (tables_in placed.now.dataset.now.id (tables_of tables.old)) t
-            method (records_in asked.now.call.now.request.body)) }
+        (tables_in placed.now.dataset.now.id (tables_of tables.old)) t
+        method (records_in asked.now.call.now.request.body)) }
     ensures ready { IfOk result (λ answer. AcceptsOnly (λ plan. IsPlanned plan tables.new) answer) }
 {
     if !asked.may_edit(placed.dataset) {
@@ -238,12 +231,13 @@ pub fn datastore_upsert(
         Ok(placed) => placed,
         Err(denial) => return Ok(TableAnswer::Answered(Answer::Refused(denial))),
     };
-    let Some(table) = tables.get(&placed.dataset.id, placed.resource.number) else {
-        return Ok(TableAnswer::NoTable);
-    };
-    let key = table.table.schema().key().as_slice();
-    let method = method_in(alloc, key, &asked.call.request.body)?;
-    Ok(TableAnswer::Answered(upsert_on(
-        alloc, asked, &placed, tables, method,
-    )?))
+    match tables.get(&placed.dataset.id, placed.resource.number) {
+        Some(table) => {
+            let key = table.table.schema().key().as_slice();
+            let method = method_in(alloc, key, &asked.call.request.body)?;
+            let answer = upsert_on(alloc, asked, &placed, tables, method)?;
+            Ok(TableAnswer::Answered(answer))
+        }
+        None => Ok(TableAnswer::NoTable),
+    }
 }

@@ -84,11 +84,7 @@ fn names_at(alloc: Global, fields: &[Field], places: &[u32]) -> Result<Json, All
 pub(crate) fn key_json(alloc: Global, schema: &Schema) -> Result<Json, AllocError>
     ensures { IfOk result (λ json. json ≡ key_shown schema.now) }
 {
-    names_at(
-        alloc,
-        schema.fields().as_slice(),
-        schema.key().as_slice(),
-    )
+    names_at(alloc, schema.fields().as_slice(), schema.key().as_slice())
 }
 
 fn meta_json(alloc: Global, count: usize, key: Json) -> Result<Json, AllocError>
@@ -113,10 +109,7 @@ pub(crate) fn info_json(alloc: Global, table: &ResourceTable) -> Result<Json, Al
     let fields = fields_json(alloc, schema)?;
     Json::dictionary(
         alloc,
-        [
-            ("fields", Value::Json(fields)),
-            ("meta", Value::Json(meta)),
-        ],
+        [("fields", Value::Json(fields)), ("meta", Value::Json(meta))],
     )
 }
 

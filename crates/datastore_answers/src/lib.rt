@@ -7,6 +7,7 @@ pub mod answers;
 mod batches;
 mod copies;
 mod dictionary;
+pub mod laws;
 mod lookup;
 mod place;
 pub mod plan;

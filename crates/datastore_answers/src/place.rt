@@ -35,7 +35,7 @@ pub(crate) fn place_at(tables: &[ResourceTable], dataset: &Text, number: u32) ->
     ensures place { MatchOption result
         (found (at_address (record { dataset = dataset.now; number = number })) tables.now ≡ None)
         (λ place. found (at_address (record { dataset = dataset.now; number = number })) tables.now
-            ≡ slice_get tables.now place) }
+        ≡ slice_get tables.now place) }
     ensures within { IfSome result (λ place. place < length tables.now) }
 {
     let place = place_of(tables, dataset, number);

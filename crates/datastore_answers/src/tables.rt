@@ -112,11 +112,7 @@ impl Tables {
         ensures { tables_of self.new
             ≡ with_table_at address.now (put_into _method _records.now) (tables_of self.old) }
     {
-        match place_at(
-            self.tables.as_slice(),
-            &address.dataset,
-            address.number,
-        ) {
+        match place_at(self.tables.as_slice(), &address.dataset, address.number) {
             Some(place) => {
                 let table = &mut self.tables[place];
                 table.table.commit(batch);
@@ -130,11 +126,7 @@ impl Tables {
         requires ready { IsCutReady address.now removal.ids self.old }
         ensures { tables_of self.new ≡ with_table_at address.now (cut_from removal.ids) (tables_of self.old) }
     {
-        match place_at(
-            self.tables.as_slice(),
-            &address.dataset,
-            address.number,
-        ) {
+        match place_at(self.tables.as_slice(), &address.dataset, address.number) {
             Some(place) => {
                 let table = &mut self.tables[place];
                 table.table.commit_delete(removal);

@@ -35,40 +35,27 @@ fn field_told(
     ensures { IfOk result (λ text. text ≡ field_text number field.now ++ told.now) }
 {
     let field = field.as_str();
-    Ok(Text::from(
-        format!(in alloc; "row {number}, {field}{told}")?,
-    ))
+    Ok(Text::from(format!(in alloc; "row {number}, {field}{told}")?))
 }
 
-fn cell_told(
-    alloc: Global,
-    number: u64,
-    field: &Text,
-    why: CellFault,
-) -> Result<Text, AllocError>
+fn cell_told(alloc: Global, number: u64, field: &Text, why: CellFault) -> Result<Text, AllocError>
     ensures { IfOk result (λ text. text ≡ fault_text (TableFault.Cell number field.now why)) }
 {
     let field = field.as_str();
-    Ok(Text::from(
-        format!(in alloc; "row {number}, {field}: {why}")?,
-    ))
+    Ok(Text::from(format!(in alloc; "row {number}, {field}: {why}")?))
 }
 
 fn unknown_told(alloc: Global, number: u64, field: &Text) -> Result<Text, AllocError>
     ensures { IfOk result (λ text. text ≡ fault_text (TableFault.UnknownField number field.now)) }
 {
     let field = field.as_str();
-    Ok(Text::from(
-        format!(in alloc; "row {number}: no field {field}")?,
-    ))
+    Ok(Text::from(format!(in alloc; "row {number}: no field {field}")?))
 }
 
 fn referred_told(alloc: Global, id: u64) -> Result<Text, AllocError>
     ensures { IfOk result (λ text. text ≡ fault_text (TableFault.Referred id)) }
 {
-    Ok(Text::from(
-        format!(in alloc; "row with _id {id} is referred to")?,
-    ))
+    Ok(Text::from(format!(in alloc; "row with _id {id} is referred to")?))
 }
 
 /// What is told of a fault of the table.
@@ -99,9 +86,7 @@ fn method_named(name: &Text) -> Result<Method, Text>
         "upsert" => Ok(Method::Upsert),
         "insert" => Ok(Method::Insert),
         "update" => Ok(Method::Update),
-        _ => Err(Text::from_static(
-            "Method must be upsert, insert or update",
-        )),
+        _ => Err(Text::from_static("Method must be upsert, insert or update")),
     }
 }
 
@@ -161,9 +146,7 @@ fn is_map(value: &Json) -> bool
 fn not_a_dictionary(alloc: Global, number: usize) -> Result<Text, AllocError>
     ensures { IfOk result (λ text. text ≡ row_text number ++ codes ": not a dictionary") }
 {
-    Ok(Text::from(
-        format!(in alloc; "row {number}: not a dictionary")?,
-    ))
+    Ok(Text::from(format!(in alloc; "row {number}: not a dictionary")?))
 }
 
 /// What is told of the first of the items that is no dictionary.

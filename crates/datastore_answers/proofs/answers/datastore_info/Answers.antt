@@ -1,4 +1,4 @@
-use Rattle.std.proofs.Common.{◌≡◌, ◌∙◌, ap, sym, Some, None, refl}
+use Rattle.std.proofs.Common.{◌≡◌, ap, sym}
 use Rattle.std.specs.Prelude.{codes}
 use Rattle.packages.specs.Placing.{placed_now}
 use Rattle.portal_calls.specs.declared.answer.Answer.TheVariants.{Shown}
@@ -10,8 +10,13 @@ use Rattle.datastore_answers.proofs.answers.datastore_info.Goals as goal
 
 pub returns-in_ok-info_json-in-Some : goal.returns-in_ok-info_json-in-Some
 returns-in_ok-info_json-in-Some c =
-    let seen = seen_by c.args.asked.now in
-    ?
+    on-there (codes "id") (seen_by c.args.asked.now) (tables_of c.args.tables.now)
+    (λ placed beside t. Shown (info_dictionary t)) (placed_now c.in-Ok.placed) (bare c.in-Some.table.now)
+    (Shown c.in_ok-info_json-in-Some.field-0) (rw c.in-Ok.is at c.in_ok-placed.ensures) (sym c.in-Some.ensures.table)
+    (ap Shown c.in_ok-info_json-in-Some.ensures)
 
 pub returns-in-None : goal.returns-in-None
-returns-in-None c = ?
+returns-in-None c =
+    on-none (codes "id") (seen_by c.args.asked.now) (tables_of c.args.tables.now)
+    (λ placed beside t. Shown (info_dictionary t)) (placed_now c.in-Ok.placed)
+    (rw c.in-Ok.is at c.in_ok-placed.ensures) (sym c.in-None.ensures.table)

@@ -1,0 +1,22 @@
+//! Laws of the answers: functions with an empty body, whose contracts are the laws.
+ghost use Rattle.std.specs.Prelude.{List};
+ghost use Rattle.visibility.specs.Seen.{Seen};
+ghost use Rattle.datastore_answers.specs.Answered.{AcceptsSuch};
+ghost use Rattle.datastore_answers.specs.Answers.{answer_to_datastore_info, answer_to_datastore_upsert};
+ghost use Rattle.datastore_answers.specs.Fit.{IsFitTable};
+ghost use Rattle.datastore_answers.specs.declared.resource_table.ResourceTable.{ResourceTable};
+
+/// What the answers accept is fit to be made: the table is that of a resource that is seen and that the caller may
+/// edit, and it takes the batch.
+pub fn what_is_accepted_is_fit()
+    ensures datastore_upsert { (seen : Seen) (tables : List ResourceTable) →
+        AcceptsSuch (IsFitTable seen tables) (answer_to_datastore_upsert seen tables) }
+    ensures datastore_info { (seen : Seen) (tables : List ResourceTable) →
+        AcceptsSuch (IsFitTable seen tables) (answer_to_datastore_info seen tables) }
+{}
+
+/// And what reads accepts nothing.
+pub fn a_reading_accepts_nothing()
+    ensures { (seen : Seen) (tables : List ResourceTable) →
+        AcceptsSuch (λ change. ⊥) (answer_to_datastore_info seen tables) }
+{}
