@@ -1,5 +1,6 @@
 pub mod AnswerLemmas
 pub mod BatchLemmas
+mod Examples
 pub mod FitLemmas
 pub mod LinkLemmas
 pub mod SeenLemmas
