@@ -1,33 +1,23 @@
 -- Worked examples: what is told of faults, of methods and of records; what a change makes of the table at an address.
-use Rattle.std.proofs.Common.{◌≡◌, ℕ, List, [], ◌∷◌, Some, None, Ok, Err, refl, rules}
-use Rattle.std.specs.Prelude.{codes, pos}
+use Rattle.std.proofs.Common.{◌≡◌, ℕ, List, [], ◌∷◌, ◌++◌, None, Ok, Err, refl, rules}
+use Rattle.std.specs.Prelude.{codes}
 use Rattle.portal_base.specs.declared.json_value.Json.{Json, the_lemmas}
 use Rattle.portal_base.specs.declared.json_value.Json as json
-use Rattle.table_schema.specs.declared.cell.CellFault.TheVariants as why
 use Rattle.datastore_table.specs.declared.fault.TableFault.TheVariants as fault
 use Rattle.datastore_table.specs.declared.method.Method.TheVariants as method
 use Rattle.datastore_answers.specs.Changed as change
 use Rattle.datastore_answers.specs.Changed.{changed_tables}
-use Rattle.datastore_answers.specs.Told.{fault_text, method_in, records_in}
+use Rattle.datastore_answers.specs.Told.{fault_text, method_in, records_in, row_text}
 use Rattle.datastore_answers.specs.Tables.{table_at, tables_in}
 use Rattle.datastore_answers.specs.declared.resource_table.ResourceTable.{ResourceTable}
 
 -- ---- faults
 
-key_taken : fault_text (fault.KeyTaken 2) ≡ codes "row 2: key taken"
+full : fault_text fault.Full ≡ codes "Table is full"
+full = refl
+
+key_taken : fault_text (fault.KeyTaken 2) ≡ row_text 2 ++ codes ": key taken"
 key_taken = refl
-
-not_of_type : fault_text (fault.Cell 1 (codes "k") why.NotOfType) ≡ codes "row 1, k: not of type"
-not_of_type = refl
-
-unknown_field : fault_text (fault.UnknownField 10 (codes "x")) ≡ codes "row 10: no field x"
-unknown_field = refl
-
-not_unique : fault_text (fault.Unique 3 (codes "v")) ≡ codes "row 3, v: not unique"
-not_unique = refl
-
-referred : fault_text (fault.Referred 2) ≡ codes "row with _id 2 is referred to"
-referred = refl
 
 -- ---- methods
 
@@ -52,7 +42,7 @@ none : records_in (json.Map ((codes "records", json.Null) ∷ [])) ≡ Ok []
 none = search (rules, the_lemmas)
 
 second : records_in (json.Map ((codes "records", json.List (json.Map [] ∷ json.Text (codes "a") ∷ [])) ∷ []))
-    ≡ Err (codes "row 2: not a dictionary")
+    ≡ Err (row_text 2 ++ codes ": not a dictionary")
 second = search (rules, the_lemmas)
 
 -- ---- tables
