@@ -2,4 +2,5 @@ pub mod Desking
 mod Examples
 pub mod Playing
 pub mod Serving
+pub mod Staging
 pub mod Working

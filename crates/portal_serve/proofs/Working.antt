@@ -154,6 +154,14 @@ DrawsAll-more (Some fs) (Some bs) (Some zs) xs ys first second = second ∙ ap (
 pub DrawsAll-one : {X : Type 0} (a b : Option (List X)) (x : X) → Draws a x b → DrawsAll a (x ∷ []) b
 DrawsAll-one a b x h = h
 
+-- none was drawn
+pub DrawsAll-same : {X : Type 0} (a b : Option (List X)) → b ≡ a → DrawsAll a [] b
+DrawsAll-same a b e = subst (λ o. DrawsAll a [] o) (sym e) (DrawsAll-none a)
+
+-- one was drawn, and then none
+pub DrawsAll-once : {X : Type 0} (a b c : Option (List X)) (x : X) → Draws a x b → c ≡ b → DrawsAll a (x ∷ []) c
+DrawsAll-once a b c x h e = subst (λ o. DrawsAll a (x ∷ []) o) (sym e) (DrawsAll-one a b x h)
+
 -- ---- one line
 
 -- a line that asks for no call

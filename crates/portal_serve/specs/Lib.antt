@@ -5,6 +5,7 @@ pub mod Run
 pub mod Script
 pub mod Seen
 pub mod Served
+pub mod Stage
 pub mod Stated
 pub mod Stopped
 pub mod Tokens

@@ -48,6 +48,10 @@ devices to_come taken moments nonces = record { to_come = to_come; taken = taken
 abbrev pub outlet_of : Devices → Outlet
 outlet_of d = outlet d.taken d.moments d.nonces
 
+-- the same with the bytes that input has still to give
+abbrev pub with_input : Option (List ℕ) → Outlet → Devices
+with_input to_come o = devices to_come o.taken o.moments o.nonces
+
 -- What passed the devices in a run on an input that tells: the bytes that were read of the whole and those that were
 -- left, the bytes written, and the moments and numbers drawn.
 pub record Passed (whole : List ℕ) (old new : Devices) : Type 0 where

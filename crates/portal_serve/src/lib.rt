@@ -8,5 +8,6 @@ mod line;
 pub mod play;
 mod script;
 pub mod serve;
+mod stage;
 pub mod stated;
 pub mod tokens;

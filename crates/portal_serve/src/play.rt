@@ -4,7 +4,8 @@ ghost use Rattle.std.specs.Prelude.{length, IfOk, IfErr, OnOk, OnErr};
 ghost use Rattle.portal_base.specs.Outside.{Rose, Takes, TakesPrefix};
 ghost use Rattle.portal_serve.specs.Played.{WorksLines, StopsLines, TakesTurn, EndsTurn, StopsTurn, unless_empty};
 ghost use Rattle.portal_serve.specs.Stopped.{IsOfLine, end_of, stop_for, begun_at, most_begun};
-ghost use Rattle.portal_serve.specs.Run.{outlet, devices};
+ghost use Rattle.portal_serve.specs.Run.{devices, with_input};
+ghost use Rattle.portal_serve.specs.Stage.{AreSameLoans, told_on};
 ghost use Rattle.portal_lines.specs.Lines.{bytes_left};
 ghost use Rattle.portal_serve.specs.Transcript.{early_line, replied_to, reply_line};
 ghost use Rattle.portal_serve.specs.Run.{PlaysAll, PlaysPart, GaveTooMuch};
@@ -16,6 +17,7 @@ ghost use Rattle.portal_core.specs.State.{State};
 use crate::calling::{Drawn, replied};
 use crate::line::line_of_reply;
 use crate::script::{LONGEST_LINE, ScriptCall, read_call};
+use crate::stage::Stage;
 use crate::stated::stated_portal;
 use action_api::early::Early;
 use action_api::request::request_on;
@@ -26,7 +28,6 @@ use portal_base::seq::Seq;
 use portal_core::event::Reply;
 use portal_core::portal::Portal;
 use portal_lines::lines::{LineFault, LineReader, NextLine};
-use portal_lines::write::write_whole;
 use std::alloc::{AllocError, Global};
 
 /// The most bytes that input may give: 2^40.
@@ -68,14 +69,20 @@ impl From<AllocError> for Stop {
 }
 
 /// Writes a line of the transcript.
-fn write_line<O: Sink>(output: &mut O, line: &[u8]) -> Result<(), Stop>
-    ensures ok { OnOk result (Takes (O.taken output.old) line.now (O.taken output.new)) }
-    ensures failed { OnErr result (TakesPrefix (O.taken output.old) line.now (O.taken output.new)) }
-    ensures fault { OnErr result (Rose (O.faults output.old) (O.faults output.new)) }
+fn write_line<O: Sink, C: Clock, N: Nonces>(
+    stage: &mut Stage<'_, '_, '_, O, C, N>,
+    line: &[u8],
+) -> Result<(), Stop>
+    ensures ok { OnOk result (Takes (O.taken stage.old.output.now) line.now (O.taken stage.new.output.now)) }
+    ensures failed { OnErr result (TakesPrefix (O.taken stage.old.output.now) line.now (O.taken stage.new.output.now)) }
+    ensures fault { OnErr result (Rose (O.faults stage.old.output.now) (O.faults stage.new.output.now)) }
     ensures stop { OnErr result (result ≡ Err Stop.WriteFault) }
-    ensures counts { O.faults output.old ≤ O.faults output.new }
+    ensures counts { O.faults stage.old.output.now ≤ O.faults stage.new.output.now }
+    ensures clock { stage.new.clock.now ≡ stage.old.clock.now }
+    ensures nonces { stage.new.nonces.now ≡ stage.old.nonces.now }
+    ensures loans { AreSameLoans stage.old stage.new }
 {
-    match write_whole(output, line) {
+    match stage.write(line) {
         Ok(()) => Ok(()),
         Err(_failed) => Err(Stop::WriteFault),
     }
@@ -130,23 +137,20 @@ fn play_call<O: Sink, C: Clock, N: Nonces>(
     portal: &mut Portal,
     said: ScriptCall,
     line: &[u8],
-    output: &mut O,
-    clock: &mut C,
-    nonces: &mut N,
+    stage: &mut Stage<'_, '_, '_, O, C, N>,
 ) -> Result<(), Stop>
     requires { call_of_line line.now ≡ Ok (asked said) }
     ensures ok { OnOk result (WorksLines portal.old (line.now ∷ []) portal.new
-        (outlet (O.taken output.old) (C.given clock.old) (N.given nonces.old))
-        (outlet (O.taken output.new) (C.given clock.new) (N.given nonces.new))) }
+        (told_on O.taken C.given N.given stage.old) (told_on O.taken C.given N.given stage.new)) }
     ensures cut { OnErr result (StopsLines portal.old (line.now ∷ []) portal.new
-        (outlet (O.taken output.old) (C.given clock.old) (N.given nonces.old))
-        (outlet (O.taken output.new) (C.given clock.new) (N.given nonces.new))) }
-    ensures fault { result ≡ Err Stop.WriteFault → Rose (O.faults output.old) (O.faults output.new) }
+        (told_on O.taken C.given N.given stage.old) (told_on O.taken C.given N.given stage.new)) }
+    ensures fault { result ≡ Err Stop.WriteFault
+        → Rose (O.faults stage.old.output.now) (O.faults stage.new.output.now) }
     ensures stop { IfErr result IsOfLine }
-    ensures counts { O.faults output.old ≤ O.faults output.new }
+    ensures counts { O.faults stage.old.output.now ≤ O.faults stage.new.output.now }
+    ensures loans { AreSameLoans stage.old stage.new }
 {
-    let moment = clock.now();
-    let nonce = nonces.next();
+    let (moment, nonce) = stage.draw();
     let size = line.len() as u64;
     let drawn = Drawn {
         size,
@@ -154,19 +158,28 @@ fn play_call<O: Sink, C: Clock, N: Nonces>(
         nonce,
     };
     let text = work_call(alloc, portal, said, drawn)?;
-    write_line(output, text.as_slice())
+    write_line(stage, text.as_slice())
 }
 
 /// Writes the line for a line that asks for no call.
-fn write_early<O: Sink>(alloc: Global, early: Early, output: &mut O) -> Result<(), Stop>
-    ensures ok { OnOk result (Takes (O.taken output.old) (early_line early) (O.taken output.new)) }
-    ensures failed { OnErr result (TakesPrefix (O.taken output.old) (early_line early) (O.taken output.new)) }
-    ensures fault { result ≡ Err Stop.WriteFault → Rose (O.faults output.old) (O.faults output.new) }
+fn write_early<O: Sink, C: Clock, N: Nonces>(
+    alloc: Global,
+    early: Early,
+    stage: &mut Stage<'_, '_, '_, O, C, N>,
+) -> Result<(), Stop>
+    ensures ok { OnOk result (Takes (O.taken stage.old.output.now) (early_line early) (O.taken stage.new.output.now)) }
+    ensures failed { OnErr result (TakesPrefix (O.taken stage.old.output.now) (early_line early)
+        (O.taken stage.new.output.now)) }
+    ensures fault { result ≡ Err Stop.WriteFault
+        → Rose (O.faults stage.old.output.now) (O.faults stage.new.output.now) }
     ensures stop { IfErr result IsOfLine }
-    ensures counts { O.faults output.old ≤ O.faults output.new }
+    ensures counts { O.faults stage.old.output.now ≤ O.faults stage.new.output.now }
+    ensures clock { stage.new.clock.now ≡ stage.old.clock.now }
+    ensures nonces { stage.new.nonces.now ≡ stage.old.nonces.now }
+    ensures loans { AreSameLoans stage.old stage.new }
 {
     let text = line_of_reply(alloc, None, &Err(early))?;
-    write_line(output, text.as_slice())
+    write_line(stage, text.as_slice())
 }
 
 /// Works a line that isn't empty.
@@ -174,25 +187,23 @@ fn play_full_line<O: Sink, C: Clock, N: Nonces>(
     alloc: Global,
     portal: &mut Portal,
     line: &[u8],
-    output: &mut O,
-    clock: &mut C,
-    nonces: &mut N,
+    stage: &mut Stage<'_, '_, '_, O, C, N>,
 ) -> Result<(), Stop>
     requires { length line.now ≤ LONGEST_LINE }
     ensures ok { OnOk result (WorksLines portal.old (line.now ∷ []) portal.new
-        (outlet (O.taken output.old) (C.given clock.old) (N.given nonces.old))
-        (outlet (O.taken output.new) (C.given clock.new) (N.given nonces.new))) }
+        (told_on O.taken C.given N.given stage.old) (told_on O.taken C.given N.given stage.new)) }
     ensures cut { OnErr result (StopsLines portal.old (line.now ∷ []) portal.new
-        (outlet (O.taken output.old) (C.given clock.old) (N.given nonces.old))
-        (outlet (O.taken output.new) (C.given clock.new) (N.given nonces.new))) }
-    ensures fault { result ≡ Err Stop.WriteFault → Rose (O.faults output.old) (O.faults output.new) }
+        (told_on O.taken C.given N.given stage.old) (told_on O.taken C.given N.given stage.new)) }
+    ensures fault { result ≡ Err Stop.WriteFault
+        → Rose (O.faults stage.old.output.now) (O.faults stage.new.output.now) }
     ensures stop { IfErr result IsOfLine }
-    ensures counts { O.faults output.old ≤ O.faults output.new }
+    ensures counts { O.faults stage.old.output.now ≤ O.faults stage.new.output.now }
+    ensures loans { AreSameLoans stage.old stage.new }
 {
     match read_call(alloc, line) {
-        Ok(said) => play_call(alloc, portal, said, line, output, clock, nonces),
+        Ok(said) => play_call(alloc, portal, said, line, stage),
         Err(Early::OutOfMemory) => Err(Stop::OutOfMemory),
-        Err(early) => write_early(alloc, early, output),
+        Err(early) => write_early(alloc, early, stage),
     }
 }
 
@@ -201,25 +212,23 @@ fn play_line<O: Sink, C: Clock, N: Nonces>(
     alloc: Global,
     portal: &mut Portal,
     line: &[u8],
-    output: &mut O,
-    clock: &mut C,
-    nonces: &mut N,
+    stage: &mut Stage<'_, '_, '_, O, C, N>,
 ) -> Result<(), Stop>
     requires { length line.now ≤ LONGEST_LINE }
     ensures ok { OnOk result (WorksLines portal.old (unless_empty line.now) portal.new
-        (outlet (O.taken output.old) (C.given clock.old) (N.given nonces.old))
-        (outlet (O.taken output.new) (C.given clock.new) (N.given nonces.new))) }
+        (told_on O.taken C.given N.given stage.old) (told_on O.taken C.given N.given stage.new)) }
     ensures cut { OnErr result (StopsLines portal.old (unless_empty line.now) portal.new
-        (outlet (O.taken output.old) (C.given clock.old) (N.given nonces.old))
-        (outlet (O.taken output.new) (C.given clock.new) (N.given nonces.new))) }
-    ensures fault { result ≡ Err Stop.WriteFault → Rose (O.faults output.old) (O.faults output.new) }
+        (told_on O.taken C.given N.given stage.old) (told_on O.taken C.given N.given stage.new)) }
+    ensures fault { result ≡ Err Stop.WriteFault
+        → Rose (O.faults stage.old.output.now) (O.faults stage.new.output.now) }
     ensures stop { IfErr result IsOfLine }
-    ensures counts { O.faults output.old ≤ O.faults output.new }
+    ensures counts { O.faults stage.old.output.now ≤ O.faults stage.new.output.now }
+    ensures loans { AreSameLoans stage.old stage.new }
 {
     if line.is_empty() {
         Ok(())
     } else {
-        play_full_line(alloc, portal, line, output, clock, nonces)
+        play_full_line(alloc, portal, line, stage)
     }
 }
 
@@ -239,39 +248,39 @@ fn play_next<S: Source, O: Sink, C: Clock, N: Nonces>(
     portal: &mut Portal,
     reader: &mut LineReader,
     input: &mut S,
-    output: &mut O,
-    clock: &mut C,
-    nonces: &mut N,
+    stage: &mut Stage<'_, '_, '_, O, C, N>,
 ) -> Result<bool, Stop>
     requires { reader.old.longest ≡ LONGEST_LINE }
     ensures longest { reader.new.longest ≡ reader.old.longest }
     ensures most { reader.new.most ≡ reader.old.most }
 
     ensures more { result ≡ Ok true → TakesTurn portal.old portal.new reader.old reader.new
-        (devices (S.to_come input.old) (O.taken output.old) (C.given clock.old) (N.given nonces.old))
-        (devices (S.to_come input.new) (O.taken output.new) (C.given clock.new) (N.given nonces.new)) }
+        (with_input (S.to_come input.old) (told_on O.taken C.given N.given stage.old))
+        (with_input (S.to_come input.new) (told_on O.taken C.given N.given stage.new)) }
     ensures falls { result ≡ Ok true → bytes_left reader.new < bytes_left reader.old }
     ensures end { result ≡ Ok false → EndsTurn portal.old portal.new reader.old reader.new
-        (devices (S.to_come input.old) (O.taken output.old) (C.given clock.old) (N.given nonces.old))
-        (devices (S.to_come input.new) (O.taken output.new) (C.given clock.new) (N.given nonces.new)) }
+        (with_input (S.to_come input.old) (told_on O.taken C.given N.given stage.old))
+        (with_input (S.to_come input.new) (told_on O.taken C.given N.given stage.new)) }
     ensures within { OnOk result (reader.new.given ≤ reader.new.most) }
 
     ensures cut { IfErr result (λ stop. StopsTurn (begun_at stop) portal.old portal.new
         reader.old reader.new
-        (devices (S.to_come input.old) (O.taken output.old) (C.given clock.old) (N.given nonces.old))
-        (devices (S.to_come input.new) (O.taken output.new) (C.given clock.new) (N.given nonces.new))) }
+        (with_input (S.to_come input.old) (told_on O.taken C.given N.given stage.old))
+        (with_input (S.to_come input.new) (told_on O.taken C.given N.given stage.new))) }
     ensures read_fault { result ≡ Err Stop.ReadFault → Rose (S.faults input.old) (S.faults input.new) }
-    ensures write_fault { result ≡ Err Stop.WriteFault → Rose (O.faults output.old) (O.faults output.new) }
+    ensures write_fault { result ≡ Err Stop.WriteFault
+        → Rose (O.faults stage.old.output.now) (O.faults stage.new.output.now) }
     ensures too_long { (result ≡ Err Stop.TooLong) ↔ (reader.new.most < reader.new.given) }
     ensures reads { S.faults input.old ≤ S.faults input.new }
-    ensures writes { O.faults output.old ≤ O.faults output.new }
+    ensures writes { O.faults stage.old.output.now ≤ O.faults stage.new.output.now }
+    ensures loans { AreSameLoans stage.old stage.new }
 {
     match reader.next(input) {
-        Ok(NextLine::Line) => match play_line(alloc, portal, reader.line(), output, clock, nonces) {
+        Ok(NextLine::Line) => match play_line(alloc, portal, reader.line(), stage) {
             Ok(()) => Ok(true),
             Err(stop) => Err(stop),
         },
-        Ok(NextLine::TooLong) => match write_early(alloc, Early::TooLong, output) {
+        Ok(NextLine::TooLong) => match write_early(alloc, Early::TooLong, stage) {
             Ok(()) => Ok(true),
             Err(stop) => Err(stop),
         },
@@ -285,30 +294,30 @@ fn play_lines<S: Source, O: Sink, C: Clock, N: Nonces>(
     alloc: Global,
     portal: &mut Portal,
     input: &mut S,
-    output: &mut O,
-    clock: &mut C,
-    nonces: &mut N,
+    stage: &mut Stage<'_, '_, '_, O, C, N>,
 ) -> Result<(), Stop>
     ensures done { OnOk result ((whole : List ℕ) → S.to_come input.old ≡ Some whole
         → PlaysAll portal.old whole portal.new
-        (devices (S.to_come input.old) (O.taken output.old) (C.given clock.old) (N.given nonces.old))
-        (devices (S.to_come input.new) (O.taken output.new) (C.given clock.new) (N.given nonces.new))) }
+        (with_input (S.to_come input.old) (told_on O.taken C.given N.given stage.old))
+        (with_input (S.to_come input.new) (told_on O.taken C.given N.given stage.new))) }
     ensures cut { IfErr result (λ stop. (whole : List ℕ) → S.to_come input.old ≡ Some whole
         → PlaysPart (begun_at stop) portal.old whole portal.new
-        (devices (S.to_come input.old) (O.taken output.old) (C.given clock.old) (N.given nonces.old))
-        (devices (S.to_come input.new) (O.taken output.new) (C.given clock.new) (N.given nonces.new))) }
+        (with_input (S.to_come input.old) (told_on O.taken C.given N.given stage.old))
+        (with_input (S.to_come input.new) (told_on O.taken C.given N.given stage.new))) }
 
     ensures read_fault { result ≡ Err Stop.ReadFault → Rose (S.faults input.old) (S.faults input.new) }
-    ensures write_fault { result ≡ Err Stop.WriteFault → Rose (O.faults output.old) (O.faults output.new) }
+    ensures write_fault { result ≡ Err Stop.WriteFault
+        → Rose (O.faults stage.old.output.now) (O.faults stage.new.output.now) }
     ensures too_long { (whole : List ℕ) → S.to_come input.old ≡ Some whole →
         ((result ≡ Err Stop.TooLong) ↔ GaveTooMuch whole (S.to_come input.new)) }
+    ensures loans { AreSameLoans stage.old stage.new }
 {
     let mut reader = match LineReader::new(alloc, LONGEST_LINE, MOST_INPUT) {
         Ok(reader) => reader,
         Err(_refused) => return Err(Stop::OutOfMemory),
     };
     'lines: loop {
-        match play_next(alloc, portal, &mut reader, input, output, clock, nonces) {
+        match play_next(alloc, portal, &mut reader, input, stage) {
             Ok(true) => {}
             Ok(false) => return Ok(()),
             Err(stop) => return Err(stop),
@@ -326,6 +335,32 @@ fn end_of(ended: Result<(), Stop>) -> PlayEnd
         Err(Stop::TooLong) => PlayEnd::TooLong,
         Err(Stop::OutOfMemory) => PlayEnd::OutOfMemory,
     }
+}
+
+/// Plays the script on input on a stage.
+fn play_on<S: Source, O: Sink, C: Clock, N: Nonces>(
+    alloc: Global,
+    portal: &mut Portal,
+    input: &mut S,
+    stage: &mut Stage<'_, '_, '_, O, C, N>,
+) -> PlayEnd
+    ensures done { result ≡ PlayEnd.Done → (whole : List ℕ) → S.to_come input.old ≡ Some whole
+        → PlaysAll portal.old whole portal.new
+        (with_input (S.to_come input.old) (told_on O.taken C.given N.given stage.old))
+        (with_input (S.to_come input.new) (told_on O.taken C.given N.given stage.new)) }
+    ensures cut { result ≢ PlayEnd.Done → (whole : List ℕ) → S.to_come input.old ≡ Some whole
+        → PlaysPart (most_begun result) portal.old whole portal.new
+        (with_input (S.to_come input.old) (told_on O.taken C.given N.given stage.old))
+        (with_input (S.to_come input.new) (told_on O.taken C.given N.given stage.new)) }
+
+    ensures read_fault { result ≡ PlayEnd.ReadFault → Rose (S.faults input.old) (S.faults input.new) }
+    ensures write_fault { result ≡ PlayEnd.WriteFault
+        → Rose (O.faults stage.old.output.now) (O.faults stage.new.output.now) }
+    ensures too_long { (whole : List ℕ) → S.to_come input.old ≡ Some whole →
+        ((result ≡ PlayEnd.TooLong) ↔ GaveTooMuch whole (S.to_come input.new)) }
+    ensures loans { AreSameLoans stage.old stage.new }
+{
+    end_of(play_lines(alloc, portal, input, stage))
 }
 
 /// Plays the script on input, and writes its transcript to output. Of the input it holds one line and what was read at
@@ -355,7 +390,12 @@ pub fn play<S: Source, O: Sink, C: Clock, N: Nonces>(
     ensures too_long { (whole : List ℕ) → S.to_come input.old ≡ Some whole →
         ((result ≡ PlayEnd.TooLong) ↔ GaveTooMuch whole (S.to_come input.new)) }
 {
-    end_of(play_lines(alloc, portal, input, output, clock, nonces))
+    let mut stage = Stage {
+        output,
+        clock,
+        nonces,
+    };
+    play_on(alloc, portal, input, &mut stage)
 }
 
 /// Plays the script on input from the stated portal, and writes its transcript to output.

@@ -2,6 +2,7 @@
 use Rattle.std.proofs.Common.{ap, Ok, ◌∙◌, arith}
 use Rattle.portal_serve.proofs.Playing.{keeps_start, keeps_turn, keeps_all, keeps_part, gave_too_much, gave_within}
 use Rattle.portal_serve.proofs.Playing.{same_err, plays_nothing}
+use Rattle.portal_serve.proofs.Staging.{same_loans, same_loans_on}
 use Rattle.portal_serve.proofs.play.play_lines.Goals as goal
 
 pub returns-in-Err-clause-cut : goal.returns-in-Err-clause-cut
@@ -12,6 +13,7 @@ lines-init g c = record {
   kept = keeps_start _ _ _ c.in-Ok.ensures;
   reads = omega arith;
   writes = omega arith;
+  loans = same_loans _;
 }
 
 pub lines-preserved : goal.lines-preserved
@@ -22,6 +24,7 @@ lines-preserved g c =
           c.play_next.ensures.longest c.play_next.ensures.most;
       reads = omega (arith, c.lines.invariant.reads, c.play_next.ensures.reads);
       writes = omega (arith, c.lines.invariant.writes, c.play_next.ensures.writes);
+      loans = same_loans_on _ _ _ c.lines.invariant.loans c.play_next.ensures.loans;
     }
 
 pub returns-in-Ok-false-clause-done : goal.returns-in-Ok-false-clause-done
