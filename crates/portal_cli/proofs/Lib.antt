@@ -1,3 +1,4 @@
+pub mod Beginning
 mod Examples
 mod StreamExamples
 pub mod Streaming

@@ -1,2 +1,5 @@
+pub mod Door
+pub mod Run
+pub mod Start
 pub mod Status
 pub mod Stream

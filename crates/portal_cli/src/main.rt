@@ -1,21 +1,37 @@
 //! The portal's program: `portal play` plays the script on standard input and writes its transcript to standard
-//! output. On every status but 0 it tells why by a line on standard error.
+//! output, and `portal serve` serves HTTP on this machine. On every status but 0 it tells why by a line on standard
+//! error.
 #![tactic(auto)]
 
+ghost use Rattle.std.specs.Prelude.{◌≡◌, false, length, All, IfOk};
+
+pub mod files;
+pub mod net;
 pub mod real;
 pub mod run;
+mod start;
+pub mod status;
 #[cfg(test)]
 mod tests;
+mod work;
 
+use files::HostFetcher;
+use net::TcpDoor;
 use portal_base::counted::{CountNonces, ScriptClock};
-use portal_base::outside::{Clock, Nonces, Sink};
+use portal_base::outside::{Clock, Desk, Listener, Nonces, Sink};
 use portal_base::std_adapters::{StdSink, StdSource};
+use portal_words::{Command, WordsFault};
 use real::{ChaChaNonces, HostClock};
-use run::{Status, are_play, run, told};
-use std::alloc::Global;
+use run::run;
+use status::{Status, told};
+use std::alloc::{AllocError, Global};
+use std::net::TcpListener;
 use std::process::ExitCode;
 use std::random::RandomSource;
 use std::{env, io};
+
+/// The port where the environment names none.
+const DEFAULT_PORT: u16 = 5_000;
 
 /// The words after the program's name. One that isn't UTF-8 is no word of the program.
 fn words(rt: &(impl env::Env + Alloc<A = Global>)) -> Result<Vec<String>, Status> {
@@ -32,13 +48,61 @@ fn words(rt: &(impl env::Env + Alloc<A = Global>)) -> Result<Vec<String>, Status
     Ok(words)
 }
 
+/// The text of a variable of the environment, if there is one.
+fn variable(
+    rt: &(impl env::Env + Alloc<A = Global>),
+    name: &str,
+) -> Result<Option<String>, Status> {
+    match env::var(rt, name) {
+        Ok(value) => Ok(Some(value)),
+        Err(env::VarError::OutOfMemory) => Err(Status::OutOfMemory),
+        Err(_) => Ok(None),
+    }
+}
+
 /// Whether the environment asks for real time: `PORTAL_TIME` is there and is `real`.
 fn is_real(rt: &(impl env::Env + Alloc<A = Global>)) -> Result<bool, Status> {
-    match env::var(rt, "PORTAL_TIME") {
-        Ok(value) => Ok(value.as_str() == "real"),
-        Err(env::VarError::OutOfMemory) => Err(Status::OutOfMemory),
-        Err(_) => Ok(false),
+    match variable(rt, "PORTAL_TIME")? {
+        Some(value) => Ok(value.as_str() == "real"),
+        None => Ok(false),
     }
+}
+
+/// The port that a text of 1 to 5 decimal digits names, but for 0.
+fn port_in(text: &str) -> Option<u16> {
+    if text.len() > 5 || !text.bytes().all(|b| b.is_ascii_digit()) {
+        return None;
+    }
+    match text.parse() {
+        Ok(0) => None,
+        Ok(port) => Some(port),
+        Err(_) => None,
+    }
+}
+
+/// The port that `PORTAL_PORT` names, and 5000 where it names none.
+fn port(rt: &(impl env::Env + Alloc<A = Global>)) -> Result<u16, Status> {
+    match variable(rt, "PORTAL_PORT")? {
+        Some(value) => Ok(port_in(value.as_str()).unwrap_or(DEFAULT_PORT)),
+        None => Ok(DEFAULT_PORT),
+    }
+}
+
+/// Whether the first word is `serve`, which listens and works in real time.
+fn is_serve(words: &[String]) -> bool {
+    match words.first() {
+        Some(word) => word.as_str() == "serve",
+        None => false,
+    }
+}
+
+/// A listener on this machine alone, where the words ask for one and the host has the port free.
+fn listener(rt: &HostRuntime, words: &[String]) -> Result<Option<TcpListener>, Status> {
+    if !is_serve(words) {
+        return Ok(None);
+    }
+    let port = port(rt)?;
+    Ok(TcpListener::bind(rt, ("127.0.0.1", port)).ok())
 }
 
 /// A seed from the host's random source, if that doesn't fail.
@@ -48,58 +112,109 @@ fn random_seed(rt: &impl RandomSource) -> Option<[u8; 32]> {
     Some(seed)
 }
 
-/// Plays standard input to standard output with this clock and these numbers.
-fn play_with<E: Sink, C: Clock, N: Nonces>(
-    rt: &(impl Input + Print + Alloc<A = Global>),
+/// The desk alone.
+fn one_desk<L: Listener + Drop, C: Drop, N: Drop>(
+    alloc: Global,
+    desk: Desk<L, C, N>,
+) -> Result<Vec<Desk<L, C, N>>, AllocError>
+    requires { L.is_out desk.listener ≡ false }
+    ensures one { IfOk result (λ desks. length desks.items ≡ 1) }
+    ensures home { IfOk result (λ desks. All (λ desk. L.is_out desk.listener ≡ false) desks.items) }
+{
+    let mut desks = Vec::new(alloc);
+    desks.push(desk)?;
+    Ok(desks)
+}
+
+/// Runs over the host's devices, with this clock and these numbers for the script and this desk for links.
+fn run_over<E: Sink, C: Clock + Drop, N: Nonces + Drop>(
+    rt: &HostRuntime,
     words: &[String],
     faults: &mut E,
+    desk: Desk<TcpDoor<&HostRuntime>, C, N>,
     clock: &mut C,
     nonces: &mut N,
-) -> Status {
+) -> Status
+    requires { desk.listener.is_out ≡ false }
+{
+    let alloc = rt.alloc();
+    let Ok(mut desks) = one_desk(alloc, desk) else {
+        return told(faults, Status::OutOfMemory);
+    };
+    let Ok(mut fetchers) = Vec::from_array(alloc, [HostFetcher::new(rt)]) else {
+        return told(faults, Status::OutOfMemory);
+    };
     run(
-        rt.alloc(),
+        alloc,
         words,
         &mut StdSource::new(rt.reader()),
         &mut StdSink::new(io::writer(rt)),
         faults,
+        &mut fetchers,
+        &mut desks,
         clock,
         nonces,
     )
 }
 
-/// Plays with the host's clock and random numbers. Faulty words come first among the causes.
-fn play_real<E: Sink>(rt: &HostRuntime, words: &[String], faults: &mut E) -> Status {
-    match random_seed(rt) {
-        Some(seed) => play_with(
-            rt,
-            words,
-            faults,
-            &mut HostClock::new(rt),
-            &mut ChaChaNonces::from_seed(seed),
-        ),
-        None if are_play(words) => told(faults, Status::ReadFault),
-        None => told(faults, Status::Words),
+/// The status where the host gives no random numbers. Faulty words come first among the causes.
+fn without_numbers(alloc: Global, words: &[String]) -> Status {
+    match Command::read(alloc, words) {
+        Ok(_command) => Status::ReadFault,
+        Err(WordsFault::BadWords) => Status::Words,
+        Err(WordsFault::OutOfMemory) => Status::OutOfMemory,
     }
 }
 
-/// Plays the words of the command line in the time that the environment asks for. An `Err` hasn't been told.
-fn play_words<E: Sink>(rt: &HostRuntime, faults: &mut E) -> Result<Status, Status> {
-    let words = words(rt)?;
-    if is_real(rt)? {
-        return Ok(play_real(rt, words.as_slice(), faults));
-    }
-    Ok(play_with(
+/// Runs with the host's clock and random numbers. An `Err` hasn't been told.
+fn run_real<E: Sink>(rt: &HostRuntime, words: &[String], faults: &mut E) -> Result<Status, Status> {
+    let (Some(seed), Some(desk_seed)) = (random_seed(rt), random_seed(rt)) else {
+        return Err(without_numbers(rt.alloc(), words));
+    };
+    let desk = Desk {
+        listener: TcpDoor::new(rt, listener(rt, words)?),
+        clock: HostClock::new(rt),
+        nonces: ChaChaNonces::from_seed(desk_seed),
+    };
+    Ok(run_over(
         rt,
-        words.as_slice(),
+        words,
         faults,
+        desk,
+        &mut HostClock::new(rt),
+        &mut ChaChaNonces::from_seed(seed),
+    ))
+}
+
+/// Runs with a clock and numbers that count.
+fn run_counted<E: Sink>(rt: &HostRuntime, words: &[String], faults: &mut E) -> Status {
+    let desk = Desk {
+        listener: TcpDoor::new(rt, None),
+        clock: ScriptClock::new(),
+        nonces: CountNonces::new(),
+    };
+    run_over(
+        rt,
+        words,
+        faults,
+        desk,
         &mut ScriptClock::new(),
         &mut CountNonces::new(),
-    ))
+    )
+}
+
+/// Runs the words of the command line, in the time that they and the environment ask for. An `Err` hasn't been told.
+fn run_words<E: Sink>(rt: &HostRuntime, faults: &mut E) -> Result<Status, Status> {
+    let words = words(rt)?;
+    if is_serve(words.as_slice()) || is_real(rt)? {
+        return run_real(rt, words.as_slice(), faults);
+    }
+    Ok(run_counted(rt, words.as_slice(), faults))
 }
 
 fn main(rt: HostRuntime) -> ExitCode {
     let mut faults = StdSink::new(rt.stderr());
-    let status = match play_words(&rt, &mut faults) {
+    let status = match run_words(&rt, &mut faults) {
         Ok(status) => status,
         Err(status) => told(&mut faults, status),
     };

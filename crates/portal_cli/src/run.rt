@@ -1,151 +1,176 @@
-//! The program's call: a script is read from input, worked line by line, and its transcript is written to output. How
-//! the run ended is told by a line on `faults`.
-ghost use Rattle.std.specs.Prelude.{◌≡◌, ◌↔◌, ◌≤◌, ℕ, List, Some, false, map, string_bytes, codes, OnOk, OnErr};
-ghost use Rattle.portal_base.specs.Outside.{Rose, Takes, TakesPrefix};
-ghost use Rattle.portal_cli.specs.Status.{is_play, status_code, status_for, IsCut, most_begun};
-ghost use Rattle.portal_cli.specs.Status.{fault_line, status_line, TakesOrFails};
-ghost use Rattle.portal_serve.specs.Run.{devices, PlaysAll, PlaysPart, GaveTooMuch};
-ghost use Rattle.portal_core.specs.State.{State};
-ghost use Rattle.portal_serve.specs.Stated.{stated_state};
+//! The program's call: the words say a command, which is carried out over the devices. How the run ended is told by a
+//! line on `faults`.
+ghost use Rattle.std.specs.Prelude.{◌≡◌, ◌↔◌, ℕ, List, Some, None, false, length, map, string_bytes, All};
+ghost use Rattle.portal_base.specs.Outside.{Rose};
+ghost use Rattle.portal_words.specs.Commands.{command_of};
+ghost use Rattle.portal_cli.specs.Run.{OfOne, Plays, PlaysNone, Runs, Serves, ServesNone, portal_of, sight_of};
+ghost use Rattle.portal_cli.specs.Start.{BeginsAnd, TellsRule, fetching};
+ghost use Rattle.portal_cli.specs.Status.{status_code, status_line, TakesOrFails};
+ghost use Rattle.portal_serve.specs.Desk.{desk_sight};
+ghost use Rattle.portal_serve.specs.Run.{devices, GaveTooMuch};
+ghost use Rattle.portal_serve.specs.Served.{link_sight};
 
-use portal_base::outside::{Clock, Failed, Nonces, Sink, Source};
-use portal_base::text::Text;
-use portal_lines::write::write_whole;
-use portal_serve::play::{PlayEnd, play_from_stated};
+use crate::start::start_of;
+use crate::status::{Status, told};
+use crate::work::{play_script, serve_links};
+use portal_base::outside::{Clock, Desk, Fetcher, Listener, Nonces, Sink, Source};
+use portal_words::{Command, PlayOptions, ServeOptions, WordsFault};
 use std::alloc::Global;
 
-/// How a run ended. Each is the process's exit status by `code`.
-#[derive(Drop)]
-pub enum Status {
-    /// 0: input was read to its end.
-    Done,
-    /// 2: the words are none that the program takes.
-    Words,
-    /// 3: input failed.
-    ReadFault,
-    /// 4: output failed.
-    WriteFault,
-    /// 6: want of memory.
-    OutOfMemory,
-    /// 9: input gave more than 2^40 bytes. The text says so.
-    DataFault(Text),
+/// Plays the script on input from the portal that the options name.
+fn play_from<S: Source, O: Sink, F: Fetcher, C: Clock, N: Nonces>(
+    alloc: Global,
+    options: &PlayOptions,
+    input: &mut S,
+    output: &mut O,
+    fetcher: &mut F,
+    clock: &mut C,
+    nonces: &mut N,
+) -> Status
+    ensures plays { BeginsAnd (fetching (F.held fetcher.old) (F.faults fetcher.old) (F.faults fetcher.new))
+        options.now.portal result
+        (λ begun. Plays begun.state
+        (devices (S.to_come input.old) (O.taken output.old) (C.given clock.old) (N.given nonces.old))
+        (devices (S.to_come input.new) (O.taken output.new) (C.given clock.new) (N.given nonces.new)) result)
+        ((devices (S.to_come input.new) (O.taken output.new) (C.given clock.new) (N.given nonces.new))
+        ≡ (devices (S.to_come input.old) (O.taken output.old) (C.given clock.old) (N.given nonces.old))) }
+    ensures read_fault { result ≡ Status.ReadFault → Rose (S.faults input.old) (S.faults input.new) }
+    ensures write_fault { result ≡ Status.WriteFault → Rose (O.faults output.old) (O.faults output.new) }
+    ensures too_much { (whole : List ℕ) → S.to_come input.old ≡ Some whole →
+        ((status_code result ≡ 9) ↔ GaveTooMuch whole (S.to_come input.new)) }
+{
+    match start_of(alloc, fetcher, &options.portal) {
+        Ok(start) => play_script(alloc, &start, input, output, clock, nonces),
+        Err(status) => status,
+    }
 }
 
-impl Status {
-    /// The process's exit status.
-    pub fn code(&self) -> u8
-        ensures { result ≡ status_code self.now }
-    {
-        match self {
-            Status::Done => 0,
-            Status::Words => 2,
-            Status::ReadFault => 3,
-            Status::WriteFault => 4,
-            Status::OutOfMemory => 6,
-            Status::DataFault(_) => 9,
+/// Serves the desk's links from the portal that the options name.
+fn serve_from<F: Fetcher, L: Listener, C: Clock, N: Nonces>(
+    alloc: Global,
+    options: &ServeOptions,
+    fetcher: &mut F,
+    desk: &mut Desk<L, C, N>,
+) -> Status
+    requires home { L.is_out desk.old.listener ≡ false }
+    ensures home { L.is_out desk.new.listener ≡ false }
+    ensures serves { BeginsAnd (fetching (F.held fetcher.old) (F.faults fetcher.old) (F.faults fetcher.new))
+        options.now.portal result
+        (λ begun. Serves (λ peer. link_sight (L.Peer.to_come peer) (L.Peer.taken peer) (L.Peer.faults peer))
+        begun options.now.links
+        (desk_sight (L.to_come desk.old.listener) (L.taken_back desk.old.listener) (L.count desk.old.listener)
+        (L.is_at_end desk.old.listener) (L.faults desk.old.listener) (C.given desk.old.clock) (N.given desk.old.nonces))
+        (desk_sight (L.to_come desk.new.listener) (L.taken_back desk.new.listener) (L.count desk.new.listener)
+        (L.is_at_end desk.new.listener) (L.faults desk.new.listener) (C.given desk.new.clock) (N.given desk.new.nonces))
+        result)
+        ((desk_sight (L.to_come desk.new.listener) (L.taken_back desk.new.listener) (L.count desk.new.listener)
+        (L.is_at_end desk.new.listener) (L.faults desk.new.listener) (C.given desk.new.clock) (N.given desk.new.nonces))
+        ≡ (desk_sight (L.to_come desk.old.listener) (L.taken_back desk.old.listener) (L.count desk.old.listener)
+        (L.is_at_end desk.old.listener) (L.faults desk.old.listener) (C.given desk.old.clock)
+        (N.given desk.old.nonces))) }
+    ensures listen_fault { result ≡ Status.ListenFault →
+        Rose (L.faults desk.old.listener) (L.faults desk.new.listener) }
+{
+    match start_of(alloc, fetcher, &options.portal) {
+        Ok(start) => serve_links(alloc, &start, desk, options.links),
+        Err(status) => status,
+    }
+}
+
+/// Carries out the command that the words say.
+fn carry_out<S: Source, O: Sink, F: Fetcher, L: Listener, C: Clock, N: Nonces>(
+    alloc: Global,
+    words: &[String],
+    input: &mut S,
+    output: &mut O,
+    fetcher: &mut F,
+    desk: &mut Desk<L, C, N>,
+    clock: &mut C,
+    nonces: &mut N,
+) -> Status
+    requires home { L.is_out desk.old.listener ≡ false }
+    ensures home { L.is_out desk.new.listener ≡ false }
+    ensures words { result ≡ Status.Words → command_of (map string_bytes words.now) ≡ None }
+    ensures runs { Runs (λ peer. link_sight (L.Peer.to_come peer) (L.Peer.taken peer) (L.Peer.faults peer))
+        (command_of (map string_bytes words.now))
+        (fetching (F.held fetcher.old) (F.faults fetcher.old) (F.faults fetcher.new))
+        (sight_of (devices (S.to_come input.old) (O.taken output.old) (C.given clock.old) (N.given nonces.old))
+        (desk_sight (L.to_come desk.old.listener) (L.taken_back desk.old.listener) (L.count desk.old.listener)
+        (L.is_at_end desk.old.listener) (L.faults desk.old.listener) (C.given desk.old.clock)
+        (N.given desk.old.nonces)))
+        (sight_of (devices (S.to_come input.new) (O.taken output.new) (C.given clock.new) (N.given nonces.new))
+        (desk_sight (L.to_come desk.new.listener) (L.taken_back desk.new.listener) (L.count desk.new.listener)
+        (L.is_at_end desk.new.listener) (L.faults desk.new.listener) (C.given desk.new.clock)
+        (N.given desk.new.nonces)))
+        result }
+    ensures rule { TellsRule (fetching (F.held fetcher.old) (F.faults fetcher.old) (F.faults fetcher.new))
+        (portal_of (command_of (map string_bytes words.now))) result }
+    ensures no_script { PlaysNone (command_of (map string_bytes words.now)) →
+        (input.new ≡ input.old) × (output.new ≡ output.old) × (clock.new ≡ clock.old) × (nonces.new ≡ nonces.old) }
+    ensures no_links { ServesNone (command_of (map string_bytes words.now)) → desk.new ≡ desk.old }
+    ensures no_file { command_of (map string_bytes words.now) ≡ None → fetcher.new ≡ fetcher.old }
+    ensures read_fault { result ≡ Status.ReadFault → Rose (S.faults input.old) (S.faults input.new) }
+    ensures write_fault { result ≡ Status.WriteFault → Rose (O.faults output.old) (O.faults output.new) }
+    ensures listen_fault { result ≡ Status.ListenFault →
+        Rose (L.faults desk.old.listener) (L.faults desk.new.listener) }
+    ensures too_much { (whole : List ℕ) → S.to_come input.old ≡ Some whole →
+        ((status_code result ≡ 9) ↔ GaveTooMuch whole (S.to_come input.new)) }
+{
+    match Command::read(alloc, words) {
+        Ok(Command::Play(options)) => {
+            play_from(alloc, &options, input, output, fetcher, clock, nonces)
         }
+        Ok(Command::Serve(options)) => serve_from(alloc, &options, fetcher, desk),
+        Err(WordsFault::BadWords) => Status::Words,
+        Err(WordsFault::OutOfMemory) => Status::OutOfMemory,
     }
 }
 
-/// Whether the words are those that the program takes.
-pub fn are_play(words: &[String]) -> bool
-    ensures { result ≡ is_play (map string_bytes words.now) }
-{
-    words.len() == 1 && words[0].as_str() == "play"
-}
-
-fn status_of(end: PlayEnd) -> Status
-    ensures { result ≡ status_for end }
-{
-    match end {
-        PlayEnd::Done => Status::Done,
-        PlayEnd::ReadFault => Status::ReadFault,
-        PlayEnd::WriteFault => Status::WriteFault,
-        PlayEnd::TooLong => Status::DataFault(Text::from_static("input too long")),
-        PlayEnd::OutOfMemory => Status::OutOfMemory,
-    }
-}
-
-fn write_text<E: Sink>(faults: &mut E, text: &str) -> Result<(), Failed>
-    ensures ok { OnOk result (Takes (E.taken faults.old) text.now (E.taken faults.new)) }
-    ensures failed { OnErr result (TakesPrefix (E.taken faults.old) text.now (E.taken faults.new)) }
-    ensures fault { OnErr result (Rose (E.faults faults.old) (E.faults faults.new)) }
-    ensures counts { E.faults faults.old ≤ E.faults faults.new }
-{
-    write_whole(faults, text.as_bytes())
-}
-
-/// Writes the line that tells a fault with this text. It takes no memory.
-fn write_fault<E: Sink>(faults: &mut E, text: &str) -> Result<(), Failed>
-    ensures ok { OnOk result (Takes (E.taken faults.old) (fault_line text.now) (E.taken faults.new)) }
-    ensures failed { OnErr result (TakesPrefix (E.taken faults.old) (fault_line text.now) (E.taken faults.new)) }
-    ensures fault { OnErr result (Rose (E.faults faults.old) (E.faults faults.new)) }
-    ensures counts { E.faults faults.old ≤ E.faults faults.new }
-{
-    write_text(faults, "portal: ")?;
-    write_text(faults, text)?;
-    write_text(faults, "\n")
-}
-
-/// Writes the line that tells a fault with this text, as far as `faults` takes it.
-fn tell_fault<E: Sink>(faults: &mut E, text: &str)
-    ensures line { TakesOrFails (E.taken faults.old) (E.faults faults.old) (fault_line text.now)
-        (E.taken faults.new) (E.faults faults.new) }
-    ensures counts { E.faults faults.old ≤ E.faults faults.new }
-{
-    match write_fault(faults, text) {
-        Ok(()) => {}
-        Err(_failed) => {}
-    }
-}
-
-/// Writes the line of the status to `faults`, and hands the status back. That the write fails changes nothing.
-pub fn told<E: Sink>(faults: &mut E, status: Status) -> Status
-    ensures status { result ≡ status }
-    ensures line { TakesOrFails (E.taken faults.old) (E.faults faults.old) (status_line status)
-        (E.taken faults.new) (E.faults faults.new) }
-    ensures silent { status ≡ Status.Done → faults.new ≡ faults.old }
-    ensures counts { E.faults faults.old ≤ E.faults faults.new }
-{
-    match &status {
-        Status::Done => {}
-        Status::Words => tell_fault(faults, "bad words"),
-        Status::ReadFault => tell_fault(faults, "input failed"),
-        Status::WriteFault => tell_fault(faults, "output failed"),
-        Status::OutOfMemory => tell_fault(faults, "out of memory"),
-        Status::DataFault(text) => tell_fault(faults, text.as_str()),
-    }
-    status
-}
-
-/// Plays the script on `input` and writes its transcript to `output`, where the words, those after the program's
-/// name, are the one word `play`. Of the input it holds one line and what was read at once, 65,536 bytes at most.
-/// Every status but 0 writes its line to `faults`.
-pub fn run<S: Source, O: Sink, E: Sink, C: Clock, N: Nonces>(
+/// Carries out the command that the words, those after the program's name, say. `play` plays the script on `input` and
+/// writes its transcript to `output`; of the input it holds one line and what was read at once, 65,536 bytes at most.
+/// `serve` serves the links of the desk, one after another. Both work on the portal of the portal file that the words
+/// name, which the fetcher fetches, or on the stated one. Every status but 0 writes its line to `faults`.
+pub fn run<S: Source, O: Sink, E: Sink, F: Fetcher, L: Listener, C: Clock, N: Nonces>(
     alloc: Global,
     words: &[String],
     input: &mut S,
     output: &mut O,
     faults: &mut E,
+    fetchers: &mut Vec<F>,
+    desks: &mut Vec<Desk<L, C, N>>,
     clock: &mut C,
     nonces: &mut N,
 ) -> Status
-    // Status 2 comes exactly where the words are others, and then nothing is read or written.
-    ensures words { (result ≡ Status.Words) ↔ (is_play (map string_bytes words.now) ≡ false) }
-    ensures untouched { result ≡ Status.Words → (input.new ≡ input.old) × (output.new ≡ output.old)
-        × (clock.new ≡ clock.old) × (nonces.new ≡ nonces.old) }
+    requires fetcher { length fetchers.old.items ≡ 1 }
+    requires desk { length desks.old.items ≡ 1 }
+    requires home { All (λ desk. L.is_out desk.listener ≡ false) desks.old.items }
+    // No link is out: each that was accepted was given back.
+    ensures home { All (λ desk. L.is_out desk.listener ≡ false) desks.new.items }
 
-    // Status 0: where input tells, it was read to its end, as many moments and numbers were drawn as the script has
-    // lines that draw, and output took the transcript from the stated portal.
-    ensures done { result ≡ Status.Done → (whole : List ℕ) → S.to_come input.old ≡ Some whole
-        → (after : State) × PlaysAll stated_state whole after
-        (devices (S.to_come input.old) (O.taken output.old) (C.given clock.old) (N.given nonces.old))
-        (devices (S.to_come input.new) (O.taken output.new) (C.given clock.new) (N.given nonces.new)) }
-    // Statuses 3, 4, 6 and 9: what was drawn and what output took belong to one place in the script.
-    ensures cut { IsCut result → (whole : List ℕ) → S.to_come input.old ≡ Some whole
-        → (after : State) × PlaysPart (most_begun result) stated_state whole after
-        (devices (S.to_come input.old) (O.taken output.old) (C.given clock.old) (N.given nonces.old))
-        (devices (S.to_come input.new) (O.taken output.new) (C.given clock.new) (N.given nonces.new)) }
+    // Status 2 comes exactly where the words say no command, but for want of memory, and then nothing is touched.
+    ensures words { result ≡ Status.Words → command_of (map string_bytes words.now) ≡ None }
+    // What was played or served, by the command and the status: from which portal, or why from none; what was read,
+    // written and drawn; each link that came, was served and was given back, `--links` of them at most.
+    ensures runs { OfOne fetchers.old.items fetchers.new.items (λ before after.
+        OfOne desks.old.items desks.new.items (λ desk left.
+        Runs (λ peer. link_sight (L.Peer.to_come peer) (L.Peer.taken peer) (L.Peer.faults peer))
+        (command_of (map string_bytes words.now)) (fetching (F.held before) (F.faults before) (F.faults after))
+        (sight_of (devices (S.to_come input.old) (O.taken output.old) (C.given clock.old) (N.given nonces.old))
+        (desk_sight (L.to_come desk.listener) (L.taken_back desk.listener) (L.count desk.listener)
+        (L.is_at_end desk.listener) (L.faults desk.listener) (C.given desk.clock) (N.given desk.nonces)))
+        (sight_of (devices (S.to_come input.new) (O.taken output.new) (C.given clock.new) (N.given nonces.new))
+        (desk_sight (L.to_come left.listener) (L.taken_back left.listener) (L.count left.listener)
+        (L.is_at_end left.listener) (L.faults left.listener) (C.given left.clock) (N.given left.nonces)))
+        result)) }
+    // Where the portal file breaks a rule, status 7 tells it.
+    ensures rule { OfOne fetchers.old.items fetchers.new.items (λ before after.
+        TellsRule (fetching (F.held before) (F.faults before) (F.faults after))
+        (portal_of (command_of (map string_bytes words.now))) result) }
+    // What the command doesn't use stays as it was.
+    ensures no_script { PlaysNone (command_of (map string_bytes words.now)) →
+        (input.new ≡ input.old) × (output.new ≡ output.old) × (clock.new ≡ clock.old) × (nonces.new ≡ nonces.old) }
+    ensures no_links { ServesNone (command_of (map string_bytes words.now)) → desks.new.items ≡ desks.old.items }
+    ensures no_file { command_of (map string_bytes words.now) ≡ None → fetchers.new.items ≡ fetchers.old.items }
 
     // Every status but 0 writes its one line, whole unless `faults` fails. Status 0 leaves `faults` alone.
     ensures line { TakesOrFails (E.taken faults.old) (E.faults faults.old) (status_line result)
@@ -154,14 +179,21 @@ pub fn run<S: Source, O: Sink, E: Sink, C: Clock, N: Nonces>(
 
     ensures read_fault { result ≡ Status.ReadFault → Rose (S.faults input.old) (S.faults input.new) }
     ensures write_fault { result ≡ Status.WriteFault → Rose (O.faults output.old) (O.faults output.new) }
+    ensures listen_fault { result ≡ Status.ListenFault → OfOne desks.old.items desks.new.items
+        (λ desk left. Rose (L.faults desk.listener) (L.faults left.listener)) }
     // Status 9 comes exactly where input gave more than 2^40 bytes.
     ensures too_much { (whole : List ℕ) → S.to_come input.old ≡ Some whole →
         ((status_code result ≡ 9) ↔ GaveTooMuch whole (S.to_come input.new)) }
-    ensures text { (text : List ℕ) → result ≡ Status.DataFault text → text ≡ codes "input too long" }
 {
-    if !are_play(words) {
-        return told(faults, Status::Words);
-    }
-    let end = play_from_stated(alloc, input, output, clock, nonces);
-    told(faults, status_of(end))
+    let status = carry_out(
+        alloc,
+        words,
+        input,
+        output,
+        &mut fetchers[0],
+        &mut desks[0],
+        clock,
+        nonces,
+    );
+    told(faults, status)
 }

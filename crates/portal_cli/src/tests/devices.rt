@@ -1,9 +1,11 @@
 //! Runs over narrow devices that fail, each at every call that a run reaches, and over faulty words.
+use super::{one_desk, words_of};
 use crate::run::run;
 use portal_base::counted::{CountNonces, ScriptClock};
-use portal_base::memory::{MemorySink, MemorySource};
+use portal_base::memory::{MemoryFetcher, MemorySink, MemorySource};
 use portal_base::outside::{Failed, Sink, Source};
 use portal_base::seq::Seq;
+use portal_base::text::Text;
 use std::alloc::{AllocError, Global};
 use std::test::Fail;
 
@@ -16,6 +18,11 @@ const SCRIPT: &str =
 const TRANSCRIPT: &str =
     r#"200 {"help":"/api/3/action/help_show?name=organization_member_delete","result":null,"success":true}
 200 {"help":"/api/3/action/help_show?name=organization_list_for_user","result":[],"success":true}
+"#;
+
+/// A portal file that says the stated portal's organization.
+const PORTAL: &str = r#"user = [{ name = "bob" }, { name = "cyn" }]
+organization = [{ name = "city", roles = { bob = "member", cyn = "admin" } }]
 "#;
 
 const READ_FAULT: &str = "portal: input failed\n";
@@ -58,13 +65,16 @@ impl<O: Sink> Sink for Narrow<O> {
     }
 }
 
-/// The calls at which devices fail, each counted from 1 and none by 0, and how much output takes.
+/// The calls at which devices fail, each counted from 1 and none by 0, how much output takes, and what is held at
+/// `p.toml`.
 #[derive(Clone, Copy)]
 struct Ends {
     read: usize,
     write: usize,
     room: usize,
     line: usize,
+    fetch: usize,
+    file: &'static str,
 }
 
 /// No device fails.
@@ -73,6 +83,8 @@ const NEVER: Ends = Ends {
     write: 0,
     room: TRANSCRIPT.len(),
     line: 0,
+    fetch: 0,
+    file: PORTAL,
 };
 
 /// What a run ended with.
@@ -109,17 +121,31 @@ fn sink(alloc: Global, room: usize, failing: usize) -> Result<Narrow<MemorySink>
     })
 }
 
+/// What holds the file at `p.toml`.
+fn fetcher(alloc: Global, ends: Ends) -> Result<MemoryFetcher, AllocError> {
+    let failing = Seq::from([ends.fetch as u64].to_vec(alloc)?);
+    let bytes = Seq::from(ends.file.as_bytes().to_vec(alloc)?);
+    let mut held = Vec::new(alloc);
+    held.push((Text::from_static("p.toml"), bytes))?;
+    Ok(MemoryFetcher::new(Seq::from(held), failing))
+}
+
 /// What a run of these words over such devices ends with.
 fn ran(alloc: Global, words: &[String], ends: Ends) -> Result<Outcome, AllocError> {
     let mut input = source(alloc, ends.read)?;
     let mut output = sink(alloc, ends.room, ends.write)?;
     let mut faults = sink(alloc, 100, ends.line)?;
+    let mut fetchers = Vec::new(alloc);
+    fetchers.push(fetcher(alloc, ends)?)?;
+    let mut desks = one_desk(alloc, Seq::new(alloc), 0)?;
     let code = run(
         alloc,
         words,
         &mut input,
         &mut output,
         &mut faults,
+        &mut fetchers,
+        &mut desks,
         &mut ScriptClock::new(),
         &mut CountNonces::new(),
     )
@@ -133,8 +159,7 @@ fn ran(alloc: Global, words: &[String], ends: Ends) -> Result<Outcome, AllocErro
 
 /// What playing over such devices ends with.
 fn played(alloc: Global, ends: Ends) -> Result<Outcome, AllocError> {
-    let words = vec![in alloc; String::from_str(alloc, "play")?]?;
-    ran(alloc, words.as_slice(), ends)
+    ran(alloc, words_of(alloc, "play")?.as_slice(), ends)
 }
 
 /// How many bytes the first line has.
@@ -161,13 +186,30 @@ fn faulty_words_end_a_run(rt: HostRuntime) -> Result<(), Fail> {
     let alloc = rt.alloc();
     let line = b"portal: bad words\n";
     assert!(rt; ran(alloc, &[], NEVER)?.is(2, 0, line));
-    for word in ["serve", "Play", "", "--help"] {
-        let words = vec![in alloc; String::from_str(alloc, word)?]?;
-        assert!(rt;
-            ran(alloc, words.as_slice(), NEVER)?.is(2, 0, line),
-            "at {word}"
-        );
+    for words in ["load", "Play", "", "--help", "play --"] {
+        let outcome = ran(alloc, words_of(alloc, words)?.as_slice(), NEVER)?;
+        assert!(rt; outcome.is(2, 0, line), "at {words}");
     }
+    Ok(())
+}
+
+#[test]
+fn a_portal_file_is_played_or_told(rt: HostRuntime) -> Result<(), Fail> {
+    let alloc = rt.alloc();
+    let words = words_of(alloc, "play --portal p.toml")?;
+    let words = words.as_slice();
+    assert!(rt; ran(alloc, words, NEVER)?.is(0, TRANSCRIPT.len(), b""));
+    let repeated = Ends {
+        file: r#"user = [{ name = "ann" }, { name = "ann" }]"#,
+        ..NEVER
+    };
+    let line = b"portal: portal file: repeated user\n";
+    assert!(rt; ran(alloc, words, repeated)?.is(7, 0, line));
+    let failing = Ends { fetch: 1, ..NEVER };
+    assert!(rt; ran(alloc, words, failing)?.is(8, 0, b"portal: cannot fetch p.toml\n"));
+    let words = words_of(alloc, "play --portal=p")?;
+    let line = b"portal: cannot fetch p\n";
+    assert!(rt; ran(alloc, words.as_slice(), NEVER)?.is(8, 0, line));
     Ok(())
 }
 

@@ -2,7 +2,7 @@ use Rattle.std.proofs.Common.{◌++◌}
 use Rattle.std.proofs.lemmas.Result.{err_from_is_err_and, on_err_weaker}
 use Rattle.std.specs.Prelude.{codes}
 use Rattle.portal_cli.proofs.Telling.{first_part, second_part}
-use Rattle.portal_cli.proofs.run.write_fault.Goals as goal
+use Rattle.portal_cli.proofs.status.write_fault.Goals as goal
 
 pub returns-in_err-write_text-clause-failed : goal.returns-in_err-write_text-clause-failed
 returns-in_err-write_text-clause-failed g c =

@@ -1,0 +1,102 @@
+-- What a run does, by the command that its words say and by its status.
+use Rattle.std.specs.Prelude.{◌≡◌, ◌⊎◌, ℕ, List, [], ◌∷◌, Option, Some, None, Ok, Err, codes}
+use Rattle.portal_base.specs.declared.outside.Failed.{Failed}
+use Rattle.portal_core.specs.State.{State}
+use Rattle.portal_cli.specs.Start.{Beginning, BeginsAnd, Fetching}
+use Rattle.portal_cli.specs.declared.status.Status.{Status}
+use Rattle.portal_cli.specs.declared.status.Status.TheVariants.{Done, Words, ReadFault, WriteFault, OutOfMemory}
+use Rattle.portal_cli.specs.declared.status.Status.TheVariants.{PortalFile, FetchFault, DataFault, ListenFault}
+use Rattle.portal_serve.specs.Desk.{DeskSight, ServesDesk}
+use Rattle.portal_serve.specs.Run.{Devices, PlaysAll, PlaysPart}
+use Rattle.portal_serve.specs.Served.{LinkSight}
+use Rattle.portal_words.specs.declared.command.Command.{Command}
+use Rattle.portal_words.specs.declared.command.Command.TheVariants.{Play, Serve}
+
+-- The one item of a list, before and after a call, of which P holds.
+abbrev pub OfOne : {X : Type 0} → List X → List X → (X → X → Type 0) → Type 0
+OfOne (x ∷ []) (y ∷ []) P = P x y
+OfOne [] ys P = ⊥
+OfOne (x ∷ other ∷ more) ys P = ⊥
+OfOne (x ∷ []) [] P = ⊥
+OfOne (x ∷ []) (y ∷ other ∷ more) P = ⊥
+
+-- ---- play
+
+-- The script on input was played to its end, where input tells.
+abbrev pub PlaysToEnd : State → Devices → Devices → Type 0
+PlaysToEnd state old new =
+    (whole : List ℕ) → old.to_come ≡ Some whole → (after : State) × PlaysAll state whole after old new
+
+-- The script on input was played in part, where input tells: all that passed belongs to one place in it, before which
+-- at most so many lines were begun and not worked.
+abbrev pub PlaysToPlace : ℕ → State → Devices → Devices → Type 0
+PlaysToPlace most state old new =
+    (whole : List ℕ) → old.to_come ≡ Some whole → (after : State) × PlaysPart most state whole after old new
+
+-- What a run of `play` did from a state, by its status. Input fails, or passes its most, between two lines.
+abbrev pub Plays : State → Devices → Devices → Status → Type 0
+Plays state old new Done = PlaysToEnd state old new
+Plays state old new Words = ⊥
+Plays state old new ReadFault = PlaysToPlace 0 state old new
+Plays state old new WriteFault = PlaysToPlace 1 state old new
+Plays state old new OutOfMemory = PlaysToPlace 1 state old new
+Plays state old new (PortalFile text) = ⊥
+Plays state old new (FetchFault text) = ⊥
+Plays state old new (DataFault text) = PlaysToPlace 0 state old new × (text ≡ codes "input too long")
+Plays state old new ListenFault = ⊥
+
+-- ---- serve
+
+-- What a run of `serve` did from a portal, by its status. `sight` is what is told of a link.
+abbrev pub Serves : {Peer : Type 0} → (Peer → LinkSight) → Beginning → ℕ → DeskSight Peer → DeskSight Peer → Status
+    → Type 0
+Serves sight begun links old new Done =
+    (after : State) × ServesDesk sight begun.digests begun.state links old new after (Ok tt)
+Serves sight begun links old new Words = ⊥
+Serves sight begun links old new ReadFault = ⊥
+Serves sight begun links old new WriteFault = ⊥
+Serves sight begun links old new OutOfMemory = new ≡ old
+Serves sight begun links old new (PortalFile text) = ⊥
+Serves sight begun links old new (FetchFault text) = ⊥
+Serves sight begun links old new (DataFault text) = ⊥
+Serves sight begun links old new ListenFault =
+    (failed : Failed) × (after : State) × ServesDesk sight begun.digests begun.state links old new after (Err failed)
+
+-- ---- a run
+
+-- what is told of the devices: of those of a script, and of the desk
+pub record Sight (Peer : Type 0) : Type 0 where
+  pub script : Devices
+  pub desk : DeskSight Peer
+
+abbrev pub sight_of : {Peer : Type 0} → Devices → DeskSight Peer → Sight Peer
+sight_of script desk = record { script = script; desk = desk }
+
+-- What a run did, by the command that its words say. Where they say none, its status tells that, or want of memory.
+abbrev pub Runs : {Peer : Type 0} → (Peer → LinkSight) → Option Command → Fetching → Sight Peer → Sight Peer → Status
+    → Type 0
+Runs sight None fetching old new status = (status ≡ Words) ⊎ (status ≡ OutOfMemory)
+Runs sight (Some (Play options)) fetching old new status =
+    BeginsAnd fetching options.portal status (λ begun. Plays begun.state old.script new.script status)
+    (new.script ≡ old.script)
+Runs sight (Some (Serve options)) fetching old new status =
+    BeginsAnd fetching options.portal status (λ begun. Serves sight begun options.links old.desk new.desk status)
+    (new.desk ≡ old.desk)
+
+-- where the portal file is that the words name, if they name one
+abbrev pub portal_of : Option Command → Option (List ℕ)
+portal_of None = None
+portal_of (Some (Play options)) = options.portal
+portal_of (Some (Serve options)) = options.portal
+
+-- The words say no script to play. Then nothing of a script's devices is touched.
+abbrev pub PlaysNone : Option Command → Type 0
+PlaysNone None = Unit {0}
+PlaysNone (Some (Play options)) = ⊥
+PlaysNone (Some (Serve options)) = Unit {0}
+
+-- The words say no link to serve.
+abbrev pub ServesNone : Option Command → Type 0
+ServesNone None = Unit {0}
+ServesNone (Some (Play options)) = Unit {0}
+ServesNone (Some (Serve options)) = ⊥
