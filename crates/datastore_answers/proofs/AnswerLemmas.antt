@@ -1,10 +1,10 @@
 -- How an answer on a table comes about.
-use Rattle.std.proofs.Common.{◌≡◌, ℕ, true, List, [], Option, Some, None, Result, Ok, Err, refl, sym, ap, ◌∙◌, subst}
+use Rattle.std.proofs.Common.{◌≡◌, ℕ, true, List, [], Some, None, Result, Ok, Err, refl, sym, ap, ◌∙◌, subst}
 use Rattle.std.specs.Prelude.{IfOk, codes}
 use Rattle.std.specs.Borrow.{Bor}
 use Rattle.std.specs.Result.{result_map_both}
 use Rattle.packages.specs.Named.{Placed}
-use Rattle.portal_base.specs.Faults.{Fault, noted_if}
+use Rattle.portal_base.specs.Faults.{noted_if}
 use Rattle.portal_base.specs.declared.json_value.Json.{Json}
 use Rattle.portal_calls.specs.Answer.{AcceptsOnly, ruled}
 use Rattle.portal_calls.specs.declared.answer.Answer.{Answer}
@@ -17,11 +17,10 @@ use Rattle.datastore_answers.specs.Answered.{answer_among, answer_on, answer_wit
 use Rattle.datastore_answers.specs.Answered.{tables_beside}
 use Rattle.datastore_answers.specs.Answers.{putting, upserting_as}
 use Rattle.datastore_answers.specs.Changed.{TableChange}
-use Rattle.datastore_answers.specs.Linked.{put_among, put_at, put_for}
+use Rattle.datastore_answers.specs.Linked.{put_at, put_for}
 use Rattle.datastore_answers.specs.Plan.{IsPlanned, change_of}
 use Rattle.datastore_answers.specs.Tables.{Stored, table_at, tables_seen}
-use Rattle.datastore_answers.specs.Told.{Told, put_fault, records_told, told_in, told_of_put}
-use Rattle.datastore_answers.specs.declared.answer.TableAnswer.{TableAnswer}
+use Rattle.datastore_answers.specs.Told.{Told, put_fault, records_told, told_in}
 use Rattle.datastore_answers.specs.declared.answer.TableAnswer.TheVariants.{NoTable, Answered}
 use Rattle.datastore_answers.specs.declared.plan.TablePlan.{TablePlan}
 use Rattle.datastore_answers.specs.declared.resource_table.ResourceTable.{ResourceTable}
@@ -73,7 +72,8 @@ pub put-answer : (seen : Seen) (placed : Placed) (beside : List ResourceTable) (
     → given ≡ upserting_as seen placed beside t (Ok how) read
 put-answer seen placed beside t how records read given may there is same =
     subst (λ r. given ≡ upserting_as seen placed beside t (Ok how) r) is
-    (rw may (same ∙ ap (λ o. ruled seen.quota (noted_if (codes "records") (put_fault (put_for beside how records o)) [])
+    (rw may (same
+    ∙ ap (λ o. ruled seen.quota (noted_if (codes "records") (put_fault (put_for beside how records o)) [])
     (putting placed how records)) there))
 
 -- What can't be read is told, and nothing is put.
@@ -120,7 +120,8 @@ method-refused (Ok a) seen placed beside how message recs read may is same refus
     refused-answer seen placed beside t how read read (answer_with change_of a) may refl
     (subst (λ h. records_told beside t h read ≡ told_in read) (sym is) (method-told beside t message read))
     (λ other. refusal other
-    ∙ ap (λ told. ruled seen.quota (noted_if (codes "records") told (noted_if (codes "method") (Some message) [])) other)
+    ∙ ap (λ told. ruled seen.quota (noted_if (codes "records") told (noted_if (codes "method") (Some message) []))
+    other)
     (told-now recs ∙ ap told_in same)
     ∙ ap (λ h. ruled seen.quota (noted_if (codes "records") (told_in read) (noted_if (codes "method") (told_in h) []))
     other) (sym is))

@@ -1,14 +1,13 @@
 -- A batch that is prepared on a table, and what it is told among the tables of the dataset.
-use Rattle.std.proofs.Common.{◌≡◌, ℕ, Bool, true, false, List, [], ◌∷◌, Option, Some, None, Result, Ok, Err, refl, sym, ap}
-use Rattle.std.proofs.Common.{◌∙◌, subst, map, ◌==◌, ◌⊎◌, inl, inr}
-use Rattle.std.specs.Prelude.{IfOk, IfErr, IsSome, option_map, find, filter}
+use Rattle.std.proofs.Common.{◌≡◌, ℕ, true, List, Option, Some, None, Result, Ok, Err, sym}
+use Rattle.std.proofs.Common.{ap, ◌∙◌, subst, map, ◌==◌, ◌⊎◌, inl, inr}
+use Rattle.std.specs.Prelude.{IfOk, IsSome, option_map}
 use Rattle.std.specs.Str.{bytes_eq}
 use Rattle.std.proofs.lemmas.Option.{same_Some}
 use Rattle.std.proofs.lemmas.Slice.Eq.{bytes_eq-Decides}
 use Rattle.portal_base.specs.Ordered.{IsAscending, found}
 use Rattle.portal_base.specs.declared.json_value.Json.{Json}
 use Rattle.portal_base.proofs.Filtered.{IsIn-filter, list_all-IsIn}
-use Rattle.portal_base.proofs.Unique.{IsIn}
 use Rattle.packages.proofs.FindLemmas.{IsIn-find}
 use Rattle.datastore_table.specs.Batch.{BatchValue, IsReady, Written, worked_on}
 use Rattle.datastore_table.specs.Put.{Worked, put_records}
@@ -17,10 +16,10 @@ use Rattle.datastore_table.specs.Rows.{row_cmp}
 use Rattle.datastore_table.specs.declared.fault.TableFault.{TableFault}
 use Rattle.datastore_table.specs.declared.fault.TableFault.TheVariants.{OutOfMemory}
 use Rattle.datastore_table.specs.declared.method.Method.{Method}
-use Rattle.datastore_answers.specs.Linked.{AreLinked, alone, are_linked, is_linked, links_checked, put_among, put_at}
+use Rattle.datastore_answers.specs.Linked.{AreLinked, alone, is_linked, links_checked, put_at}
 use Rattle.datastore_answers.specs.Linked.{put_for, put_own}
 use Rattle.datastore_answers.specs.Order.{at_address}
-use Rattle.datastore_answers.specs.Plan.{IsBatchAt, IsPutReady}
+use Rattle.datastore_answers.specs.Plan.{IsBatchAt}
 use Rattle.datastore_answers.specs.Tables.{Stored, bare, table_at, tables_in, tables_of}
 use Rattle.datastore_answers.specs.Told.{put_fault}
 use Rattle.datastore_answers.specs.declared.address.Address.{Address}

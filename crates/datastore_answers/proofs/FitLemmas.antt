@@ -21,9 +21,8 @@ use Rattle.datastore_answers.specs.Answers.{answer_to_datastore_info, answer_to_
 use Rattle.datastore_answers.specs.Changed.{TableChange}
 use Rattle.datastore_answers.specs.Dictionary.{info_dictionary}
 use Rattle.datastore_answers.specs.Fit.{IsFitTable, IsOwn, IsTaken}
-use Rattle.datastore_answers.specs.Linked.{put_among}
 use Rattle.datastore_answers.specs.Tables.{table_at}
-use Rattle.datastore_answers.specs.Told.{Told, method_in, put_fault, records_in, records_told, told_in, told_of_put}
+use Rattle.datastore_answers.specs.Told.{Told, method_in, records_in, records_told, told_in, told_of_put}
 use Rattle.datastore_answers.specs.declared.resource_table.ResourceTable.{ResourceTable}
 use Rattle.datastore_answers.proofs.SeenLemmas.{resource-seen}
 
@@ -52,7 +51,8 @@ on-such : (P : TableChange → Type 0) (key : List ℕ) (seen : Seen) (tables : 
     → ((placed : Placed) (t : ResourceTable) → resource_at key seen ≡ Ok placed
     → table_at placed.resource.number (tables_beside placed tables) ≡ Some t
     → AcceptsSuch P (on_table (Some t) (answer placed (tables_beside placed tables))))
-    → AcceptsSuch P (on_thing (resource_at key seen) (λ placed. answer_among answer placed (tables_beside placed tables)))
+    → AcceptsSuch P (on_thing (resource_at key seen)
+    (λ placed. answer_among answer placed (tables_beside placed tables)))
 on-such P key seen tables answer only = by (resource_at key seen) refl
   where
     by_table : (placed : Placed) (found : Option ResourceTable) → resource_at key seen ≡ Ok placed
@@ -82,7 +82,8 @@ upsert_fit seen tables =
     (told_of_put (tables_beside placed tables) t (method_in t.table.schema.key seen.call.request.body)
     (records_in seen.call.request.body)) _
     (taken seen tables placed t
-    (own-of placed t (Contains-IsIn placed.dataset seen.datasets (resource-seen (codes "resource_id") seen placed named))
+    (own-of placed t
+    (Contains-IsIn placed.dataset seen.datasets (resource-seen (codes "resource_id") seen placed named))
     may there)
     refl refl (method_in t.table.schema.key seen.call.request.body) (records_in seen.call.request.body))))
   where

@@ -1,7 +1,6 @@
 -- What a batch writes refers to what its table's rows refer to behind it.
-use Rattle.std.proofs.Common.{◌≡◌, ℕ, ◌+◌, Bool, true, false, not, ◌&&◌, ◌||◌, List, [], ◌∷◌, Option, Some, None, Ok, Err}
-use Rattle.std.proofs.Common.{Result, refl, sym, ap, ◌∙◌, if◌then◌else◌}
-use Rattle.std.specs.Prelude.{find}
+use Rattle.std.proofs.Common.{◌≡◌, ℕ, ◌+◌, Bool, true, false, not, ◌||◌, List, [], ◌∷◌, Option, Some, None, Ok}
+use Rattle.std.proofs.Common.{Err, Result, refl, sym, ap, ◌∙◌, if◌then◌else◌}
 use Rattle.std.specs.Option.{option_or}
 use Rattle.std.specs.List.{list_all}
 use Rattle.portal_base.specs.Ordered.{IsAscending}
@@ -10,16 +9,16 @@ use Rattle.portal_base.proofs.Filtered.{list_all-IsIn}
 use Rattle.packages.proofs.FindLemmas.{IsIn-find}
 use Rattle.table_schema.specs.declared.foreign.Foreign.{Foreign}
 use Rattle.datastore_table.specs.Batch.{Written, worked_on}
-use Rattle.datastore_table.specs.Put.{Worked, put_records}
-use Rattle.datastore_table.specs.References.{foreign_checked, is_broken, is_broken_at, is_self, written_checked}
+use Rattle.datastore_table.specs.Put.{put_records}
+use Rattle.datastore_table.specs.References.{is_broken, is_broken_at, is_self, written_checked}
 use Rattle.datastore_table.specs.Results.{◌>>>◌, in_turn}
 use Rattle.datastore_table.specs.Rows.{has_id, row_at, row_cmp, rows_after}
 use Rattle.datastore_table.specs.declared.fault.TableFault.{TableFault}
 use Rattle.datastore_table.specs.declared.method.Method.{Method}
 use Rattle.datastore_table.specs.declared.row.Row.{Row}
 use Rattle.datastore_table.proofs.RowLemmas.{both_hold, standing_at}
-use Rattle.datastore_answers.specs.Linked.{alone, held_by, holds_in, is_linked, link_checked, links_checked, links_hold}
-use Rattle.datastore_answers.specs.Linked.{put_among, target_of}
+use Rattle.datastore_answers.specs.Linked.{alone, held_by, holds_in, is_linked, link_checked, links_checked}
+use Rattle.datastore_answers.specs.Linked.{links_hold, put_among, target_of}
 use Rattle.datastore_answers.specs.declared.resource_table.ResourceTable.{ResourceTable}
 
 -- ---- one reference

@@ -1,6 +1,6 @@
 -- What is answered on all tables is answered on those that the caller sees.
-use Rattle.std.proofs.Common.{◌≡◌, ℕ, Bool, true, false, ◌||◌, cond, List, [], ◌∷◌, Option, Some, None, Result, Ok, Err}
-use Rattle.std.proofs.Common.{refl, sym, ap, ◌∙◌, subst, inl, inr}
+use Rattle.std.proofs.Common.{◌≡◌, ℕ, Bool, true, false, ◌||◌, cond, List, [], ◌∷◌, Option, Some, None, Result, Ok}
+use Rattle.std.proofs.Common.{Err, refl, sym, ap, ◌∙◌, subst, inl, inr}
 use Rattle.std.specs.Prelude.{filter, find, option_map, slice_get}
 use Rattle.std.specs.List.{list_any}
 use Rattle.std.specs.Str.{bytes_eq}
@@ -16,8 +16,7 @@ use Rattle.portal_calls.specs.declared.answer.Kind.TheVariants as kind
 use Rattle.portal_calls.proofs.Answering.{thing_at-ok}
 use Rattle.visibility.specs.Seen.{Seen}
 use Rattle.datastore_answers.specs.Answered.{answer_among, answer_on, on_thing, resource_at, tables_beside}
-use Rattle.datastore_answers.specs.Tables.{is_table_among, tables_in, tables_seen}
-use Rattle.datastore_answers.specs.declared.answer.TableAnswer.{TableAnswer}
+use Rattle.datastore_answers.specs.Tables.{is_table_among, tables_seen}
 use Rattle.datastore_answers.specs.declared.resource_table.ResourceTable.{ResourceTable}
 
 -- ---- the resource's dataset is seen

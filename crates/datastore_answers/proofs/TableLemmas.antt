@@ -1,7 +1,8 @@
 -- Tables by their addresses: where one is found, and what is made of the one that stands at a place.
-use Rattle.std.proofs.Common.{◌≡◌, ℕ, zero, suc, ◌+◌, ◌<◌, Bool, true, false, not, ◌&&◌, cond, List, [], ◌∷◌, length, get_or}
-use Rattle.std.proofs.Common.{Option, Some, None, Ok, refl, sym, ap, subst, ◌∙◌, arith, map, if◌then◌else◌, ◌==◌}
-use Rattle.std.specs.Prelude.{filter, find, slice_get, slice_set, option_map}
+use Rattle.std.proofs.Common.{◌≡◌, ℕ, zero, suc, ◌<◌, Bool, true, false, not, ◌&&◌, cond, List, [], ◌∷◌, length}
+use Rattle.std.proofs.Common.{get_or}
+use Rattle.std.proofs.Common.{Some, None, Ok, refl, sym, ap, subst, ◌∙◌, map, if◌then◌else◌, ◌==◌}
+use Rattle.std.specs.Prelude.{slice_get, slice_set, option_map}
 use Rattle.std.specs.Cmp.{unsigned_tied}
 use Rattle.std.specs.Ordering.{is_eq, is_lt, nat_cmp, ordering_then}
 use Rattle.std.specs.declared.cmp.Ordering.{Ordering}
@@ -58,7 +59,8 @@ is_at-parts address t =
 
 -- What is at an address is found there among its dataset's tables.
 pub table_found : (address : Address) (ts : List ResourceTable)
-    → option_map bare (found (at_address address) ts) ≡ table_at address.number (tables_in address.dataset (map bare ts))
+    → option_map bare (found (at_address address) ts)
+    ≡ table_at address.number (tables_in address.dataset (map bare ts))
 table_found address [] = refl
 table_found address (t ∷ ts) =
     by (bytes_eq t.address.dataset address.dataset) (t.address.number == address.number) (is_at-parts address t)

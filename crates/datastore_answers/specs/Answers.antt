@@ -1,6 +1,6 @@
--- The answers to calls on the tables of resources: functions of the call and of what its caller sees. Names, rights and
--- results are those of CKAN 2.10's DataStore; rules and messages are the portal's own.
-use Rattle.std.specs.Prelude.{ℕ, List, [], codes, Option, Some, None, Result, Ok, Err}
+-- The answers to calls on the tables of resources: functions of the call and of what its caller sees. Names, rights
+-- and results are those of CKAN 2.10's DataStore; rules and messages are the portal's own.
+use Rattle.std.specs.Prelude.{ℕ, List, [], codes, Ok, Err}
 use Rattle.portal_base.specs.declared.json_value.Json.{Json}
 use Rattle.packages.specs.Named.{Placed, resource_address}
 use Rattle.portal_calls.specs.Answer.{needing, ruled}

@@ -1,4 +1,5 @@
--- The dictionaries in which replies show tables, with keys that ascend by bytes. Keys are those of CKAN 2.10's DataStore.
+-- The dictionaries in which replies show tables, with keys that ascend by bytes. Keys are those of CKAN 2.10's
+-- DataStore.
 use Rattle.std.specs.Prelude.{ℕ, pos, List, [], ◌∷◌, map, length, codes}
 use Rattle.portal_base.specs.declared.json_value.Json.{Json}
 use Rattle.portal_base.specs.declared.json_value.Json as json

@@ -1,6 +1,6 @@
 -- Changes of the tables of resources that can be made where these things are seen, and that are the caller's own to
 -- make.
-use Rattle.std.specs.Prelude.{◌≡◌, ℕ, List, true, Some, None, Ok}
+use Rattle.std.specs.Prelude.{◌≡◌, List, true, Some, None}
 use Rattle.std.specs.List.{Contains}
 use Rattle.portal_base.specs.declared.json_value.Json.{Json}
 use Rattle.packages.specs.Named.{Placed}

@@ -1,5 +1,5 @@
 -- Changes of the tables of resources that were decided on: what they change, and when they are ready to be made.
-use Rattle.std.specs.Prelude.{◌≡◌, ℕ, List, IsTrue, Option, Some, None, Ok, ⊤}
+use Rattle.std.specs.Prelude.{◌≡◌, ℕ, List, IsTrue, Some, Ok, ⊤}
 use Rattle.portal_base.specs.declared.json_value.Json.{Json}
 use Rattle.portal_base.specs.Ordered.{IsAscending, found}
 use Rattle.datastore_table.specs.Batch.{BatchValue, IsReady, cut_checked, worked_on}

@@ -1,8 +1,8 @@
 //! The answers to calls on the tables of resources.
 //!
-//! Each names the resource, its table, the right, the reading of the body and the change. What it answers is a function
-//! of the call and of what the caller sees. A batch is prepared where it is decided on, since a table tells only so
-//! whether it takes it; the tables stay as they are.
+//! Each names the resource, its table, the right, the reading of the body and the change. What it answers is a
+//! function of the call and of what the caller sees. A batch is prepared where it is decided on, since a table
+//! tells only so whether it takes it; the tables stay as they are.
 ghost use Rattle.std.specs.Prelude.{◌≡◌, ◌≢◌, [], codes, IfOk, IsSome, IsTrue, None, Some};
 ghost use Rattle.std.specs.List.{list_all};
 ghost use Rattle.portal_base.specs.Faults.{noted_if};
@@ -168,7 +168,8 @@ fn upsert_refused(
 ) -> Result<Answer<TablePlan>, AllocError>
     requires { told_in method ≡ None → told_in records ≡ None → ⊥ }
     ensures refusal { IfOk result (λ answer. (given : Answer TableChange) → answer_with change_of answer
-        ≡ ruled quota (noted_if (codes "records") (told_in records.entry) (noted_if (codes "method") (told_in method) []))
+        ≡ ruled quota
+        (noted_if (codes "records") (told_in records.entry) (noted_if (codes "method") (told_in method) []))
         given) }
     ensures nothing { IfOk result (λ answer. (stored : Stored) → AcceptsOnly (λ plan. IsPlanned plan stored) answer) }
 {

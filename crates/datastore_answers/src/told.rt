@@ -5,7 +5,8 @@ ghost use Rattle.std.specs.Result.{result_map_both};
 ghost use Rattle.portal_base.specs.Kinds.{text_at};
 ghost use Rattle.table_schema.specs.Values.{is_map};
 ghost use Rattle.datastore_table.specs.Put.{needs_key};
-ghost use Rattle.datastore_answers.specs.Told.{fault_text, field_text, method_in, method_named, method_reading, records_in, row_text};
+ghost use Rattle.datastore_answers.specs.Told.{fault_text, field_text, method_in, method_named, method_reading};
+ghost use Rattle.datastore_answers.specs.Told.{records_in, row_text};
 ghost use Rattle.datastore_answers.specs.Told.{undictionary, with_key};
 
 use datastore_table::{Method, TableFault};

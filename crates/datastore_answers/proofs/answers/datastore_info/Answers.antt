@@ -1,4 +1,4 @@
-use Rattle.std.proofs.Common.{◌≡◌, ap, sym}
+use Rattle.std.proofs.Common.{ap, sym}
 use Rattle.std.specs.Prelude.{codes}
 use Rattle.packages.specs.Placing.{placed_now}
 use Rattle.portal_calls.specs.declared.answer.Answer.TheVariants.{Shown}

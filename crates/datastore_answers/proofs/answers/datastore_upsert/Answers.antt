@@ -1,4 +1,4 @@
-use Rattle.std.proofs.Common.{◌≡◌, ◌∙◌, ap, sym}
+use Rattle.std.proofs.Common.{◌∙◌, ap, sym}
 use Rattle.std.specs.Prelude.{codes}
 use Rattle.packages.specs.Placing.{placed_now}
 use Rattle.table_schema.specs.Field.{SchemaValue}

@@ -1,4 +1,4 @@
-use Rattle.std.proofs.Common.{◌≡◌, ◌∙◌, sym}
+use Rattle.std.proofs.Common.{◌∙◌, sym}
 use Rattle.datastore_answers.proofs.ToldLemmas.{undenied}
 use Rattle.datastore_answers.proofs.answers.refused.Goals as goal
 

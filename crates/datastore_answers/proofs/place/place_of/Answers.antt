@@ -2,7 +2,7 @@ use Rattle.std.proofs.Common.{rules}
 use Rattle.std.specs.Ordering.{is_lt}
 use Rattle.std.proofs.lemmas.List.Sorted.{IsPartitionPoint-from_clause}
 use Rattle.datastore_table.proofs.SearchLemmas.{below_first, place_is}
-use Rattle.datastore_answers.specs.Order.{at_address, table_cmp, table_cmp_total}
+use Rattle.datastore_answers.specs.Order.{table_cmp, table_cmp_total}
 use Rattle.datastore_answers.proofs.TableLemmas.{at}
 use Rattle.datastore_answers.proofs.place.place_of.Goals as goal
 

@@ -1,5 +1,4 @@
-use Rattle.std.proofs.Common.{◌≡◌, ◌∙◌, ap, sym, None}
-use Rattle.std.specs.Prelude.{IsTrue}
+use Rattle.std.proofs.Common.{◌≡◌, ◌∙◌, sym, None}
 use Rattle.datastore_answers.specs.Told.{undictionary}
 use Rattle.datastore_answers.proofs.ToldLemmas.{undictionary-none}
 use Rattle.datastore_answers.proofs.told.records_in.Goals as goal

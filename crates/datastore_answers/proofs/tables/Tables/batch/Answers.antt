@@ -1,4 +1,3 @@
-use Rattle.std.proofs.Common.{◌≡◌, ◌∙◌, sym}
 use Rattle.datastore_table.specs.Batch.{worked_on}
 use Rattle.datastore_table.proofs.WorkLemmas.{err_of}
 use Rattle.datastore_answers.specs.Linked.{alone, links_checked, put_at}

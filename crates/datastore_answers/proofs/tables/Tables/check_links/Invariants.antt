@@ -8,5 +8,5 @@ abbrev pub invariant-loop-place : goal.invariant-loop-place
 invariant-loop-place l =
     in_turn (link_checked (tables_in l.table.address.dataset (tables_of l.self)) l.table (alone l.batch.work)) 0
     l.table.table.schema.foreign tt
-    ≡ in_turn (link_checked (tables_in l.table.address.dataset (tables_of l.self)) l.table (alone l.batch.work)) l.place
-    (drop l.place l.table.table.schema.foreign) tt
+    ≡ in_turn (link_checked (tables_in l.table.address.dataset (tables_of l.self)) l.table (alone l.batch.work))
+    l.place (drop l.place l.table.table.schema.foreign) tt

@@ -1,9 +1,9 @@
-use Rattle.std.proofs.Common.{◌≡◌, ◌∙◌, ap, sym, get_or, Some, refl, Ok, subst}
+use Rattle.std.proofs.Common.{◌≡◌, ◌∙◌, ap, sym, Some, refl, Ok, subst}
 use Rattle.std.specs.Prelude.{slice_get}
 use Rattle.std.proofs.lemmas.Option.{slice_get-get_or}
 use Rattle.datastore_table.specs.Batch.{cut_checked}
 use Rattle.datastore_answers.specs.Changed.{cut_from, with_table_at}
-use Rattle.datastore_answers.specs.Tables.{Stored, bare, tables_of}
+use Rattle.datastore_answers.specs.Tables.{Stored, tables_of}
 use Rattle.datastore_answers.specs.declared.resource_table.ResourceTable.{ResourceTable}
 use Rattle.datastore_answers.proofs.TableLemmas.{IsAscending-set, bare-cut, read-there, there-at, with_table_at-set}
 use Rattle.datastore_answers.proofs.tables.Tables.cut.Goals as goal

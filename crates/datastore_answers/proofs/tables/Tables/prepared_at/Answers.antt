@@ -1,14 +1,13 @@
-use Rattle.std.proofs.Common.{◌≡◌, ◌∙◌, ap, sym, Some, refl, Ok, Err, subst, Result, ◌⊎◌}
+use Rattle.std.proofs.Common.{◌≡◌, ◌∙◌, ap, sym, Some, Err, subst, Result, ◌⊎◌}
 use Rattle.std.specs.Prelude.{IfErr, slice_get}
 use Rattle.std.proofs.lemmas.Option.{slice_get-get_or}
 use Rattle.portal_base.specs.Ordered.{found}
-use Rattle.packages.proofs.FindLemmas.{IsIn-find}
 use Rattle.datastore_table.specs.Put.{Worked, put_records}
 use Rattle.datastore_table.specs.declared.fault.TableFault.{TableFault}
 use Rattle.datastore_table.specs.declared.fault.TableFault.TheVariants.{OutOfMemory}
 use Rattle.datastore_answers.specs.Linked.{put_own}
 use Rattle.datastore_answers.specs.Order.{at_address, is_at}
-use Rattle.datastore_answers.specs.Tables.{Stored, bare, tables_of}
+use Rattle.datastore_answers.specs.Tables.{Stored, tables_of}
 use Rattle.datastore_answers.specs.declared.address.Address.{Address}
 use Rattle.datastore_answers.specs.declared.resource_table.ResourceTable.{ResourceTable}
 use Rattle.datastore_answers.proofs.BatchLemmas.{batch-at}
