@@ -1,11 +1,12 @@
 -- What the answers on tables accept is fit to be made.
-use Rattle.std.proofs.Common.{◌≡◌, ℕ, true, List, [], Option, Some, None, Result, Ok, Err, refl}
+use Rattle.std.proofs.Common.{◌≡◌, ℕ, Bool, true, false, not, List, [], Option, Some, None, Result, Ok, Err, refl}
 use Rattle.std.specs.Prelude.{codes}
 use Rattle.std.specs.List.{Contains}
 use Rattle.portal_base.specs.Faults.{noted_if}
 use Rattle.portal_base.specs.declared.json_value.Json.{Json}
 use Rattle.portal_base.proofs.Unique.{Contains-IsIn}
 use Rattle.packages.specs.Named.{Placed}
+use Rattle.packages.specs.Told.{message_unless}
 use Rattle.portal_calls.specs.declared.answer.Answer.{Answer}
 use Rattle.portal_calls.specs.declared.answer.Denial.{Denial}
 use Rattle.portal_calls.specs.declared.answer.Answer.TheVariants.{Shown}
@@ -17,12 +18,15 @@ use Rattle.datastore_table.specs.declared.method.Method.{Method}
 use Rattle.datastore_table.specs.declared.method.Method.TheVariants as method
 use Rattle.datastore_answers.specs.Answered.{AcceptsSuch, address_of, answer_among, on_table, on_thing, resource_at}
 use Rattle.datastore_answers.specs.Answered.{tables_beside}
-use Rattle.datastore_answers.specs.Answers.{answer_to_datastore_info, answer_to_datastore_upsert, read_or, upserting}
+use Rattle.datastore_answers.specs.Answers.{answer_to_datastore_delete, answer_to_datastore_info}
+use Rattle.datastore_answers.specs.Answers.{answer_to_datastore_upsert, deleting, read_or, upserting}
 use Rattle.datastore_answers.specs.Changed.{TableChange}
 use Rattle.datastore_answers.specs.Dictionary.{info_dictionary}
 use Rattle.datastore_answers.specs.Fit.{IsFitTable, IsOwn, IsTaken}
+use Rattle.datastore_answers.specs.Spared.{is_referred}
 use Rattle.datastore_answers.specs.Tables.{table_at}
 use Rattle.datastore_answers.specs.Told.{Told, method_in, records_in, records_told, told_in, told_of_put}
+use Rattle.datastore_answers.specs.Told.{told_of_removal}
 use Rattle.datastore_answers.specs.declared.resource_table.ResourceTable.{ResourceTable}
 use Rattle.datastore_answers.proofs.SeenLemmas.{resource-seen}
 
@@ -72,6 +76,19 @@ pub info_only : (P : TableChange → Type 0) (seen : Seen) (tables : List Resour
 info_only P seen tables =
     on-such P (codes "id") seen tables (λ placed beside t. Shown (info_dictionary t)) (λ placed t named there. tt)
 
+abbrev own-of : (seen : Seen) (tables : List ResourceTable) (placed : Placed) (t : ResourceTable)
+    → Contains seen.datasets placed.dataset → may_edit_in seen.people seen.call.caller placed.dataset ≡ true
+    → table_at placed.resource.number (tables_beside placed tables) ≡ Some t
+    → IsOwn seen tables (address_of placed)
+own-of seen tables placed t stood may there = record {
+  placed = placed;
+  stood = stood;
+  here = refl;
+  own = may;
+  table = t;
+  stands = there;
+}
+
 pub upsert_fit : (seen : Seen) (tables : List ResourceTable)
     → AcceptsSuch (IsFitTable seen tables) (answer_to_datastore_upsert seen tables)
 upsert_fit seen tables =
@@ -82,20 +99,31 @@ upsert_fit seen tables =
     (told_of_put (tables_beside placed tables) t (method_in t.table.schema.key seen.call.request.body)
     (records_in seen.call.request.body)) _
     (taken seen tables placed t
-    (own-of placed t
+    (own-of seen tables placed t
     (Contains-IsIn placed.dataset seen.datasets (resource-seen (codes "resource_id") seen placed named))
     may there)
     refl refl (method_in t.table.schema.key seen.call.request.body) (records_in seen.call.request.body))))
-  where
-    own-of : (placed : Placed) (t : ResourceTable) → Contains seen.datasets placed.dataset
-        → may_edit_in seen.people seen.call.caller placed.dataset ≡ true
-        → table_at placed.resource.number (tables_beside placed tables) ≡ Some t
-        → IsOwn seen tables (address_of placed)
-    own-of placed t stood may there = record {
-      placed = placed;
-      stood = stood;
-      here = refl;
-      own = may;
-      table = t;
-      stands = there;
-    }
+
+unreferred : (referred : Bool) (message : List ℕ) → message_unless (not referred) message ≡ None → referred ≡ false
+unreferred true message none = absurd (cc)
+unreferred false message none = refl
+
+pub delete_fit : (seen : Seen) (tables : List ResourceTable)
+    → AcceptsSuch (IsFitTable seen tables) (answer_to_datastore_delete seen tables)
+delete_fit seen tables =
+    on-such (IsFitTable seen tables) (codes "resource_id") seen tables (deleting seen)
+    (λ placed t named there. AcceptsOnly-needing (IsFitTable seen tables)
+    (may_edit_in seen.people seen.call.caller placed.dataset) EditDataset _
+    (λ may. AcceptsOnly-ruled (IsFitTable seen tables) seen.quota
+    (told_of_removal (tables_beside placed tables) placed.resource.number) _
+    (λ none. record {
+      own =
+          own-of seen tables placed t
+          (Contains-IsIn placed.dataset seen.datasets (resource-seen (codes "resource_id") seen placed named)) may there;
+      unreferred =
+          unreferred (is_referred placed.resource.number (tables_beside placed tables))
+          (codes "A table of another resource refers to it")
+          (noted_if-none (codes "resource_id") (message_unless
+          (not (is_referred placed.resource.number (tables_beside placed tables)))
+          (codes "A table of another resource refers to it")) [] none).1;
+    })))

@@ -4,5 +4,6 @@ mod Examples
 pub mod FitLemmas
 pub mod LinkLemmas
 pub mod SeenLemmas
+pub mod SpareLemmas
 pub mod TableLemmas
 pub mod ToldLemmas

@@ -14,8 +14,8 @@ use Rattle.datastore_table.specs.declared.method.Method.TheVariants as method
 use Rattle.datastore_answers.specs.Answered.{address_of, answer_on}
 use Rattle.datastore_answers.specs.Changed.{TableChange}
 use Rattle.datastore_answers.specs.Changed as change
-use Rattle.datastore_answers.specs.Dictionary.{info_dictionary, upsert_dictionary}
-use Rattle.datastore_answers.specs.Told.{Told, method_in, records_in, told_of_put}
+use Rattle.datastore_answers.specs.Dictionary.{gone_dictionary, info_dictionary, upsert_dictionary}
+use Rattle.datastore_answers.specs.Told.{Told, method_in, records_in, told_of_put, told_of_removal}
 use Rattle.datastore_answers.specs.declared.answer.TableAnswer.{TableAnswer}
 use Rattle.datastore_answers.specs.declared.resource_table.ResourceTable.{ResourceTable}
 
@@ -61,3 +61,17 @@ upserting seen placed beside t =
 
 abbrev pub answer_to_datastore_upsert : Seen → List ResourceTable → TableAnswer TableChange
 answer_to_datastore_upsert seen tables = answer_on (codes "resource_id") seen tables (upserting seen)
+
+-- ---- tables that go
+
+-- the table of a resource, gone
+abbrev pub removing : Placed → Answer TableChange
+removing placed = Accepted (gone_dictionary (id_of placed)) (change.Remove (address_of placed))
+
+abbrev pub deleting : Seen → Placed → List ResourceTable → ResourceTable → Answer TableChange
+deleting seen placed beside t =
+    editing seen placed (ruled seen.quota (told_of_removal beside placed.resource.number) (removing placed))
+
+-- without filters, where the table goes
+abbrev pub answer_to_datastore_delete : Seen → List ResourceTable → TableAnswer TableChange
+answer_to_datastore_delete seen tables = answer_on (codes "resource_id") seen tables (deleting seen)

@@ -1,6 +1,6 @@
 -- Changes of the tables of resources that can be made where these things are seen, and that are the caller's own to
 -- make.
-use Rattle.std.specs.Prelude.{◌≡◌, List, true, Some, None}
+use Rattle.std.specs.Prelude.{◌≡◌, List, true, false, Some, None}
 use Rattle.std.specs.List.{Contains}
 use Rattle.portal_base.specs.declared.json_value.Json.{Json}
 use Rattle.packages.specs.Named.{Placed}
@@ -11,6 +11,7 @@ use Rattle.datastore_answers.specs.Answered.{address_of, tables_beside}
 use Rattle.datastore_answers.specs.Changed.{TableChange}
 use Rattle.datastore_answers.specs.Changed as change
 use Rattle.datastore_answers.specs.Linked.{put_among}
+use Rattle.datastore_answers.specs.Spared.{is_referred}
 use Rattle.datastore_answers.specs.Tables.{table_at}
 use Rattle.datastore_answers.specs.Told.{put_fault}
 use Rattle.datastore_answers.specs.declared.address.Address.{Address}
@@ -38,8 +39,13 @@ pub record IsTaken (seen : Seen) (tables : List ResourceTable) (address : Addres
   pub own : IsOwn seen tables address
   pub taken : put_fault (put_among (tables_beside own.placed tables) how records own.table) ≡ None
 
+-- No table of another resource of the dataset refers to it.
+pub record IsSpared (seen : Seen) (tables : List ResourceTable) (address : Address) : Type 0 where
+  pub own : IsOwn seen tables address
+  pub unreferred : is_referred own.placed.resource.number (tables_beside own.placed tables) ≡ false
+
 abbrev pub IsFitTable : Seen → List ResourceTable → TableChange → Type 0
 IsFitTable seen tables (change.Create t) = IsOwnResource seen t.address
-IsFitTable seen tables (change.Remove address) = IsOwn seen tables address
+IsFitTable seen tables (change.Remove address) = IsSpared seen tables address
 IsFitTable seen tables (change.Put address how records) = IsTaken seen tables address how records
 IsFitTable seen tables (change.Cut address ids) = IsOwn seen tables address

@@ -6,5 +6,6 @@ pub mod Fit
 pub mod Linked
 pub mod Order
 pub mod Plan
+pub mod Spared
 pub mod Tables
 pub mod Told

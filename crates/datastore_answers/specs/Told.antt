@@ -1,6 +1,6 @@
 -- What is told of the bodies of calls on tables. Keys and methods are those of CKAN 2.10's DataStore; messages are the
 -- portal's own.
-use Rattle.std.specs.Prelude.{ℕ, ◌+◌, List, [], ◌∷◌, ◌++◌, codes, decimal, ◌&&◌, if◌then◌else◌}
+use Rattle.std.specs.Prelude.{ℕ, ◌+◌, List, [], ◌∷◌, ◌++◌, codes, decimal, ◌&&◌, not, if◌then◌else◌}
 use Rattle.std.specs.Prelude.{Option, Some, None, Result, Ok, Err}
 use Rattle.std.specs.Str.{bytes_eq}
 use Rattle.lexical_forms.specs.Digits.{is_empty}
@@ -15,7 +15,9 @@ use Rattle.datastore_table.specs.declared.fault.TableFault.{TableFault}
 use Rattle.datastore_table.specs.declared.fault.TableFault.TheVariants as fault
 use Rattle.datastore_table.specs.declared.method.Method.{Method}
 use Rattle.datastore_table.specs.declared.method.Method.TheVariants as method
+use Rattle.packages.specs.Told.{message_unless}
 use Rattle.datastore_answers.specs.Linked.{put_among}
+use Rattle.datastore_answers.specs.Spared.{is_referred}
 use Rattle.datastore_answers.specs.declared.resource_table.ResourceTable.{ResourceTable}
 
 -- ---- faults of a table
@@ -111,3 +113,11 @@ records_told beside t (Ok how) (Ok records) = put_fault (put_among beside how re
 abbrev pub told_of_put : List ResourceTable → ResourceTable → Told Method → Told (List Json) → List Fault
 told_of_put beside t how records =
     noted_if (codes "records") (records_told beside t how records) (noted_if (codes "method") (told_in how) [])
+
+-- ---- tables that go
+
+-- what is told of the table of the resource of this number, which goes
+abbrev pub told_of_removal : List ResourceTable → ℕ → List Fault
+told_of_removal beside number =
+    noted_if (codes "resource_id")
+    (message_unless (not (is_referred number beside)) (codes "A table of another resource refers to it")) []

@@ -3,28 +3,29 @@
 //! Each names the resource, its table, the right, the reading of the body and the change. What it answers is a
 //! function of the call and of what the caller sees. A batch is prepared where it is decided on, since a table
 //! tells only so whether it takes it; the tables stay as they are.
-ghost use Rattle.std.specs.Prelude.{◌≡◌, ◌≢◌, [], codes, IfOk, IsSome, IsTrue, None, Some};
+ghost use Rattle.std.specs.Prelude.{◌≡◌, ◌≢◌, not, [], codes, IfOk, IsSome, IsTrue, None, Some};
 ghost use Rattle.std.specs.List.{list_all};
 ghost use Rattle.portal_base.specs.Faults.{noted_if};
 ghost use Rattle.packages.specs.Placing.{placed_now};
+ghost use Rattle.packages.specs.Told.{message_unless};
 ghost use Rattle.portal_calls.specs.Answer.{AcceptsOnly, ruled};
 ghost use Rattle.portal_calls.specs.declared.answer.Answer.{Answer};
 ghost use Rattle.table_schema.specs.Values.{is_map};
 ghost use Rattle.visibility.specs.Seen.{seen_by};
 ghost use Rattle.datastore_answers.specs.Answered.{AcceptsSuch, address_of, answer_with, table_answer_with};
 ghost use Rattle.datastore_answers.specs.Answers.{answer_to_datastore_info, answer_to_datastore_upsert, putting};
-ghost use Rattle.datastore_answers.specs.Answers.{upserting_as};
+ghost use Rattle.datastore_answers.specs.Answers.{answer_to_datastore_delete, editing, removing, upserting_as};
 ghost use Rattle.datastore_answers.specs.Changed.{TableChange};
 ghost use Rattle.datastore_answers.specs.Changed as change;
 ghost use Rattle.datastore_answers.specs.Linked.{AreLinked, put_at};
 ghost use Rattle.datastore_answers.specs.Plan.{IsPlanned, IsPutReady, change_of};
 ghost use Rattle.datastore_answers.specs.Tables.{Stored, table_at, tables_in, tables_of, tables_seen};
-ghost use Rattle.datastore_answers.specs.Told.{put_fault, records_in, told_in};
+ghost use Rattle.datastore_answers.specs.Told.{put_fault, records_in, told_in, told_of_removal};
 ghost use Rattle.datastore_answers.specs.declared.resource_table.ResourceTable.{ResourceTable};
 
 use crate::answer::TableAnswer;
 use crate::copies::copies_of;
-use crate::dictionary::{info_json, upsert_json};
+use crate::dictionary::{gone_json, info_json, upsert_json};
 use crate::lookup::{address_of, id_of, resource_at};
 use crate::plan::TablePlan;
 use crate::tables::Tables;
@@ -237,6 +238,110 @@ pub fn datastore_upsert(
             let key = table.table.schema().key().as_slice();
             let method = method_in(alloc, key, &asked.call.request.body)?;
             let answer = upsert_on(alloc, asked, &placed, tables, method)?;
+            Ok(TableAnswer::Answered(answer))
+        }
+        None => Ok(TableAnswer::NoTable),
+    }
+}
+
+// ---- tables that go
+
+/// The message of a table that another refers to.
+fn referred_told(referred: bool) -> Option<Text>
+    ensures { result ≡ message_unless (not referred) (codes "A table of another resource refers to it") }
+{
+    if referred {
+        Some(Text::from_static("A table of another resource refers to it"))
+    } else {
+        None
+    }
+}
+
+/// What is told of one key.
+fn told_alone(alloc: Global, key: &'static str, told: Option<Text>) -> Result<Faults, AllocError>
+    ensures { IfOk result (λ faults. faults ≡ noted_if key.now told []) }
+{
+    let mut faults = Faults::new(alloc);
+    match told {
+        Some(message) => {
+            faults.note(Text::from_static(key), message)?;
+            Ok(faults)
+        }
+        None => Ok(faults),
+    }
+}
+
+/// What is told of the table of the resource, which goes.
+fn told_of_removal(
+    alloc: Global,
+    placed: &PlacedResource<'_>,
+    tables: &Tables,
+) -> Result<Faults, AllocError>
+    ensures { IfOk result (λ faults. faults
+        ≡ told_of_removal (tables_in placed.now.dataset.now.id (tables_of tables.now))
+        placed.now.resource.now.number) }
+{
+    let referred = tables.is_referred(&placed.dataset.id, placed.resource.number);
+    told_alone(alloc, "resource_id", referred_told(referred))
+}
+
+/// The answer to a `datastore_delete` without filters on the table of the resource.
+fn removed_at(
+    alloc: Global,
+    quota: Quota,
+    placed: &PlacedResource<'_>,
+    tables: &Tables,
+) -> Result<Answer<TablePlan>, AllocError>
+    ensures answer { IfOk result (λ answer. answer_with change_of answer
+        ≡ ruled quota (told_of_removal (tables_in placed.now.dataset.now.id (tables_of tables.now))
+        placed.now.resource.now.number) (removing (placed_now placed.now))) }
+    ensures ready { IfOk result (λ answer. AcceptsOnly (λ plan. IsPlanned plan tables.now) answer) }
+{
+    if let Some(denial) = denial_by(quota, told_of_removal(alloc, placed, tables)?)? {
+        return Ok(Answer::Refused(denial));
+    }
+    let shown = gone_json(alloc, id_of(alloc, placed)?)?;
+    let address = address_of(alloc, placed)?;
+    Ok(Answer::Accepted(shown, TablePlan::Remove(address)))
+}
+
+/// The same for who may edit its dataset.
+fn removed_on(
+    alloc: Global,
+    asked: &Asked<'_>,
+    placed: &PlacedResource<'_>,
+    tables: &Tables,
+) -> Result<Answer<TablePlan>, AllocError>
+    ensures answer { IfOk result (λ answer. answer_with change_of answer
+        ≡ editing (seen_by asked.now) (placed_now placed.now) (ruled asked.now.quota
+        (told_of_removal (tables_in placed.now.dataset.now.id (tables_of tables.now))
+        placed.now.resource.now.number) (removing (placed_now placed.now)))) }
+    ensures ready { IfOk result (λ answer. AcceptsOnly (λ plan. IsPlanned plan tables.now) answer) }
+{
+    if !asked.may_edit(placed.dataset) {
+        return Ok(Answer::Refused(Denial::NotAuthorized(Right::EditDataset)));
+    }
+    removed_at(alloc, asked.quota, placed, tables)
+}
+
+/// The answer to a `datastore_delete` without filters.
+pub fn datastore_delete(
+    alloc: Global,
+    asked: &Asked<'_>,
+    tables: &Tables,
+) -> Result<TableAnswer<TablePlan>, AllocError>
+    ensures answer { IfOk result (λ answer. table_answer_with change_of answer
+        ≡ answer_to_datastore_delete (seen_by asked.now)
+        (tables_seen (seen_by asked.now).datasets (tables_of tables.now))) }
+    ensures ready { IfOk result (λ answer. AcceptsSuch (λ plan. IsPlanned plan tables.now) answer) }
+{
+    let found = match resource_at(alloc, asked, "resource_id")? {
+        Ok(placed) => placed,
+        Err(denial) => return Ok(TableAnswer::Answered(Answer::Refused(denial))),
+    };
+    match tables.get(&found.dataset.id, found.resource.number) {
+        Some(_table) => {
+            let answer = removed_on(alloc, asked, &found, tables)?;
             Ok(TableAnswer::Answered(answer))
         }
         None => Ok(TableAnswer::NoTable),

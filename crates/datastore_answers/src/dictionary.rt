@@ -4,7 +4,8 @@ ghost use Rattle.portal_base.specs.declared.json_value.Json.{Json};
 ghost use Rattle.portal_base.specs.declared.json_value.Json as json;
 ghost use Rattle.table_schema.specs.Written.{name_at, names_value};
 ghost use Rattle.datastore_answers.specs.Dictionary.{type_name, field_dictionary, fields_shown, key_shown};
-ghost use Rattle.datastore_answers.specs.Dictionary.{info_dictionary, meta_dictionary, method_name, upsert_dictionary};
+ghost use Rattle.datastore_answers.specs.Dictionary.{gone_dictionary, info_dictionary, meta_dictionary, method_name};
+ghost use Rattle.datastore_answers.specs.Dictionary.{upsert_dictionary};
 
 use crate::resource_table::ResourceTable;
 use datastore_table::Method;
@@ -140,4 +141,11 @@ pub(crate) fn upsert_json(
             ("resource_id", Value::Json(Json::Text(resource))),
         ],
     )
+}
+
+/// A table that is gone, of the resource of that id.
+pub(crate) fn gone_json(alloc: Global, resource: Text) -> Result<Json, AllocError>
+    ensures { IfOk result (λ json. json ≡ gone_dictionary resource) }
+{
+    Json::dictionary(alloc, [("resource_id", Value::Json(Json::Text(resource)))])
 }

@@ -11,6 +11,7 @@ pub mod laws;
 mod lookup;
 mod place;
 pub mod plan;
+mod removals;
 pub mod resource_table;
 pub mod tables;
 mod told;

@@ -1,9 +1,12 @@
 use Rattle.datastore_answers.specs.Fit.{IsFitTable}
-use Rattle.datastore_answers.proofs.FitLemmas.{info_only, upsert_fit}
+use Rattle.datastore_answers.proofs.FitLemmas.{delete_fit, info_only, upsert_fit}
 use Rattle.datastore_answers.proofs.laws.what_is_accepted_is_fit.Goals as goal
 
 pub returns-clause-datastore_upsert : goal.returns-clause-datastore_upsert
 returns-clause-datastore_upsert c = upsert_fit
+
+pub returns-clause-datastore_delete : goal.returns-clause-datastore_delete
+returns-clause-datastore_delete c = delete_fit
 
 pub returns-clause-datastore_info : goal.returns-clause-datastore_info
 returns-clause-datastore_info c = λ seen tables. info_only (IsFitTable seen tables) seen tables
