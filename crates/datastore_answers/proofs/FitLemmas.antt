@@ -119,7 +119,8 @@ delete_fit seen tables =
     (λ none. record {
       own =
           own-of seen tables placed t
-          (Contains-IsIn placed.dataset seen.datasets (resource-seen (codes "resource_id") seen placed named)) may there;
+          (Contains-IsIn placed.dataset seen.datasets (resource-seen (codes "resource_id") seen placed named)) may
+          there;
       unreferred =
           unreferred (is_referred placed.resource.number (tables_beside placed tables))
           (codes "A table of another resource refers to it")

@@ -1,6 +1,5 @@
 -- What refers to a table among those of its dataset.
 use Rattle.std.proofs.Common.{◌≡◌, Bool, true, false, ◌&&◌, ◌||◌, cond, List, [], ◌∷◌, ℕ, map, refl, ap}
-use Rattle.std.specs.Prelude.{filter}
 use Rattle.std.specs.List.{list_any}
 use Rattle.std.specs.Str.{bytes_eq}
 use Rattle.datastore_answers.specs.Spared.{is_referred, refers_to}
