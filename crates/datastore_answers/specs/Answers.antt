@@ -1,6 +1,6 @@
 -- The answers to calls on the tables of resources: functions of the call and of what its caller sees. Names, rights
 -- and results are those of CKAN 2.10's DataStore; rules and messages are the portal's own.
-use Rattle.std.specs.Prelude.{ℕ, List, [], codes, Ok, Err}
+use Rattle.std.specs.Prelude.{ℕ, List, [], codes, Ok, Err, length}
 use Rattle.portal_base.specs.declared.json_value.Json.{Json}
 use Rattle.packages.specs.Named.{Placed, resource_address}
 use Rattle.portal_calls.specs.Answer.{needing, ruled}
@@ -14,8 +14,9 @@ use Rattle.datastore_table.specs.declared.method.Method.TheVariants as method
 use Rattle.datastore_answers.specs.Answered.{address_of, answer_on}
 use Rattle.datastore_answers.specs.Changed.{TableChange}
 use Rattle.datastore_answers.specs.Changed as change
-use Rattle.datastore_answers.specs.Dictionary.{gone_dictionary, info_dictionary, upsert_dictionary}
-use Rattle.datastore_answers.specs.Told.{Told, method_in, records_in, told_of_put, told_of_removal}
+use Rattle.datastore_answers.specs.Dictionary.{cut_dictionary, gone_dictionary, info_dictionary, upsert_dictionary}
+use Rattle.datastore_answers.specs.Told.{Told, method_in, records_in, told_of_cut, told_of_put}
+use Rattle.datastore_answers.specs.Told.{told_of_removal}
 use Rattle.datastore_answers.specs.declared.answer.TableAnswer.{TableAnswer}
 use Rattle.datastore_answers.specs.declared.resource_table.ResourceTable.{ResourceTable}
 
@@ -75,3 +76,19 @@ deleting seen placed beside t =
 -- without filters, where the table goes
 abbrev pub answer_to_datastore_delete : Seen → List ResourceTable → TableAnswer TableChange
 answer_to_datastore_delete seen tables = answer_on (codes "resource_id") seen tables (deleting seen)
+
+-- ---- rows that go
+
+-- rows of these `_id`s, gone
+abbrev pub cutting : Placed → List ℕ → Answer TableChange
+cutting placed ids = Accepted (cut_dictionary (length ids) (id_of placed)) (change.Cut (address_of placed) ids)
+
+abbrev pub deleting_rows : Seen → Told (List ℕ) → Placed → List ResourceTable → ResourceTable → Answer TableChange
+deleting_rows seen found placed beside t =
+    editing seen placed
+    (ruled seen.quota (told_of_cut beside placed.resource.number t found) (cutting placed (read_or [] found)))
+
+-- With filters the rows go that these found, or what is told of them is told.
+abbrev pub answer_to_datastore_delete_rows : Seen → List ResourceTable → Told (List ℕ) → TableAnswer TableChange
+answer_to_datastore_delete_rows seen tables found =
+    answer_on (codes "resource_id") seen tables (deleting_rows seen found)

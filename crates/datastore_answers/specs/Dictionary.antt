@@ -70,3 +70,10 @@ upsert_dictionary resource how records = json.Map (
 -- a table that is gone, of the resource of that id
 abbrev pub gone_dictionary : List ℕ → Json
 gone_dictionary resource = json.Map ((codes "resource_id", json.Text resource) ∷ [])
+
+-- so many rows that are gone of the table of the resource of that id
+abbrev pub cut_dictionary : ℕ → List ℕ → Json
+cut_dictionary count resource = json.Map (
+    (codes "deleted", json.Whole (pos count))
+    ∷ (codes "resource_id", json.Text resource)
+    ∷ [])

@@ -2,7 +2,7 @@
 use Rattle.std.specs.Prelude.{◌≡◌, ℕ, List, IsTrue, Some, Ok, ⊤}
 use Rattle.portal_base.specs.declared.json_value.Json.{Json}
 use Rattle.portal_base.specs.Ordered.{IsAscending, found}
-use Rattle.datastore_table.specs.Batch.{BatchValue, IsReady, cut_checked, worked_on}
+use Rattle.datastore_table.specs.Batch.{BatchValue, IsReady, RemovalValue, cut_checked, removed_keys, worked_on}
 use Rattle.datastore_table.specs.Put.{put_records}
 use Rattle.datastore_table.specs.Rows.{row_cmp}
 use Rattle.datastore_table.specs.declared.method.Method.{Method}
@@ -43,6 +43,12 @@ pub record IsCutReady (address : Address) (ids : List ℕ) (stored : Stored) : T
   pub table : ResourceTable
   pub stands : found (at_address address) stored.tables ≡ Some table
   pub spared : cut_checked ids table.table ≡ Ok tt
+
+-- A removal that was prepared there, as far as its table alone tells.
+pub record IsRemovalAt (address : Address) (ids : List ℕ) (removal : RemovalValue) (stored : Stored) : Type 0 where
+  pub cut : IsCutReady address ids stored
+  pub rows : removal.ids ≡ ids
+  pub keys : removal.keys ≡ removed_keys cut.table.table.schema.key ids cut.table.table.rows
 
 -- The plan can be made, but for room for one more table.
 abbrev pub IsPlanned : TablePlan → Stored → Type 0

@@ -17,7 +17,7 @@ use Rattle.datastore_table.specs.declared.method.Method.{Method}
 use Rattle.datastore_table.specs.declared.method.Method.TheVariants as method
 use Rattle.packages.specs.Told.{message_unless}
 use Rattle.datastore_answers.specs.Linked.{put_among}
-use Rattle.datastore_answers.specs.Spared.{is_referred}
+use Rattle.datastore_answers.specs.Spared.{cut_among, is_referred}
 use Rattle.datastore_answers.specs.declared.resource_table.ResourceTable.{ResourceTable}
 
 -- ---- faults of a table
@@ -121,3 +121,17 @@ abbrev pub told_of_removal : List ResourceTable → ℕ → List Fault
 told_of_removal beside number =
     noted_if (codes "resource_id")
     (message_unless (not (is_referred number beside)) (codes "A table of another resource refers to it")) []
+
+-- ---- rows that go
+
+abbrev pub cut_fault : Result (Unit {0}) TableFault → Option (List ℕ)
+cut_fault (Ok u) = None
+cut_fault (Err why) = Some (fault_text why)
+
+-- what is told of rows of the table that go, which filters found
+abbrev pub cut_told : List ResourceTable → ℕ → ResourceTable → Told (List ℕ) → Option (List ℕ)
+cut_told beside number t (Err message) = Some message
+cut_told beside number t (Ok ids) = cut_fault (cut_among beside number ids t)
+
+abbrev pub told_of_cut : List ResourceTable → ℕ → ResourceTable → Told (List ℕ) → List Fault
+told_of_cut beside number t found = noted_if (codes "filters") (cut_told beside number t found) []
