@@ -14,23 +14,24 @@ ghost use Rattle.table_schema.specs.Values.{is_map};
 ghost use Rattle.visibility.specs.Seen.{seen_by};
 ghost use Rattle.datastore_answers.specs.Answered.{AcceptsSuch, address_of, answer_with, table_answer_with};
 ghost use Rattle.datastore_answers.specs.Answers.{answer_to_datastore_info, answer_to_datastore_upsert, putting};
-ghost use Rattle.datastore_answers.specs.Answers.{answer_to_datastore_delete, editing, removing, upserting_as};
+ghost use Rattle.datastore_answers.specs.Answers.{answer_to_datastore_delete, cutting, editing, removing, upserting_as};
 ghost use Rattle.datastore_answers.specs.Changed.{TableChange};
 ghost use Rattle.datastore_answers.specs.Changed as change;
 ghost use Rattle.datastore_answers.specs.Linked.{AreLinked, put_at};
-ghost use Rattle.datastore_answers.specs.Plan.{IsPlanned, IsPutReady, change_of};
+ghost use Rattle.datastore_answers.specs.Plan.{IsCutReady, IsPlanned, IsPutReady, change_of};
+ghost use Rattle.datastore_answers.specs.Spared.{cut_at};
 ghost use Rattle.datastore_answers.specs.Tables.{Stored, table_at, tables_in, tables_of, tables_seen};
-ghost use Rattle.datastore_answers.specs.Told.{put_fault, records_in, told_in, told_of_removal};
+ghost use Rattle.datastore_answers.specs.Told.{cut_fault, put_fault, records_in, told_in, told_of_removal};
 ghost use Rattle.datastore_answers.specs.declared.resource_table.ResourceTable.{ResourceTable};
 
 use crate::answer::TableAnswer;
 use crate::copies::copies_of;
-use crate::dictionary::{gone_json, info_json, upsert_json};
+use crate::dictionary::{cut_json, gone_json, info_json, upsert_json};
 use crate::lookup::{address_of, id_of, resource_at};
 use crate::plan::TablePlan;
 use crate::tables::Tables;
 use crate::told::{fault_text, method_in, records_in};
-use datastore_table::{Batch, Method, TableFault};
+use datastore_table::{Batch, Method, Removal, TableFault};
 use packages::named::PlacedResource;
 use portal_base::faults::Faults;
 use portal_base::json_value::Json;
@@ -346,4 +347,65 @@ pub fn datastore_delete(
         }
         None => Ok(TableAnswer::NoTable),
     }
+}
+
+// ---- rows that go
+
+/// A removal of rows from the table of the resource, or what is told of it.
+fn tried_removal(
+    alloc: Global,
+    placed: &PlacedResource<'_>,
+    tables: &mut Tables,
+    ids: &Seq<u64>,
+) -> Result<Result<Removal, Text>, AllocError>
+    requires stands { IsSome (table_at placed.now.resource.now.number
+        (tables_in placed.now.dataset.now.id (tables_of tables.old))) }
+    ensures same { tables_of tables.new ≡ tables_of tables.old }
+    ensures told { IfOk result (λ tried. told_in tried
+        ≡ cut_fault (cut_at (tables_in placed.now.dataset.now.id (tables_of tables.old))
+            placed.now.resource.now.number ids.now)) }
+    ensures ids { IfOk result (λ tried. IfOk tried (λ removal. removal.ids ≡ ids.now)) }
+    ensures ready { IfOk result (λ tried. IfOk tried (λ removal.
+        IsCutReady (address_of (placed_now placed.now)) removal.ids tables.new)) }
+{
+    match tables.removal(&placed.dataset.id, placed.resource.number, ids) {
+        Ok(removal) => Ok(Ok(removal)),
+        Err(TableFault::OutOfMemory) => Err(AllocError),
+        Err(fault) => Ok(Err(fault_text(alloc, &fault)?)),
+    }
+}
+
+/// The answer to rows that go from the table of a resource that the caller may edit.
+fn rows_removed_at(
+    alloc: Global,
+    quota: Quota,
+    placed: &PlacedResource<'_>,
+    tables: &mut Tables,
+    ids: &Seq<u64>,
+) -> Result<Answer<TablePlan>, AllocError>
+    requires stands { IsSome (table_at placed.now.resource.now.number
+        (tables_in placed.now.dataset.now.id (tables_of tables.old))) }
+    ensures same { tables_of tables.new ≡ tables_of tables.old }
+    ensures answer { IfOk result (λ answer. answer_with change_of answer
+        ≡ ruled quota (noted_if (codes "filters")
+            (cut_fault (cut_at (tables_in placed.now.dataset.now.id (tables_of tables.old))
+            placed.now.resource.now.number ids.now)) [])
+            (cutting (placed_now placed.now) ids.now)) }
+    ensures ready { IfOk result (λ answer. AcceptsOnly (λ plan. IsPlanned plan tables.new) answer) }
+{
+    let mut faults = Faults::new(alloc);
+    let removal = match tried_removal(alloc, placed, tables, ids)? {
+        Ok(removal) => removal,
+        Err(message) => {
+            faults.note(Text::from_static("filters"), message)?;
+            return refused(quota, faults);
+        }
+    };
+    let denial = denial_by(quota, faults)?;
+    if let Some(denial) = denial {
+        return Ok(Answer::Refused(denial));
+    }
+    let shown = cut_json(alloc, ids.len(), id_of(alloc, placed)?)?;
+    let address = address_of(alloc, placed)?;
+    Ok(Answer::Accepted(shown, TablePlan::Cut(address, removal)))
 }

@@ -4,7 +4,7 @@ ghost use Rattle.portal_base.specs.declared.json_value.Json.{Json};
 ghost use Rattle.portal_base.specs.declared.json_value.Json as json;
 ghost use Rattle.table_schema.specs.Written.{name_at, names_value};
 ghost use Rattle.datastore_answers.specs.Dictionary.{type_name, field_dictionary, fields_shown, key_shown};
-ghost use Rattle.datastore_answers.specs.Dictionary.{gone_dictionary, info_dictionary, meta_dictionary, method_name};
+ghost use Rattle.datastore_answers.specs.Dictionary.{cut_dictionary, gone_dictionary, info_dictionary, meta_dictionary, method_name};
 ghost use Rattle.datastore_answers.specs.Dictionary.{upsert_dictionary};
 
 use crate::resource_table::ResourceTable;
@@ -148,4 +148,17 @@ pub(crate) fn gone_json(alloc: Global, resource: Text) -> Result<Json, AllocErro
     ensures { IfOk result (λ json. json ≡ gone_dictionary resource) }
 {
     Json::dictionary(alloc, [("resource_id", Value::Json(Json::Text(resource)))])
+}
+
+/// So many rows that are gone of the table of the resource of that id.
+pub(crate) fn cut_json(alloc: Global, count: usize, resource: Text) -> Result<Json, AllocError>
+    ensures { IfOk result (λ json. json ≡ cut_dictionary count resource) }
+{
+    Json::dictionary(
+        alloc,
+        [
+            ("deleted", Value::Whole(count)),
+            ("resource_id", Value::Json(Json::Text(resource))),
+        ],
+    )
 }

@@ -145,8 +145,8 @@ impl Tables {
         ensures spared { IfOk result (λ _. cut_fault
             (cut_at (tables_in dataset.now (tables_of self.old)) number ids.now) ≡ None) }
         ensures ids { IfOk result (λ removal. removal.ids ≡ ids.now) }
-        ensures ready { IfOk result (λ _. IsCutReady (record { dataset = dataset.now; number = number })
-            ids.now self.new) }
+        ensures ready { IfOk result (λ removal. IsCutReady (record { dataset = dataset.now; number = number })
+            removal.ids self.new) }
         ensures fault { IfErr result (λ fault. (fault ≡ OutOfMemory)
             ⊎ (cut_at (tables_in dataset.now (tables_of self.old)) number ids.now ≡ Err fault)) }
     {

@@ -1,5 +1,6 @@
-use Rattle.std.proofs.Common.{◌≡◌, ◌∙◌, ap, sym}
+use Rattle.std.proofs.Common.{◌≡◌, ◌∙◌, ap, sym, subst, List, ℕ}
 use Rattle.datastore_table.proofs.WorkLemmas.{err_of, through}
+use Rattle.datastore_answers.specs.Plan.{IsCutReady}
 use Rattle.datastore_answers.specs.Spared.{cut_at, spared_by_all}
 use Rattle.datastore_answers.specs.Tables.{Stored, tables_in, tables_of}
 use Rattle.datastore_answers.specs.Told.{cut_fault}
@@ -46,3 +47,9 @@ returns-clause-spared c =
     ∙ ap (λ ts. spared_by_all keys c.args.number (tables_in c.args.dataset.now ts))
     (sym (c.as_slice.ensures.value ∙ ap (λ (s : Stored). s.tables) c.self.view_is))
     ∙ c.in_ok-check_tables.ensures.ok)
+
+pub returns-clause-ready : goal.returns-clause-ready
+returns-clause-ready c =
+    let address : Address = record { dataset = c.args.dataset.now; number = c.args.number } in
+    subst (λ (ids : List ℕ). IsCutReady address ids c.removal_at.new.self)
+    (sym c.in_ok-removal.ensures.removal.rows) c.in_ok-removal.ensures.removal.cut
