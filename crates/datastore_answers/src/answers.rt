@@ -14,7 +14,8 @@ ghost use Rattle.table_schema.specs.Values.{is_map};
 ghost use Rattle.visibility.specs.Seen.{seen_by};
 ghost use Rattle.datastore_answers.specs.Answered.{AcceptsSuch, address_of, answer_with, table_answer_with};
 ghost use Rattle.datastore_answers.specs.Answers.{answer_to_datastore_info, answer_to_datastore_upsert, putting};
-ghost use Rattle.datastore_answers.specs.Answers.{answer_to_datastore_delete, cutting, editing, removing, upserting_as};
+ghost use Rattle.datastore_answers.specs.Answers.{answer_to_datastore_delete, cutting, deleting_rows, editing};
+ghost use Rattle.datastore_answers.specs.Answers.{answer_to_datastore_delete_rows, removing, upserting_as};
 ghost use Rattle.datastore_answers.specs.Changed.{TableChange};
 ghost use Rattle.datastore_answers.specs.Changed as change;
 ghost use Rattle.datastore_answers.specs.Linked.{AreLinked, put_at};
@@ -408,4 +409,62 @@ fn rows_removed_at(
     let shown = cut_json(alloc, ids.len(), id_of(alloc, placed)?)?;
     let address = address_of(alloc, placed)?;
     Ok(Answer::Accepted(shown, TablePlan::Cut(address, removal)))
+}
+
+/// The same for who may edit its dataset, where the filters of the body found these rows, or this is told of them.
+fn rows_removed_on(
+    alloc: Global,
+    asked: &Asked<'_>,
+    placed: &PlacedResource<'_>,
+    tables: &mut Tables,
+    found: Result<Seq<u64>, Text>,
+) -> Result<Answer<TablePlan>, AllocError>
+    requires stands { IsSome (table_at placed.now.resource.now.number
+        (tables_in placed.now.dataset.now.id (tables_of tables.old))) }
+    ensures same { tables_of tables.new ≡ tables_of tables.old }
+    ensures answer { IfOk result (λ answer. (t : ResourceTable) →
+        table_at placed.now.resource.now.number (tables_in placed.now.dataset.now.id (tables_of tables.old)) ≡ Some t
+        → answer_with change_of answer
+        ≡ deleting_rows (seen_by asked.now) found (placed_now placed.now)
+            (tables_in placed.now.dataset.now.id (tables_of tables.old)) t) }
+    ensures ready { IfOk result (λ answer. AcceptsOnly (λ plan. IsPlanned plan tables.new) answer) }
+{
+    if !asked.may_edit(placed.dataset) {
+        return Ok(Answer::Refused(Denial::NotAuthorized(Right::EditDataset)));
+    }
+    let ids = match found {
+        Ok(ids) => ids,
+        Err(message) => {
+            let mut faults = Faults::new(alloc);
+            faults.note(Text::from_static("filters"), message)?;
+            return refused(asked.quota, faults);
+        }
+    };
+    rows_removed_at(alloc, asked.quota, placed, tables, &ids)
+}
+
+/// The answer to a `datastore_delete` with filters, which found these rows, or of which this is told.
+pub fn datastore_delete_rows(
+    alloc: Global,
+    asked: &Asked<'_>,
+    tables: &mut Tables,
+    found: Result<Seq<u64>, Text>,
+) -> Result<TableAnswer<TablePlan>, AllocError>
+    ensures same { tables_of tables.new ≡ tables_of tables.old }
+    ensures answer { IfOk result (λ answer. table_answer_with change_of answer
+        ≡ answer_to_datastore_delete_rows (seen_by asked.now)
+        (tables_seen (seen_by asked.now).datasets (tables_of tables.old)) found) }
+    ensures ready { IfOk result (λ answer. AcceptsSuch (λ plan. IsPlanned plan tables.new) answer) }
+{
+    let named = match resource_at(alloc, asked, "resource_id")? {
+        Ok(placed) => placed,
+        Err(denial) => return Ok(TableAnswer::Answered(Answer::Refused(denial))),
+    };
+    match tables.get(&named.dataset.id, named.resource.number) {
+        Some(_table) => {
+            let answer = rows_removed_on(alloc, asked, &named, tables, found)?;
+            Ok(TableAnswer::Answered(answer))
+        }
+        None => Ok(TableAnswer::NoTable),
+    }
 }
