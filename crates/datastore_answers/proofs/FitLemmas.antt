@@ -20,13 +20,14 @@ use Rattle.datastore_answers.specs.Answered.{AcceptsSuch, address_of, answer_amo
 use Rattle.datastore_answers.specs.Answered.{tables_beside}
 use Rattle.datastore_answers.specs.Answers.{answer_to_datastore_delete, answer_to_datastore_info}
 use Rattle.datastore_answers.specs.Answers.{answer_to_datastore_upsert, deleting, read_or, upserting}
+use Rattle.datastore_answers.specs.Answers.{answer_to_datastore_delete_rows, deleting_rows}
 use Rattle.datastore_answers.specs.Changed.{TableChange}
 use Rattle.datastore_answers.specs.Dictionary.{info_dictionary}
 use Rattle.datastore_answers.specs.Fit.{IsFitTable, IsOwn, IsTaken}
 use Rattle.datastore_answers.specs.Spared.{is_referred}
 use Rattle.datastore_answers.specs.Tables.{table_at}
 use Rattle.datastore_answers.specs.Told.{Told, method_in, records_in, records_told, told_in, told_of_put}
-use Rattle.datastore_answers.specs.Told.{told_of_removal}
+use Rattle.datastore_answers.specs.Told.{told_of_cut, told_of_removal}
 use Rattle.datastore_answers.specs.declared.resource_table.ResourceTable.{ResourceTable}
 use Rattle.datastore_answers.proofs.SeenLemmas.{resource-seen}
 
@@ -128,3 +129,14 @@ delete_fit seen tables =
           (not (is_referred placed.resource.number (tables_beside placed tables)))
           (codes "A table of another resource refers to it")) [] none).1;
     })))
+
+pub delete_rows_fit : (seen : Seen) (tables : List ResourceTable) (found : Told (List ℕ))
+    → AcceptsSuch (IsFitTable seen tables) (answer_to_datastore_delete_rows seen tables found)
+delete_rows_fit seen tables found =
+    on-such (IsFitTable seen tables) (codes "resource_id") seen tables (deleting_rows seen found)
+    (λ placed t named there. AcceptsOnly-needing (IsFitTable seen tables)
+    (may_edit_in seen.people seen.call.caller placed.dataset) EditDataset _
+    (λ may. AcceptsOnly-ruled (IsFitTable seen tables) seen.quota
+    (told_of_cut (tables_beside placed tables) placed.resource.number t found) _
+    (λ none. own-of seen tables placed t
+    (Contains-IsIn placed.dataset seen.datasets (resource-seen (codes "resource_id") seen placed named)) may there)))

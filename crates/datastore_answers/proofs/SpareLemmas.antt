@@ -33,6 +33,7 @@ any_in dataset number (t ∷ ts) = by (bytes_eq t.address.dataset dataset) (any_
         ≡ is_referred number (cond b (bare t ∷ tables_in dataset (map bare ts)) (tables_in dataset (map bare ts)))
     by true rest = ap (λ r. refers_to number t || r) rest
     by false rest = rest
+
 -- ---- rows that go
 
 -- The memory that tables hold ready changes nothing.

@@ -364,7 +364,7 @@ fn tried_removal(
     ensures same { tables_of tables.new ≡ tables_of tables.old }
     ensures told { IfOk result (λ tried. told_in tried
         ≡ cut_fault (cut_at (tables_in placed.now.dataset.now.id (tables_of tables.old))
-            placed.now.resource.now.number ids.now)) }
+        placed.now.resource.now.number ids.now)) }
     ensures ids { IfOk result (λ tried. IfOk tried (λ removal. removal.ids ≡ ids.now)) }
     ensures ready { IfOk result (λ tried. IfOk tried (λ removal.
         IsCutReady (address_of (placed_now placed.now)) removal.ids tables.new)) }
@@ -389,9 +389,9 @@ fn rows_removed_at(
     ensures same { tables_of tables.new ≡ tables_of tables.old }
     ensures answer { IfOk result (λ answer. answer_with change_of answer
         ≡ ruled quota (noted_if (codes "filters")
-            (cut_fault (cut_at (tables_in placed.now.dataset.now.id (tables_of tables.old))
-            placed.now.resource.now.number ids.now)) [])
-            (cutting (placed_now placed.now) ids.now)) }
+        (cut_fault (cut_at (tables_in placed.now.dataset.now.id (tables_of tables.old))
+        placed.now.resource.now.number ids.now)) [])
+        (cutting (placed_now placed.now) ids.now)) }
     ensures ready { IfOk result (λ answer. AcceptsOnly (λ plan. IsPlanned plan tables.new) answer) }
 {
     let mut faults = Faults::new(alloc);
@@ -426,7 +426,7 @@ fn rows_removed_on(
         table_at placed.now.resource.now.number (tables_in placed.now.dataset.now.id (tables_of tables.old)) ≡ Some t
         → answer_with change_of answer
         ≡ deleting_rows (seen_by asked.now) found (placed_now placed.now)
-            (tables_in placed.now.dataset.now.id (tables_of tables.old)) t) }
+        (tables_in placed.now.dataset.now.id (tables_of tables.old)) t) }
     ensures ready { IfOk result (λ answer. AcceptsOnly (λ plan. IsPlanned plan tables.new) answer) }
 {
     if !asked.may_edit(placed.dataset) {

@@ -94,11 +94,7 @@ fn check_key(
 }
 
 // The same by all its foreign keys, where it is the table of another resource.
-fn check_table(
-    table: &ResourceTable,
-    number: u32,
-    removal: &Removal,
-) -> Result<(), TableFault>
+fn check_table(table: &ResourceTable, number: u32, removal: &Removal) -> Result<(), TableFault>
     ensures ok { OnOk result (spared_by removal.now.keys number table.now ≡ Ok tt) }
     ensures err { IfErr result (λ fault. (fault ≡ OutOfMemory)
         ⊎ (spared_by removal.now.keys number table.now ≡ Err fault)) }

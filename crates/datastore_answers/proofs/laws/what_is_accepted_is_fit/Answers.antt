@@ -1,5 +1,5 @@
 use Rattle.datastore_answers.specs.Fit.{IsFitTable}
-use Rattle.datastore_answers.proofs.FitLemmas.{delete_fit, info_only, upsert_fit}
+use Rattle.datastore_answers.proofs.FitLemmas.{delete_fit, delete_rows_fit, info_only, upsert_fit}
 use Rattle.datastore_answers.proofs.laws.what_is_accepted_is_fit.Goals as goal
 
 pub returns-clause-datastore_upsert : goal.returns-clause-datastore_upsert
@@ -7,6 +7,9 @@ returns-clause-datastore_upsert c = upsert_fit
 
 pub returns-clause-datastore_delete : goal.returns-clause-datastore_delete
 returns-clause-datastore_delete c = delete_fit
+
+pub returns-clause-datastore_delete_rows : goal.returns-clause-datastore_delete_rows
+returns-clause-datastore_delete_rows c = delete_rows_fit
 
 pub returns-clause-datastore_info : goal.returns-clause-datastore_info
 returns-clause-datastore_info c = λ seen tables. info_only (IsFitTable seen tables) seen tables
