@@ -46,8 +46,8 @@ abbrev pub spared_by_all : List Row → ℕ → List ResourceTable → Result (U
 spared_by_all keys number [] = Ok tt
 spared_by_all keys number (u ∷ us) = spared_by keys number u >>> λ _. spared_by_all keys number us
 
--- Whether the rows of these `_id`s may go from the table of the resource of this number: by the references of the table
--- to itself, and then by those of the others.
+-- Whether the rows of these `_id`s may go from the table of the resource of this number: by the references of the
+-- table to itself, and then by those of the others.
 abbrev pub cut_among : List ResourceTable → ℕ → List ℕ → ResourceTable → Result (Unit {0}) TableFault
 cut_among beside number ids t =
     cut_checked ids t.table >>> λ _. spared_by_all (removed_keys t.table.schema.key ids t.table.rows) number beside

@@ -4,7 +4,8 @@ ghost use Rattle.portal_base.specs.declared.json_value.Json.{Json};
 ghost use Rattle.portal_base.specs.declared.json_value.Json as json;
 ghost use Rattle.table_schema.specs.Written.{name_at, names_value};
 ghost use Rattle.datastore_answers.specs.Dictionary.{type_name, field_dictionary, fields_shown, key_shown};
-ghost use Rattle.datastore_answers.specs.Dictionary.{cut_dictionary, gone_dictionary, info_dictionary, meta_dictionary, method_name};
+ghost use Rattle.datastore_answers.specs.Dictionary.{cut_dictionary, gone_dictionary, info_dictionary};
+ghost use Rattle.datastore_answers.specs.Dictionary.{meta_dictionary, method_name};
 ghost use Rattle.datastore_answers.specs.Dictionary.{upsert_dictionary};
 
 use crate::resource_table::ResourceTable;

@@ -20,7 +20,8 @@ returns-in_err-removal-clause-fault c =
     err_of c.from_residual.result c.in_err-removal.field-0.0
     (cut_at (tables_in c.args.dataset.now (tables_of c.args.self.now)) c.args.number c.args.ids.now)
     c.from_residual.ensures.1
-    (cut-refused address c.args.self.now.tables c.args.ids.now c.in_err-removal.field-0.0 c.in_err-removal.ensures.fault)
+    (cut-refused address c.args.self.now.tables c.args.ids.now c.in_err-removal.field-0.0
+    c.in_err-removal.ensures.fault)
 
 pub returns-in_err-check_tables-clause-fault : goal.returns-in_err-check_tables-clause-fault
 returns-in_err-check_tables-clause-fault c =
