@@ -327,7 +327,8 @@ readable_by l (Some t) None ts e before h = absurd (none-some ts h)
 readable_by l (Some None) (Some us) ts e before h =
     subst (AllByRecursion CanBeRead) (same_Some us ts h) (before us refl)
 readable_by l (Some (Some t)) (Some us) ts e before h =
-    subst (AllByRecursion CanBeRead) (same_Some (t ∷ us) ts h) (record { line = l; gives = line_form l (Some t) e }, before us refl)
+    subst (AllByRecursion CanBeRead) (same_Some (t ∷ us) ts h)
+    (record { line = l; gives = line_form l (Some t) e }, before us refl)
 
 readable : (ls : List (List ℕ)) (ts : List Triple) → triples_of ls ≡ Some ts → AllByRecursion CanBeRead ts
 readable [] ts e = subst (AllByRecursion CanBeRead) (same_Some [] ts (sym none_yet ∙ e)) tt

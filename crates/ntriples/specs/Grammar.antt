@@ -16,7 +16,7 @@ use Rattle.ntriples.specs.Characters.{is_digit, is_letter, is_pn_chars_u, is_pn_
 abbrev pub is_blank : ℕ → Bool
 is_blank c = (c == 32) || (c == 9)
 
--- HEX
+-- HEX ::= [0-9] | [A-F] | [a-f]
 abbrev pub is_hex : ℕ → Bool
 is_hex c = nat_lt (digit_value c) 16
 
@@ -182,6 +182,7 @@ abbrev pub AreBlanks : List ℕ → Type 0
 AreBlanks text = list_all is_blank text ≡ true
 
 -- triple ::= subject predicate object '.'
+-- predicate ::= IRIREF
 -- Spaces and tabs may stand between. What is behind the triple is on the same line.
 pub record IsTriple (text behind : List ℕ) (t : Triple) : Type 0 where
   pub subject : List ℕ
