@@ -2,6 +2,7 @@
 ghost use Rattle.std.specs.Prelude.{◌≡◌, [], IfOk, IfErr, IfNone, IsTrue, OnOk};
 ghost use Rattle.std.specs.Option.{option_copied};
 ghost use Rattle.packages.specs.Body.{told_of, named, emptied, start_of, filled, built_of, Tells};
+ghost use Rattle.packages.specs.declared.build.BuildFault.TheVariants.{Fields};
 
 use crate::package::{LONGEST_NOTES, LONGEST_TEXT, LONGEST_TITLE, Package};
 use crate::resource_list::{replace_resources, told_of_resources};
@@ -56,10 +57,11 @@ pub fn build(
     Ok(built(alloc, body, old, whole)?)
 }
 
-/// Refuses a body of which something is told.
+/// Refuses a body of which something is told. It takes no memory.
 pub fn unless_told(faults: Faults) -> Result<(), BuildFault>
     ensures faultless { OnOk result (faults ≡ []) }
     ensures told { IfErr result (Tells faults) }
+    ensures fields { IfErr result (λ fault. fault ≡ Fields faults) }
 {
     if faults.is_empty() {
         Ok(())

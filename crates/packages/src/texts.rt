@@ -1,5 +1,5 @@
 //! The keys of a dataset's body that have one value: what they say, and what is told of them.
-ghost use Rattle.std.specs.Prelude.{◌≡◌, IfOk, OnOk};
+ghost use Rattle.std.specs.Prelude.{◌≡◌, IfOk, OnErr, OnOk};
 ghost use Rattle.std.specs.Option.{option_copied};
 ghost use Rattle.packages.specs.Texts.{text_given, text_or, title_or, change_told, name_told, name_rules};
 ghost use Rattle.packages.specs.Texts.{missing_told, told_of_name, organization_rules, told_of_organization};
@@ -37,14 +37,15 @@ pub fn text_or(alloc: Global, kept: &Text, body: &Json, key: &str) -> Result<Tex
     }
 }
 
-/// Puts the text that a key gives in place of this one.
+/// Puts the text that a key gives in place of this one. For want of memory nothing changes.
 pub fn replace_text(
     alloc: Global,
     text: &mut Text,
     body: &Json,
     key: &str,
 ) -> Result<(), AllocError>
-    ensures { OnOk result (text.new ≡ text_or text.old key.now body.now) }
+    ensures ok { OnOk result (text.new ≡ text_or text.old key.now body.now) }
+    ensures err { OnErr result (text.new ≡ text.old) }
 {
     if let Some(given) = text_given(body, key) {
         *text = given.try_clone(alloc)?;
@@ -52,14 +53,16 @@ pub fn replace_text(
     Ok(())
 }
 
-/// Puts the title that a body gives in place of this one: the name, where it is empty.
+/// Puts the title that a body gives in place of this one: the name, where it is empty. For want of memory nothing
+/// changes.
 pub fn replace_title(
     alloc: Global,
     title: &mut Text,
     name: &Text,
     body: &Json,
 ) -> Result<(), AllocError>
-    ensures { OnOk result (title.new ≡ title_or title.old name.now body.now) }
+    ensures ok { OnOk result (title.new ≡ title_or title.old name.now body.now) }
+    ensures err { OnErr result (title.new ≡ title.old) }
 {
     match text_given(body, "title") {
         Some(given) if given.is_empty() => *title = name.try_clone(alloc)?,
