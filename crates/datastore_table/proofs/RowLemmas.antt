@@ -75,7 +75,7 @@ has_like-at id z a (w ∷ ws) found at = by (λ f. has_like-at id z a ws f at) (
         or_true true = refl
         or_true false = refl
 
-unlike-at : (id : ℕ) (z : Row) (ws : List Row) → find (has_id id) ws ≡ None → has_id id z ≡ true
+pub unlike-at : (id : ℕ) (z : Row) (ws : List Row) → find (has_id id) ws ≡ None → has_id id z ≡ true
     → has_like ws z ≡ false
 unlike-at id z [] none at = refl
 unlike-at id z (w ∷ ws) none at = by (λ f. unlike-at id z ws f at) (has_id id w) refl none
@@ -87,7 +87,7 @@ unlike-at id z (w ∷ ws) none at = by (λ f. unlike-at id z ws f at) (has_id id
         let unlike : is_eq (row_cmp z w) ≡ false = grind (arith, nat_tests, unsigned_tied) in
         ap (λ b. b || has_like ws z) unlike ∙ more f
 
-apart-test : (id : ℕ) (ws : List Row) (z : Row) → (has_id id z ≡ true → has_like ws z ≡ false)
+pub apart-test : (id : ℕ) (ws : List Row) (z : Row) → (has_id id z ≡ true → has_like ws z ≡ false)
     → (has_id id z && not (has_like ws z)) ≡ has_id id z
 apart-test id ws z apart = by (has_id id z) refl
   where

@@ -1,6 +1,10 @@
 -- What a batch writes, one record after another.
 use Rattle.std.proofs.Common.{◌≡◌, ◌∙◌, ◌⊎◌, inl, inr, ℕ, ◌+◌, ◌<◌, List, [], ◌∷◌, ◌++◌, Option, Ok, Err, ap, drop}
 use Rattle.std.proofs.Common.{length, get_or, sym, subst, Result, IfErr, IsErrAnd}
+use Rattle.std.proofs.Common.{Bool, true, false, ◌==◌, ◌&&◌, ◌||◌, not, cond, find, refl, Some, None}
+use Rattle.std.specs.List.{list_any}
+use Rattle.std.proofs.lemmas.List.Folds.{list_any-append}
+use Rattle.portal_base.proofs.Inserted.{list_any-same}
 use Rattle.portal_base.specs.Ordered.{IsAscending, placed}
 use Rattle.portal_base.specs.declared.json_value.Json.{Json}
 use Rattle.table_schema.specs.declared.cell.Cell.{Cell}
@@ -9,11 +13,12 @@ use Rattle.datastore_table.specs.declared.fault.TableFault.{TableFault}
 use Rattle.datastore_table.specs.declared.fault.TableFault.TheVariants.{OutOfMemory}
 use Rattle.datastore_table.specs.declared.method.Method.{Method}
 use Rattle.datastore_table.specs.declared.row.Row.{Row}
-use Rattle.datastore_table.specs.Batch.{Written, worked_on}
+use Rattle.datastore_table.specs.Batch.{AreThoseOf, Written, is_among, worked_on}
 use Rattle.datastore_table.specs.Put.{Worked, next_after, put_from, put_record, row_id, with_cells, written_row}
-use Rattle.datastore_table.specs.Rows.{row_cmp, row_cmp_total}
+use Rattle.datastore_table.specs.Rows.{has_id, has_like, row_cmp, row_cmp_total}
 use Rattle.datastore_table.proofs.Merged.{merged-placed}
 use Rattle.datastore_table.proofs.ResultLemmas.{in_turn-next, in_turn-fault}
+use Rattle.datastore_table.proofs.RowLemmas.{any_standing, apart-test, unlike-at}
 
 -- To write a row is to put it among the rows as they stand.
 pub worked-with_cells : (rows : List Row) → IsAscending row_cmp rows → (w v : Written) → IsAscending row_cmp w.changed
@@ -30,6 +35,34 @@ worked-with_cells rows ur w v uw id cells changed next written =
       written = w.written ++ row_id id w.next_id ∷ [];
     })
     (merged-placed row_cmp row_cmp_total (written_row (row_id id w.next_id) cells) w.changed rows uw ur))
+
+or_true : (b : Bool) → (b || true) ≡ true
+or_true true = refl
+or_true false = refl
+
+or_false : (b : Bool) → (b || false) ≡ b
+or_false true = refl
+or_false false = refl
+
+-- The rows stay those of these `_id`s, where one more is put among them with its own.
+pub AreThoseOf-placed : (row : Row) (ids : List ℕ) (rows : List Row) → IsAscending row_cmp rows
+    → AreThoseOf ids rows → AreThoseOf (ids ++ row.id ∷ []) (placed row_cmp row rows)
+AreThoseOf-placed row ids rows up those id =
+    any_standing (has_id id) (row ∷ []) rows (tt, tt) up
+    ∙ joined (has_id id row) (is_among ids id) (list_any others rows)
+    (λ e. list_any-same others (has_id id) (λ z. apart-test id (row ∷ []) z (unlike-at id z (row ∷ []) (none e))) rows
+    ∙ those id)
+    ∙ sym (list_any-append (λ i. i == id) ids (row.id ∷ []))
+  where
+    others : Row → Bool
+    others z = has_id id z && not (has_like (row ∷ []) z)
+
+    none : has_id id row ≡ false → find (has_id id) (row ∷ []) ≡ None
+    none e = ap (λ b. cond {A = Option Row} b (Some row) None) e
+
+    joined : (own old rest : Bool) → (own ≡ false → rest ≡ old) → ((own || false) || rest) ≡ (old || (own || false))
+    joined true old rest e = sym (or_true old)
+    joined false old rest e = e refl ∙ sym (or_false old)
 
 pub put_from-next : (method : Method) (schema : SchemaValue) (i : ℕ) (records : List Json) (given : Json) (w v : Worked)
     → i < length records → given ≡ get_or records i given → put_record method schema (i + 1) given w ≡ Ok v

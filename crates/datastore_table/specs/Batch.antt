@@ -1,5 +1,5 @@
 -- What contracts see of prepared changes: of a batch and of a removal.
-use Rattle.std.specs.Prelude.{◌≤◌, ℕ, ◌==◌, Bool, ◌&&◌, not, if◌then◌else◌, List, map, filter}
+use Rattle.std.specs.Prelude.{◌≡◌, ◌≤◌, ℕ, ◌==◌, Bool, ◌&&◌, not, if◌then◌else◌, List, map, filter}
 use Rattle.std.specs.Prelude.{find, length, Option, Some, None, Result, Ok, Err}
 use Rattle.std.specs.List.{list_any}
 use Rattle.table_schema.specs.declared.foreign.Foreign.{Foreign}
@@ -12,7 +12,7 @@ use Rattle.datastore_table.specs.Meets.{IsTable}
 use Rattle.datastore_table.specs.Put.{Worked}
 use Rattle.datastore_table.specs.References.{is_self, refers}
 use Rattle.datastore_table.specs.Results.{in_turn}
-use Rattle.datastore_table.specs.Rows.{rows_after}
+use Rattle.datastore_table.specs.Rows.{has_id, rows_after}
 use Rattle.datastore_table.specs.Table.{TableValue}
 
 -- What a batch writes: the rows as they stand after it, ascending by `_id`, the next `_id` after it, and the `_id` of
@@ -30,6 +30,14 @@ worked_on rows work = record {
   written = work.written;
 }
 
+-- the `_id` is one of these
+abbrev pub is_among : List ℕ → ℕ → Bool
+is_among ids id = list_any (λ i. i == id) ids
+
+-- The rows are those of these `_id`s: each row has one of them, and each of them is some row's.
+abbrev pub AreThoseOf : List ℕ → List Row → Type 0
+AreThoseOf ids rows = (id : ℕ) → list_any (has_id id) rows ≡ is_among ids id
+
 -- A prepared batch, with the table's schema.
 pub record BatchValue : Type 0 where
   pub schema : SchemaValue
@@ -42,14 +50,11 @@ pub record IsReady (batch : BatchValue) (table : TableValue) : Type 0 where
 
 -- ---- rows that go
 
--- a row that goes, with its key
-abbrev pub is_among : List ℕ → ℕ → Bool
-is_among ids id = list_any (λ i. i == id) ids
-
 -- the rows that stay
 abbrev pub cut_rows : List ℕ → List Row → List Row
 cut_rows ids rows = filter (λ row. not (is_among ids row.id)) rows
 
+-- a row that goes, with its key
 abbrev pub key_row : List ℕ → Row → Row
 key_row key row = record { id = row.id; cells = cells_at key row.cells }
 

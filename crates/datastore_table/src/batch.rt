@@ -25,12 +25,15 @@ impl Model for Batch {
 impl Batch {
     ghost use Rattle.std.specs.Prelude.{◌≡◌};
     ghost use Rattle.portal_base.specs.Ordered.{IsAscending};
+    ghost use Rattle.datastore_table.specs.Batch.{AreThoseOf};
     ghost use Rattle.datastore_table.specs.Rows.{row_cmp};
 
-    /// The rows that the batch writes, as they stand after it, ascending by `_id`.
+    /// The rows that the batch writes, as they stand after it, ascending by `_id`. They are those that its records
+    /// wrote, and no others.
     pub fn changed(&self) -> &[Row]
         ensures rows { result.now ≡ self.now.work.changed }
         ensures ascending { IsAscending row_cmp result.now }
+        ensures those { AreThoseOf self.now.work.written result.now }
     {
         self.work.changed()
     }

@@ -3,7 +3,7 @@ ghost use Rattle.std.specs.Prelude.{◌≡◌, ◌⊎◌, ◌+◌, List, [], len
 ghost use Rattle.portal_base.specs.Ordered.{IsAscending};
 ghost use Rattle.datastore_table.specs.declared.fault.TableFault.TheVariants.{OutOfMemory};
 ghost use Rattle.datastore_table.specs.declared.row.Row.{Row};
-ghost use Rattle.datastore_table.specs.Batch.{worked_on};
+ghost use Rattle.datastore_table.specs.Batch.{worked_on, AreThoseOf};
 ghost use Rattle.datastore_table.specs.Index.{IsStocked};
 ghost use Rattle.datastore_table.specs.Put.{begun, next_after, put_from, put_record, row_id, with_cells};
 ghost use Rattle.datastore_table.specs.Rows.{row_cmp};
@@ -32,14 +32,14 @@ pub struct Work {
 
 impl Model for Work {
     ghost use Rattle.portal_base.specs.Ordered.{IsAscending};
-    ghost use Rattle.datastore_table.specs.Batch.{Written};
+    ghost use Rattle.datastore_table.specs.Batch.{AreThoseOf, Written};
     ghost use Rattle.datastore_table.specs.Rows.{row_cmp};
 
     ghost Value = { Written };
 
     ghost view = { λ w. record { changed = w.changed.items; next_id = w.next_id; written = w.written.items } };
 
-    ghost invariant = { λ w. IsAscending row_cmp w.changed.items };
+    ghost invariant = { λ w. IsAscending row_cmp w.changed.items × AreThoseOf w.written.items w.changed.items };
 }
 
 impl Work {
@@ -59,6 +59,7 @@ impl Work {
     pub(crate) fn changed(&self) -> &[Row]
         ensures value { result.now ≡ self.now.changed }
         ensures ascending { IsAscending row_cmp result.now }
+        ensures those { AreThoseOf self.now.written result.now }
     {
         self.changed.as_slice()
     }

@@ -1,10 +1,10 @@
-use Rattle.std.proofs.Common.{◌≡◌, ◌∙◌, ◌++◌, ◌∷◌, [], ap}
+use Rattle.std.proofs.Common.{◌≡◌, ◌∙◌, ◌++◌, ◌∷◌, [], ap, subst₂, sym}
 use Rattle.std.specs.Prelude.{if◌then◌else◌}
 use Rattle.portal_base.specs.Ordered.{placed}
-use Rattle.datastore_table.specs.Batch.{Written}
+use Rattle.datastore_table.specs.Batch.{AreThoseOf, Written}
 use Rattle.datastore_table.specs.Put.{row_id, written_row}
 use Rattle.datastore_table.specs.Rows.{row_cmp}
-use Rattle.datastore_table.proofs.WorkLemmas.{worked-with_cells}
+use Rattle.datastore_table.proofs.WorkLemmas.{AreThoseOf-placed, worked-with_cells}
 use Rattle.datastore_table.proofs.work.Work.write.Goals as goal
 
 pub returns-clause-ok : goal.returns-clause-ok
@@ -27,5 +27,18 @@ returns-clause-ok c = λ rows up.
     c.push.ensures.items
     ∙ ap (λ b. if b then w.written ++ c.row_id-id.result ∷ [] else w.written) c.if-is_err.ensures.negation
     ∙ ap (λ i. w.written ++ i ∷ []) c.row_id-id.ensures in
-    rw (← c.self.view_is) (worked-with_cells rows up w v c.self.invariant id cells changed c.in_ok-next_id.ensures
+    rw (← c.self.view_is) (worked-with_cells rows up w v c.self.invariant.0 id cells changed c.in_ok-next_id.ensures
     written)
+
+pub invariant_of-self-2 : goal.invariant_of-self-2
+invariant_of-self-2 c =
+    let id = c.row_id-id.result in
+    let row = written_row id c.args.cells in
+    let was = c.self.inside.changed.items in
+    let ids = c.self.inside.written.items in
+    let changed : c.place-replaced.new.items.items ≡ placed row_cmp row was =
+    c.place-replaced.ensures.items ∙ ap (placed row_cmp row) c.reserve.ensures.items in
+    let written : c.push.new.self.items ≡ ids ++ id ∷ [] =
+    c.push.ensures.items ∙ ap (λ b. if b then ids ++ id ∷ [] else ids) c.if-is_err.ensures.negation in
+    let those = AreThoseOf-placed row ids was c.self.invariant.0 c.self.invariant.1 in
+    (c.place-replaced.ensures.ascending, subst₂ AreThoseOf (sym written) (sym changed) those)
