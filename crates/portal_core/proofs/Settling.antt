@@ -1,6 +1,6 @@
 -- What an answer comes to in a state.
-use Rattle.std.proofs.Common.{◌≡◌, ◌≢◌, true, false, List, [], ◌∷◌, ◌++◌, Option, Some, None, refl, ap}
-use Rattle.std.specs.Prelude.{find}
+use Rattle.std.proofs.Common.{◌≡◌, ◌≢◌, true, false, List, [], ◌∷◌, ◌++◌, Option, Some, None, refl, ap, ◌∙◌}
+use Rattle.std.specs.Prelude.{find, IsSome}
 use Rattle.portal_base.specs.declared.json_value.Json.{Json}
 use Rattle.portal_calls.specs.Answer.{AcceptsOnly}
 use Rattle.portal_calls.specs.declared.answer.Answer.{Answer}
@@ -59,6 +59,41 @@ pub settled_unused : (json : Json) (change : Change) (call : Call) (state : Stat
     ≡ (record { reply = reply.Accepted json; is_accepted = true; state = made call change state })
 settled_unused json change call state unused =
     ap (λ (claim : Option Claim). settled_unless claim call json change state) unused
+
+-- ---- what is told of a use
+
+told-used : (json : Json) (change : Change) (call : Call) (state : State)
+    → tells_of_use (settled (Accepted json change) call state).reply ≡ true
+    → IsSome (find (is_in_use state) (claims_of change))
+told-used json change call state told = by (find (is_in_use state) (claims_of change)) told
+  where
+    by : (claim : Option Claim) → tells_of_use (settled_unless claim call json change state).reply ≡ true
+        → IsSome claim
+    by None t = absurd (cc)
+    by (Some c) t = refl
+
+-- a use is told only of an answer that accepts
+pub used-accepted : (state : State) (call : Call) → tells_of_use (call_step state call).reply ≡ true
+    → (json : Json) × (change : Change) × (answer_to call (view_of call.caller state) ≡ Accepted json change)
+    × IsSome (find (is_in_use state) (claims_of change))
+used-accepted state call told = by (answer_to call (view_of call.caller state)) refl told
+  where
+    by : (answer : Answer Change) → answer_to call (view_of call.caller state) ≡ answer
+        → tells_of_use (settled answer call state).reply ≡ true
+        → (json : Json) × (change : Change) × (answer_to call (view_of call.caller state) ≡ Accepted json change)
+        × IsSome (find (is_in_use state) (claims_of change))
+    by (Shown json) is t = absurd (cc)
+    by (Refused denial) is t = absurd (let quiet = quiet-refusal denial in cc)
+    by (Accepted json change) is t = (json, change, is, told-used json change call state t)
+
+-- and an answer that accepts and claims nothing in use is made
+pub unused-made : (state : State) (call : Call) (json : Json) (change : Change)
+    → answer_to call (view_of call.caller state) ≡ Accepted json change → IsUnused state change
+    → call_step state call
+    ≡ (record { reply = reply.Accepted json; is_accepted = true; state = made call change state })
+unused-made state call json change accepted unused =
+    ap (λ (answer : Answer Change). settled answer call state) accepted
+    ∙ settled_unused json change call state unused
 
 -- ---- what isn't accepted
 

@@ -1,5 +1,5 @@
 //! Laws of the definitions: functions with an empty body, whose contracts are the laws.
-ghost use Rattle.std.specs.Prelude.{◌≡◌, ◌++◌, ℕ, IsTrue, List, Some, true, false};
+ghost use Rattle.std.specs.Prelude.{◌≡◌, ◌++◌, ℕ, IsSome, IsTrue, List, Some, find, true, false};
 ghost use Rattle.portal_base.specs.declared.caller.Caller.{Caller};
 ghost use Rattle.portal_base.specs.declared.json_value.Json.{Json};
 ghost use Rattle.org_roles.specs.declared.change.OrgChange.TheVariants.{SetRole, DropRole};
@@ -10,6 +10,7 @@ ghost use Rattle.visibility.specs.Visibility.{sees_in};
 ghost use Rattle.portal_calls.specs.declared.answer.Answer.TheVariants.{Accepted};
 ghost use Rattle.portal_calls.specs.declared.call.Call.{Call};
 ghost use Rattle.portal_core.specs.Answer.{answer_to};
+ghost use Rattle.portal_core.specs.Changed.{IsUnused, claims_of, is_in_use, made};
 ghost use Rattle.portal_core.specs.Hidden.{IsHidden, IsIdUnseen, IsRoleUnseen, is_caller};
 ghost use Rattle.portal_core.specs.History.{AreAlike, AreOthersHidden, calls_of, tell_of_no_use, exchanges_of};
 ghost use Rattle.portal_core.specs.Isolation.{tells_of_use};
@@ -18,8 +19,10 @@ ghost use Rattle.portal_core.specs.State.{State};
 ghost use Rattle.portal_core.specs.Step.{call_step, step_of, replay};
 ghost use Rattle.portal_core.specs.Valid.{IsValid};
 ghost use Rattle.portal_core.specs.View.{view_of};
+ghost use Rattle.portal_core.specs.declared.change.Change.{Change};
 ghost use Rattle.portal_core.specs.declared.change.Change.TheVariants.{People, Datasets};
 ghost use Rattle.portal_core.specs.declared.event.Event.{Event};
+ghost use Rattle.portal_core.specs.declared.event.Reply.{Reply};
 ghost use Rattle.portal_core.specs.declared.portal.Opening.{Opening};
 
 /// A replay of events and then of more is one replay.
@@ -72,6 +75,23 @@ pub fn a_replay_keeps_validity()
 pub fn a_refusal_changes_nothing()
     ensures { (state : State) (event : Event) →
         (step_of state event).is_accepted ≡ false → (step_of state event).state ≡ state }
+{}
+
+/// That a name or an id is in use is told last: all else accepts the call, and something has what its change claims.
+pub fn a_use_is_told_last()
+    ensures { (state : State) (call : Call) → tells_of_use (call_step state call).reply ≡ true →
+        (json : Json) × (change : Change) ×
+        (answer_to call (view_of call.caller state) ≡ Accepted json change) ×
+        IsSome (find (is_in_use state) (claims_of change)) }
+{}
+
+/// Where the answer on what its caller sees accepts a call, and nothing that its change claims is in use, the change is
+/// made.
+pub fn what_claims_nothing_in_use_is_made()
+    ensures { (state : State) (call : Call) (json : Json) (change : Change) →
+        answer_to call (view_of call.caller state) ≡ Accepted json change → IsUnused state change →
+        call_step state call
+        ≡ record { reply = Reply.Accepted json; is_accepted = true; state = made call change state } }
 {}
 
 /// An event that is hidden from a caller leaves what the caller sees.
