@@ -32,6 +32,28 @@ pub fn link_of(
     MemoryLink::new(alloc, Seq::from(bytes), room, failing)
 }
 
+/// The same, which fails at the call with this number.
+pub fn failing_link(
+    alloc: Global,
+    bytes: &[u8],
+    room: usize,
+    failing: u64,
+) -> Result<MemoryLink, AllocError> {
+    let mut calls = Vec::new(alloc);
+    calls.push(failing)?;
+    link_of(alloc, bytes, room, Seq::from(calls))
+}
+
+/// What is told of bytes that are read whole, and what else is told of them where they are read byte by byte.
+pub fn both_told(whole: Vec<u8>, cut: &[u8]) -> Result<Vec<u8>, AllocError> {
+    let mut told = whole;
+    if cut != told.as_slice() {
+        told.extend_from_slice(b", but byte by byte ")?;
+        told.extend_from_slice(cut)?;
+    }
+    Ok(told)
+}
+
 /// A link that gives and takes one byte at a time.
 #[derive(Drop)]
 pub struct OneByOne {

@@ -1,5 +1,5 @@
 //! What is received of a link.
-use crate::links::{OneByOne, filled, link_of};
+use crate::links::{OneByOne, both_told, failing_link, filled, link_of};
 use cases::Case;
 use http_front::fault::FrontFault;
 use http_front::incoming::Incoming;
@@ -9,6 +9,9 @@ use portal_base::seq::Seq;
 use portal_base::text::Text;
 use std::alloc::{AllocError, Global};
 use std::io;
+
+/// Room for what isn't to be written.
+const ROOM: usize = 1000;
 
 /// Three names of actions: two that only read, and one that changes something.
 fn is_reading(name: &str) -> Option<bool> {
@@ -67,18 +70,21 @@ fn shown<K: Link>(alloc: Global, link: &mut K) -> Result<Vec<u8>, AllocError> {
     Ok(told)
 }
 
-/// What is received of these bytes, read whole and byte by byte.
-fn both_ways(alloc: Global, bytes: &[u8]) -> Result<Vec<u8>, AllocError> {
+/// What is received of these bytes, read whole.
+fn whole(alloc: Global, bytes: &[u8]) -> Result<Vec<u8>, AllocError> {
     let mut link = link_of(alloc, bytes, 0, Seq::new(alloc))?;
-    let mut told = shown(alloc, &mut link)?;
+    shown(alloc, &mut link)
+}
+
+/// What is received of these bytes, read byte by byte.
+fn cut(alloc: Global, bytes: &[u8]) -> Result<Vec<u8>, AllocError> {
     let inner = link_of(alloc, bytes, 0, Seq::new(alloc))?;
-    let mut link = OneByOne { inner };
-    let cut = shown(alloc, &mut link)?;
-    if cut.as_slice() != told.as_slice() {
-        told.extend_from_slice(b", but byte by byte ")?;
-        told.extend_from_slice(cut.as_slice())?;
-    }
-    Ok(told)
+    shown(alloc, &mut OneByOne { inner })
+}
+
+/// What is received of these bytes, read both ways.
+fn both_ways(alloc: Global, bytes: &[u8]) -> Result<Vec<u8>, AllocError> {
+    both_told(whole(alloc, bytes)?, cut(alloc, bytes)?.as_slice())
 }
 
 /// The bytes of a connection: what is received of them.
@@ -107,11 +113,7 @@ pub fn cuts_told(alloc: Global, case: &Case) -> io::Result<Vec<u8>> {
 
 /// The number of the call that fails, and the bytes of a connection: what is received of them, and how much is written.
 pub fn failing_told(alloc: Global, case: &Case) -> io::Result<Vec<u8>> {
-    let mut failing = Seq::new(alloc);
-    if failing.push(case.parsed(0)?).is_err() {
-        return Err(io::Error::from(AllocError));
-    }
-    let mut link = link_of(alloc, case.bytes(1), 1000, failing)?;
+    let mut link = failing_link(alloc, case.bytes(1), ROOM, case.parsed(0)?)?;
     let mut told = shown(alloc, &mut link)?;
     if !link.taken().is_empty() {
         told.extend_from_slice(b", and something written")?;

@@ -1,39 +1,62 @@
 //! What is sent.
+ghost use Rattle.std.specs.Prelude.{IsSome};
+ghost use Rattle.http.specs.StatusCode.{reason_phrase};
+
 use crate::links::{OneByOne, link_of};
 use cases::Case;
 use http_front::response::send;
-use portal_base::outside::Link;
 use portal_base::seq::Seq;
-use std::alloc::Global;
+use std::alloc::{AllocError, Global};
 use std::io;
 
-/// Sends the response of a status that has a phrase, and says whether the link failed.
-fn is_refused<K: Link>(link: &mut K, status: u16, body: &[u8]) -> bool {
-    let sent = match status {
-        200 => send(link, 200, body),
-        400 => send(link, 400, body),
-        403 => send(link, 403, body),
-        404 => send(link, 404, body),
-        405 => send(link, 405, body),
-        409 => send(link, 409, body),
-        411 => send(link, 411, body),
-        413 => send(link, 413, body),
-        503 => send(link, 503, body),
-        _ => send(link, 507, body),
-    };
-    sent.is_err()
+/// Room for a response.
+const ROOM: usize = 1000;
+
+/// The status where it is one of the portal's, and else 507.
+fn known(status: u16) -> u16
+    ensures { IsSome (reason_phrase result) }
+{
+    match status {
+        200 => 200,
+        400 => 400,
+        403 => 403,
+        404 => 404,
+        405 => 405,
+        409 => 409,
+        411 => 411,
+        413 => 413,
+        503 => 503,
+        _ => 507,
+    }
+}
+
+/// What a link takes of the response, and whether it failed.
+fn sent_whole(
+    alloc: Global,
+    room: usize,
+    status: u16,
+    body: &[u8],
+) -> Result<(Vec<u8>, bool), AllocError> {
+    let mut link = link_of(alloc, &[], room, Seq::new(alloc))?;
+    let is_lost = send(&mut link, known(status), body).is_err();
+    Ok((link.taken().to_vec(alloc)?, is_lost))
+}
+
+/// The same of a link that takes one byte at a time.
+fn sent_cut(alloc: Global, status: u16, body: &[u8]) -> Result<(Vec<u8>, bool), AllocError> {
+    let inner = link_of(alloc, &[], ROOM, Seq::new(alloc))?;
+    let mut link = OneByOne { inner };
+    let is_lost = send(&mut link, known(status), body).is_err();
+    Ok((link.inner.taken().to_vec(alloc)?, is_lost))
 }
 
 /// A status and a body: the response, taken whole and byte by byte.
 pub fn told(alloc: Global, case: &Case) -> io::Result<Vec<u8>> {
     let status = case.parsed(0)?;
     let body = case.bytes(1);
-    let mut link = link_of(alloc, &[], 1000, Seq::new(alloc))?;
-    let is_lost = is_refused(&mut link, status, body);
-    let mut told = link.taken().to_vec(alloc)?;
-    let inner = link_of(alloc, &[], 1000, Seq::new(alloc))?;
-    let mut link = OneByOne { inner };
-    if is_lost || is_refused(&mut link, status, body) || link.inner.taken() != told.as_slice() {
+    let (mut told, is_lost) = sent_whole(alloc, ROOM, status, body)?;
+    let (cut, is_cut_lost) = sent_cut(alloc, status, body)?;
+    if is_lost || is_cut_lost || cut.as_slice() != told.as_slice() {
         told.extend_from_slice(b", and a fault")?;
     }
     Ok(told)
@@ -41,9 +64,7 @@ pub fn told(alloc: Global, case: &Case) -> io::Result<Vec<u8>> {
 
 /// The room of a link, a status and a body: what is taken before the link fails.
 pub fn full_told(alloc: Global, case: &Case) -> io::Result<Vec<u8>> {
-    let mut link = link_of(alloc, &[], case.parsed(0)?, Seq::new(alloc))?;
-    let is_lost = is_refused(&mut link, case.parsed(1)?, case.bytes(2));
-    let mut told = link.taken().to_vec(alloc)?;
+    let (mut told, is_lost) = sent_whole(alloc, case.parsed(0)?, case.parsed(1)?, case.bytes(2))?;
     if !is_lost {
         told.extend_from_slice(b", and no fault")?;
     }
