@@ -97,7 +97,8 @@ unclosed = refl
 empty_passes_none : passes_filters (record { column = column.Field 0; values = [] } ∷ []) first ≡ false
 empty_passes_none = refl
 
-null_passes : passes_filters (record { column = column.Field 1; values = cell.Null ∷ cell.Int (pos 8) ∷ [] } ∷ []) second
+null_passes :
+    passes_filters (record { column = column.Field 1; values = cell.Null ∷ cell.Int (pos 8) ∷ [] } ∷ []) second
     ≡ true
 null_passes = refl
 

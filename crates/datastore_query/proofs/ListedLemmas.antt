@@ -16,7 +16,8 @@ use Rattle.datastore_table.specs.Cells.{cell_at, same_cells}
 use Rattle.datastore_query.specs.declared.column.Column.{Column}
 use Rattle.datastore_query.specs.declared.column.Column.TheVariants as column
 use Rattle.datastore_query.specs.Column.{column_cell, id_cell, projected}
-use Rattle.datastore_query.specs.Query.{firsts_if, is_selected, listing, page_rows, QueryValue, selected_rows, with_first}
+use Rattle.datastore_query.specs.Query.{firsts_if, is_selected, listing, page_rows, QueryValue, selected_rows}
+use Rattle.datastore_query.specs.Query.{with_first}
 use Rattle.datastore_query.specs.Sort.{in_order, sorts_cmp}
 
 abbrev pub HasValues : Row → Type 0
@@ -42,7 +43,8 @@ projected_values (on ∷ columns) row h =
     All-cons IsValue (column_cell on row) (projected columns row) (column_value on row h)
     (projected_values columns row h)
 
-All-ascending : {X : Type 0} (P : X → Type 0) (cmp : X → X → Ordering) (xs : List X) → All P xs → All P (ascending cmp xs)
+All-ascending : {X : Type 0} (P : X → Type 0) (cmp : X → X → Ordering) (xs : List X) → All P xs
+    → All P (ascending cmp xs)
 All-ascending P cmp xs h =
     All-each P (ascending cmp xs) (λ x m. All-IsIn P xs h x (ascending-IsIn cmp x xs m))
 
@@ -70,7 +72,8 @@ page_values query rows h =
     All-filter (is_selected query.filters query.words) HasValues rows h in
     let ordered : All HasValues (in_order query.sorts (selected_rows query rows)) =
     All-ascending HasValues (sorts_cmp query.sorts) (selected_rows query rows) selected in
-    let cells : All (λ row. All IsValue (projected query.columns row)) (in_order query.sorts (selected_rows query rows)) =
+    let cells : All (λ row. All IsValue (projected query.columns row))
+    (in_order query.sorts (selected_rows query rows)) =
     All-weaker HasValues (λ row. All IsValue (projected query.columns row)) (projected_values query.columns)
     (in_order query.sorts (selected_rows query rows)) ordered in
     let listed : All (All IsValue) (listing query rows) =

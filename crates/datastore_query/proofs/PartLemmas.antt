@@ -1,6 +1,6 @@
 -- The parts of a sort's text, from comma to comma.
-use Rattle.std.proofs.Common.{◌≡◌, ◌∙◌, ℕ, ◌+◌, List, [], ◌∷◌, take, drop, refl, ap, ap₂, sym, add-one, ◌++◌, map, append_assoc}
-use Rattle.std.proofs.Common.{Bool, true, false, cond}
+use Rattle.std.proofs.Common.{◌≡◌, ◌∙◌, ℕ, ◌+◌, List, [], ◌∷◌, take, drop, refl, ap, ap₂, sym, add-one, ◌++◌, map}
+use Rattle.std.proofs.Common.{append_assoc, Bool, true, false, cond}
 use Rattle.std.specs.Prelude.{Option, Some, None, option_map, length}
 use Rattle.datastore_query.specs.SortText.{comma_from, in_front, is_end, parts_from, parts_of}
 use Rattle.datastore_query.specs.SortText.{quoted_behind}

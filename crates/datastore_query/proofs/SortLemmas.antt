@@ -87,8 +87,8 @@ without_word-none word text none =
       | false ↦ λ e. refl
     ]) refl
 
-pub without_word-some : (word text front : List ℕ) (k : ℕ) → k ≡ length word → text ≡ take (length text - k) text ++ word
-    → front ≡ take (length text - k) text → length front + k ≡ length text
+pub without_word-some : (word text front : List ℕ) (k : ℕ) → k ≡ length word
+    → text ≡ take (length text - k) text ++ word → front ≡ take (length text - k) text → length front + k ≡ length text
     → without_word word text ≡ before_space front
 without_word-some word text front k is whole cut long =
     let n : ℕ = length text - length word in

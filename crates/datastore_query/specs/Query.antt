@@ -1,6 +1,6 @@
 -- Queries: what a query's parts are read as, and the page of a table's rows that it gives (CKAN's `datastore_search`).
-use Rattle.std.specs.Prelude.{◌≡◌, ℕ, Bool, true, false, ◌&&◌, if◌then◌else◌, List, [], ◌∷◌, ◌++◌, codes, drop, filter, fold}
-use Rattle.std.specs.Prelude.{map, take, Result, Ok, Err}
+use Rattle.std.specs.Prelude.{◌≡◌, ℕ, Bool, true, false, ◌&&◌, if◌then◌else◌, List, [], ◌∷◌, ◌++◌, codes, drop}
+use Rattle.std.specs.Prelude.{filter, fold, map, take, Result, Ok, Err}
 use Rattle.std.specs.List.{list_any}
 use Rattle.portal_base.specs.Tokens.{tokens}
 use Rattle.table_schema.specs.declared.cell.Cell.{Cell}

@@ -1,12 +1,13 @@
 //! Filters: which rows have one of some values in a column.
-ghost use Rattle.std.specs.Prelude.{◌≡◌, ◌∷◌, [], IfOk, IsTrue, None, Ok, flat_map, fold, map, option_copied, option_to_list};
+ghost use Rattle.std.specs.Prelude.{◌≡◌, ◌∷◌, [], IfOk, IsTrue, None, Ok, flat_map, fold, map};
+ghost use Rattle.std.specs.Prelude.{option_copied, option_to_list};
 ghost use Rattle.std.specs.List.{list_all, list_any};
 ghost use Rattle.portal_base.specs.Kinds.{all_of};
 ghost use Rattle.datastore_table.specs.Cells.{cell_at};
 ghost use Rattle.table_schema.specs.Order.{same_cell};
 ghost use Rattle.datastore_query.specs.Filter.{entry_reading, filter_cell, filter_values, filters_in, filters_reading};
-ghost use Rattle.datastore_query.specs.Filter.{entries_of, has_value, is_earlier, is_id, is_unknown, is_unread, least_such};
-ghost use Rattle.datastore_query.specs.Filter.{not_of_type, passes_filter, passes_filters, with_earlier};
+ghost use Rattle.datastore_query.specs.Filter.{entries_of, has_value, is_earlier, is_id, is_unknown, is_unread};
+ghost use Rattle.datastore_query.specs.Filter.{least_such, not_of_type, passes_filter, passes_filters, with_earlier};
 
 use crate::column::{Column, column_of, kind_of, no_field};
 use datastore_table::Row;

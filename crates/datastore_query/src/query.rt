@@ -7,7 +7,8 @@ ghost use Rattle.table_schema.specs.Values.{is_map};
 ghost use Rattle.datastore_table.specs.Cells.{same_cells};
 ghost use Rattle.datastore_table.specs.Rows.{row_cmp};
 ghost use Rattle.datastore_query.specs.Column.{column_name, projected};
-ghost use Rattle.datastore_query.specs.Query.{all_told, filtered_ids, firsts, IsFault, listing, page_rows, query_reading, told};
+ghost use Rattle.datastore_query.specs.Query.{all_told, filtered_ids, firsts, IsFault, listing, page_rows};
+ghost use Rattle.datastore_query.specs.Query.{query_reading, told};
 
 use crate::column::{Column, columns_of, names_of};
 use crate::fault::QueryFault;

@@ -39,7 +39,7 @@ fn part_of(alloc: Global, part: &str) -> Result<Option<SortName>, AllocError>
 }
 
 // What the parts of a text are read as.
-#[tactic(auto, using(crate::proofs::PartLemmas::read_next, crate::proofs::PartLemmas::parts_from_last, crate::proofs::PartLemmas::parts_of_some))]
+#[tactic(auto, using(crate::proofs::PartLemmas::parts_from_last, crate::proofs::PartLemmas::parts_of_some))]
 fn parts_of(alloc: Global, text: &str) -> Result<Vec<Option<SortName>>, AllocError>
     ensures { IfOk result (λ parts. parts.items ≡ map part_reading (parts_of text.now)) }
 {
