@@ -3,6 +3,7 @@
 use Rattle.std.specs.Prelude.{◌≡◌, ◌⊎◌, ℕ, ◌+◌, ◌-◌, ◌<◌, List, [], ◌∷◌, ◌++◌, length, Option}
 use Rattle.std.specs.Str.Lines.{lines}
 use Rattle.portal_base.specs.Outside.{Gives, IsAtEnd}
+use Rattle.portal_lines.specs.Drafts.{HasNoFeed}
 
 -- What a reader of lines has in hand: the bytes that the source gave and that belong to no line handed out, the line
 -- handed out last, how many bytes the source gave so far, the most bytes of a line without its end, and the most
@@ -48,6 +49,11 @@ pub record FindsEnd (old : Reading) (told : Option (List ℕ)) (new : Reading) (
 -- The source gave some bytes in this call, and they were counted.
 abbrev pub Receives : Reading → Option (List ℕ) → Reading → Option (List ℕ) → Type 0
 Receives old told new left = (bytes : List ℕ) × Gives told bytes left × (new.given ≡ old.given + length bytes)
+
+-- The same, and no line ended: neither what was held nor what came has a line feed.
+abbrev pub ReceivesNoEnd : Reading → Option (List ℕ) → Reading → Option (List ℕ) → Type 0
+ReceivesNoEnd old told new left =
+    (bytes : List ℕ) × Gives told bytes left × (new.given ≡ old.given + length bytes) × HasNoFeed (old.held ++ bytes)
 
 -- How many bytes are held or may still be given: with each line this falls.
 abbrev pub bytes_left : Reading → ℕ

@@ -3,7 +3,7 @@ ghost use Rattle.std.specs.Prelude.{◌≡◌, ◌↔◌, ◌<◌, ◌≤◌, �
 ghost use Rattle.std.specs.Prelude.{position, false, Ok, Err, IfOk, OnOk, OnErr};
 ghost use Rattle.std.specs.Str.Lines.{strip_carriage_return};
 ghost use Rattle.portal_base.specs.Outside.{Gives, Rose, IsAtEnd};
-ghost use Rattle.portal_lines.specs.Lines.{TakesLine, SkipsLine, FindsEnd, Receives, bytes_left};
+ghost use Rattle.portal_lines.specs.Lines.{TakesLine, SkipsLine, FindsEnd, Receives, ReceivesNoEnd, bytes_left};
 ghost use Rattle.portal_lines.specs.Drafts.{KeepsRaw, TakesPiece};
 
 use portal_base::outside::{Failed, Source};
@@ -294,6 +294,9 @@ impl LineReader {
         ensures received { OnErr result
             (Receives self.old (S.to_come source.old) self.new (S.to_come source.new)) }
         ensures failed { result ≡ Err LineFault.Failed → Rose (S.faults source.old) (S.faults source.new) }
+        // No line that came whole is held back.
+        ensures unended { result ≡ Err LineFault.Failed →
+            ReceivesNoEnd self.old (S.to_come source.old) self.new (S.to_come source.new) }
         ensures much { (result ≡ Err LineFault.TooMuch) ↔ (self.new.most < self.new.given) }
         ensures within { OnOk result (self.new.given ≤ self.new.most) }
     {

@@ -76,8 +76,13 @@ pub page_text_is
 unfolding serde_json_on_literals
 page_text_is = sym (ap compact_text (error_data (codes "Not Found Error") (codes "No such page")))
 
+-- the text for another method, as the program has it
+abbrev method_text : List ℕ
+method_text =
+    codes "{\"error\":{\"__type\":\"Bad Request\",\"message\":\"Method not allowed\"},\"help\":\"\",\"success\":false}"
+
 pub method_text_is
-    : codes "{\"error\":{\"__type\":\"Bad Request\",\"message\":\"Method not allowed\"},\"help\":\"\",\"success\":false}"
+    : method_text
     ≡ error_text (bad_request (codes "Method not allowed"))
 unfolding serde_json_on_literals
 method_text_is = sym (ap compact_text (error_data (codes "Bad Request") (codes "Method not allowed")))

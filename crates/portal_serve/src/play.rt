@@ -11,14 +11,11 @@ ghost use Rattle.portal_serve.specs.Transcript.{early_line, replied_to, reply_li
 ghost use Rattle.portal_serve.specs.Run.{PlaysAll, PlaysPart, GaveTooMuch};
 ghost use Rattle.portal_serve.specs.Script.{call_of_line};
 ghost use Rattle.portal_serve.specs.Seen.{asked};
-ghost use Rattle.portal_serve.specs.Stated.{stated_state};
-ghost use Rattle.portal_core.specs.State.{State};
 
 use crate::calling::{Drawn, replied};
 use crate::line::line_of_reply;
 use crate::script::{LONGEST_LINE, ScriptCall, read_call};
 use crate::stage::Stage;
-use crate::stated::stated_portal;
 use action_api::early::Early;
 use action_api::request::request_on;
 use portal_base::caller::Caller;
@@ -396,32 +393,4 @@ pub fn play<S: Source, O: Sink, C: Clock, N: Nonces>(
         nonces,
     };
     play_on(alloc, portal, input, &mut stage)
-}
-
-/// Plays the script on input from the stated portal, and writes its transcript to output.
-pub fn play_from_stated<S: Source, O: Sink, C: Clock, N: Nonces>(
-    alloc: Global,
-    input: &mut S,
-    output: &mut O,
-    clock: &mut C,
-    nonces: &mut N,
-) -> PlayEnd
-    ensures done { result ≡ PlayEnd.Done → (whole : List ℕ) → S.to_come input.old ≡ Some whole
-        → (after : State) × PlaysAll stated_state whole after
-        (devices (S.to_come input.old) (O.taken output.old) (C.given clock.old) (N.given nonces.old))
-        (devices (S.to_come input.new) (O.taken output.new) (C.given clock.new) (N.given nonces.new)) }
-    ensures cut { result ≢ PlayEnd.Done → (whole : List ℕ) → S.to_come input.old ≡ Some whole
-        → (after : State) × PlaysPart (most_begun result) stated_state whole after
-        (devices (S.to_come input.old) (O.taken output.old) (C.given clock.old) (N.given nonces.old))
-        (devices (S.to_come input.new) (O.taken output.new) (C.given clock.new) (N.given nonces.new)) }
-
-    ensures read_fault { result ≡ PlayEnd.ReadFault → Rose (S.faults input.old) (S.faults input.new) }
-    ensures write_fault { result ≡ PlayEnd.WriteFault → Rose (O.faults output.old) (O.faults output.new) }
-    ensures too_long { (whole : List ℕ) → S.to_come input.old ≡ Some whole →
-        ((result ≡ PlayEnd.TooLong) ↔ GaveTooMuch whole (S.to_come input.new)) }
-{
-    match stated_portal(alloc) {
-        Ok(mut portal) => play(alloc, &mut portal, input, output, clock, nonces),
-        Err(_refused) => PlayEnd::OutOfMemory,
-    }
 }

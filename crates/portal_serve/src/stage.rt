@@ -1,5 +1,5 @@
-//! What a script is played on: output, the clock and the numbers, as one value. A further device that lines pass through is
-//! a further field here.
+//! What a script is played on: output, the clock and the numbers, as one value. A further device that lines pass
+//! through is a further field here.
 ghost use Rattle.std.specs.Prelude.{◌≡◌, ◌≤◌, OnOk, OnErr};
 ghost use Rattle.portal_base.specs.Outside.{Draws, Rose, Takes, TakesPrefix};
 ghost use Rattle.portal_serve.specs.Stage.{AreSameLoans};

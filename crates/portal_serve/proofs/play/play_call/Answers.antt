@@ -11,7 +11,8 @@ pub returns-in_err-text-clause-cut : goal.returns-in_err-text-clause-cut
 returns-in_err-text-clause-cut g c =
     on_err_always c.from_residual.result
     (stops_before_writing _ _ _ (asked c.args.said) _ _ _ _ c.requires c.in_err-text.ensures.stopped
-    (ap g.O.Sink.taken c.draw-moment.ensures.output) (DrawsAll-one _ _ _ c.draw-moment.ensures.moment) (DrawsAll-one _ _ _ c.draw-moment.ensures.nonce))
+    (ap g.O.Sink.taken c.draw-moment.ensures.output) (DrawsAll-one _ _ _ c.draw-moment.ensures.moment)
+    (DrawsAll-one _ _ _ c.draw-moment.ensures.nonce))
 
 pub returns-clause-ok : goal.returns-clause-ok
 returns-clause-ok g c =

@@ -14,7 +14,8 @@ returns-in-Err-clause-ok g c =
     = grind (arith, c.in-Err.ensures.fault, c.in-Err.early-is) in
     on_ok_weaker c.write_early.result
     (works_lines _ _ _ _ _ _ _ _ (works_early _ _ _ is)
-    (DrawsAll-same _ _ (ap g.C.Clock.given c.write_early.ensures.clock)) (DrawsAll-same _ _ (ap g.N.Nonces.given c.write_early.ensures.nonces)))
+    (DrawsAll-same _ _ (ap g.C.Clock.given c.write_early.ensures.clock))
+    (DrawsAll-same _ _ (ap g.N.Nonces.given c.write_early.ensures.nonces)))
     c.write_early.ensures.ok
 
 pub returns-in-Err-clause-cut : goal.returns-in-Err-clause-cut
@@ -23,5 +24,6 @@ returns-in-Err-clause-cut g c =
     = grind (arith, c.in-Err.ensures.fault, c.in-Err.early-is) in
     on_err_weaker c.write_early.result
     (stops_in_writing _ _ _ _ _ _ _ _ (works_early _ _ _ is)
-    (DrawsAll-same _ _ (ap g.C.Clock.given c.write_early.ensures.clock)) (DrawsAll-same _ _ (ap g.N.Nonces.given c.write_early.ensures.nonces)))
+    (DrawsAll-same _ _ (ap g.C.Clock.given c.write_early.ensures.clock))
+    (DrawsAll-same _ _ (ap g.N.Nonces.given c.write_early.ensures.nonces)))
     c.write_early.ensures.failed

@@ -19,7 +19,8 @@ returns-in-Ok-write_early-clause-more g c =
     λ more. record {
       line = skips.0;
       takes = skips.1;
-      works = works_lines _ _ _ _ _ _ _ _ (works_too_long _ skips.0 long) (DrawsAll-same _ _ (ap g.C.Clock.given c.in-Ok-write_early.ensures.clock))
+      works = works_lines _ _ _ _ _ _ _ _ (works_too_long _ skips.0 long)
+          (DrawsAll-same _ _ (ap g.C.Clock.given c.in-Ok-write_early.ensures.clock))
           (DrawsAll-same _ _ (ap g.N.Nonces.given c.in-Ok-write_early.ensures.nonces)) c.in-Ok-write_early.ensures.ok;
     }
 
