@@ -7,18 +7,21 @@ use Rattle.std.specs.Prelude.{◌↔◌, filter}
 use Rattle.std.specs.Str.Lines.{lines}
 use Rattle.portal_base.proofs.OutsideLemmas.{Takes-none, Takes-append}
 use Rattle.portal_base.specs.Outside.{Gives, IsAtEnd}
+use Rattle.portal_lines.specs.Drafts.{HasNoFeed}
 use Rattle.portal_lines.specs.Lines.{Reading, EndsLine, TakesLine}
+use Rattle.portal_lines.specs.declared.lines.LineFault.{LineFault}
+use Rattle.portal_lines.specs.declared.lines.LineFault.TheVariants as line_fault
 use Rattle.portal_serve.proofs.Working.{works_none, works_more, works_wrote, works_then, works_left, AreDrawn-append}
 use Rattle.portal_serve.proofs.Working.{standing_after-append}
 use Rattle.portal_serve.proofs.Working.{DrawsAll-none, DrawsAll-more, begins_no_line}
 use Rattle.portal_serve.specs.Played.{Works, BeginsLines, StopsLines, TakesTurn, EndsTurn, StopsTurn, EndsAll}
-use Rattle.portal_serve.specs.Played.{Running, unless_empty}
+use Rattle.portal_serve.specs.Played.{FailsTurn, Running, unless_empty}
 use Rattle.portal_serve.specs.Script.{script_lines, is_nonempty}
 use Rattle.portal_core.specs.State.{State}
 use Rattle.portal_serve.specs.Transcript.{Standing, AreDrawn, state_after, written_for}
 use Rattle.portal_serve.specs.Run.{Begins, DrawsAll, standing, Devices, Outlet, outlet_of, Stops, PlaysAll, PlaysPart}
-use Rattle.portal_serve.specs.Run.{GaveTooMuch, most_input}
-use Rattle.portal_serve.specs.Stopped.{begun_at, end_of, most_begun}
+use Rattle.portal_serve.specs.Run.{PlaysRead, GaveTooMuch, devices, most_input}
+use Rattle.portal_serve.specs.Stopped.{begun_at, end_of, most_begun, stop_for}
 use Rattle.portal_serve.specs.declared.play.PlayEnd.{PlayEnd}
 use Rattle.portal_serve.specs.declared.play.PlayEnd.TheVariants as playing
 use Rattle.portal_serve.specs.declared.play.Stop.{Stop}
@@ -132,6 +135,24 @@ stops_between most state after before reading old new bytes gives counts begun =
   few = omega arith;
   begun = begun;
 }
+
+-- input failed before a line had ended
+pub fails_between : (state after : State) (before reading : Reading) (old new : Devices) (bytes : List ℕ)
+    → Gives old.to_come bytes new.to_come → reading.given ≡ before.given + length bytes
+    → HasNoFeed (before.held ++ bytes) → BeginsLines state [] after (outlet_of old) (outlet_of new)
+    → FailsTurn state after before reading old new
+unfolding stops_between
+fails_between state after before reading old new bytes gives counts unended begun = record {
+  stops = stops_between 0 state after before reading old new bytes gives counts begun;
+  unended = unended;
+}
+
+-- what stopped for a read fault, since the reader of lines failed
+pub read_failed : {T : Type 0} (fault : LineFault) (why : Stop) → why ≡ stop_for fault
+    → (let r : Result T Stop = Err why in r) ≡ Err stop.ReadFault → fault ≡ line_fault.Failed
+read_failed line_fault.Failed why is stops = refl
+read_failed line_fault.TooMuch why is stops = absurd (cc)
+read_failed line_fault.OutOfMemory why is stops = absurd (cc)
 
 -- work on a line stopped, and with it the turn
 pub stops_turn : (most : ℕ) (state after : State) (before reading : Reading) (old new : Devices) (line : List ℕ)
@@ -298,6 +319,17 @@ plays_part most first whole old mid new state after before reading r t =
           r.works t.few t.begun.moments_drawn t.begun.nonces_drawn t.begun.begins t.begun.leaves);
     }
 
+-- Input failed in a turn, and the run stopped.
+pub plays_read : (first : State) (whole : List ℕ) (old mid new : Devices) (state after : State)
+    (before reading : Reading)
+    → Running first whole old mid state before → FailsTurn state after before reading mid new
+    → PlaysRead first whole after old new
+unfolding plays_part
+plays_read first whole old mid new state after before reading r t = record {
+  part = plays_part 0 first whole old mid new state after before reading r t.stops;
+  unended = t.unended;
+}
+
 -- No line was left, and the run is at its end.
 pub plays_all : (first : State) (whole : List ℕ) (old mid new : Devices) (state after : State)
     (before reading : Reading)
@@ -374,6 +406,13 @@ pub keeps_part : (most : ℕ) (first : State) (old mid new : Devices) (state aft
 keeps_part most first old mid new state after before reading k t whole told =
     plays_part most first whole old mid new state after before reading (k.running whole told) t
 
+pub keeps_read : (first : State) (old mid new : Devices) (state after : State) (before reading : Reading)
+    → Keeps first old mid state before
+    → FailsTurn state after before reading mid new → (whole : List ℕ) → old.to_come ≡ Some whole
+    → PlaysRead first whole after old new
+keeps_read first old mid new state after before reading k t whole told =
+    plays_read first whole old mid new state after before reading (k.running whole told) t
+
 -- how many bytes of the whole were read
 left_of_whole : (first : State) (old mid new : Devices) (state after : State) (before reading : Reading) (most : ℕ)
     → Keeps first old mid state before
@@ -444,6 +483,25 @@ cut_by_end first after old new (Err stop.TooLong) end is parts cut =
 cut_by_end first after old new (Err stop.OutOfMemory) end is parts cut =
     λ whole told. subst (λ e. PlaysPart (most_begun e) first whole after old new) (sym is) (parts whole told)
 
+-- what holds where playing stopped for a read fault
+pub read_by_end : {T : Type 0} (ended : Result T Stop) (end : PlayEnd) (P : Type 0) → end ≡ end_of ended
+    → (ended ≡ Err stop.ReadFault → P) → end ≡ playing.ReadFault → P
+read_by_end (Ok done) end P is gives read = absurd (cc)
+read_by_end (Err stop.ReadFault) end P is gives read = gives refl
+read_by_end (Err stop.WriteFault) end P is gives read = absurd (cc)
+read_by_end (Err stop.TooLong) end P is gives read = absurd (cc)
+read_by_end (Err stop.OutOfMemory) end P is gives read = absurd (cc)
+
+-- the same where output, the clock and the numbers are told under other names
+pub read_as : (first after : State) (whole : List ℕ) (old : Devices) (told : Option (List ℕ))
+    (taken taken' : Option (List ℕ)) (moments moments' : Option (List ℤ)) (nonces nonces' : Option (List ℕ))
+    → PlaysRead first whole after old (devices told taken moments nonces) → taken ≡ taken' → moments ≡ moments'
+    → nonces ≡ nonces' → PlaysRead first whole after old (devices told taken' moments' nonces')
+read_as first after whole old told taken taken' moments moments' nonces nonces' read t m n =
+    subst (λ v. PlaysRead first whole after old (devices told taken' moments' v)) n
+    (subst (λ v. PlaysRead first whole after old (devices told taken' v nonces)) m
+    (subst (λ v. PlaysRead first whole after old (devices told v moments nonces)) t read))
+
 -- the same from a state under another name
 pub all_from : (first state after : State) (whole : List ℕ) (old new : Devices) → first ≡ state
     → PlaysAll first whole after old new → PlaysAll state whole after old new
@@ -452,3 +510,7 @@ all_from first state after whole old new is all = subst (λ s. PlaysAll s whole 
 pub part_from : (most : ℕ) (first state after : State) (whole : List ℕ) (old new : Devices) → first ≡ state
     → PlaysPart most first whole after old new → PlaysPart most state whole after old new
 part_from most first state after whole old new is part = subst (λ s. PlaysPart most s whole after old new) is part
+
+pub read_from : (first state after : State) (whole : List ℕ) (old new : Devices) → first ≡ state
+    → PlaysRead first whole after old new → PlaysRead state whole after old new
+read_from first state after whole old new is read = subst (λ s. PlaysRead s whole after old new) is read

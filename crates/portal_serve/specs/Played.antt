@@ -1,6 +1,7 @@
 -- What a part of a run has done: the lines that it worked, and what passed the devices meanwhile.
 use Rattle.std.specs.Prelude.{◌≡◌, ◌⊎◌, ℕ, ◌+◌, ◌≤◌, ℤ, List, [], ◌∷◌, ◌++◌, length, filter, Some}
 use Rattle.std.specs.Str.Lines.{lines}
+use Rattle.portal_lines.specs.Drafts.{HasNoFeed}
 use Rattle.portal_lines.specs.Lines.{Reading, TakesLine, FindsEnd}
 use Rattle.portal_base.specs.Outside.{Gives, Takes, IsAtEnd}
 use Rattle.portal_serve.specs.Run.{Begins, Devices, Outlet, outlet_of, DrawsAll, standing}
@@ -77,6 +78,11 @@ pub record StopsTurn (most : ℕ) (state after : State) (before : Reading) (read
   pub ended : EndsAll front ⊎ ((ahead ≡ []) × IsAtEnd new.to_come)
   pub few : length (script_lines front) ≤ most
   pub begun : BeginsLines state (script_lines front) after (outlet_of old) (outlet_of new)
+
+-- The turn stopped where input failed: no line was begun, and none had come whole.
+pub record FailsTurn (state after : State) (before : Reading) (reading : Reading) (old new : Devices) : Type 0 where
+  pub stops : StopsTurn 0 state after before reading old new
+  pub unended : HasNoFeed stops.ahead
 
 -- The run so far on an input that tells: what was worked at the front of the whole, what is in hand and what is to
 -- come.

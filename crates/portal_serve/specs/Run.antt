@@ -2,6 +2,7 @@
 use Rattle.std.specs.Prelude.{◌≡◌, ◌⊎◌, ℕ, ℤ, ◌+◌, ◌^◌, ◌<◌, ◌≤◌, List, [], ◌++◌, length, Option, Some, IfSome}
 use Rattle.std.specs.Option.{IsSomeAnd}
 use Rattle.portal_base.specs.Outside.{Takes}
+use Rattle.portal_lines.specs.Drafts.{HasNoFeed}
 use Rattle.portal_serve.specs.Script.{script_lines}
 use Rattle.portal_core.specs.State.{State}
 use Rattle.portal_serve.specs.Transcript.{Standing, AreDrawn, state_after, written_for}
@@ -103,6 +104,12 @@ pub record PlaysPart (most : ℕ) (state : State) (whole : List ℕ) (after : St
   pub splits : passed.read ≡ front ++ ahead
   pub first_lines : script_lines whole ≡ script_lines front ++ script_lines (ahead ++ passed.rest)
   pub stops : Stops most state (script_lines front) passed.moments passed.nonces passed.written after
+
+-- The run stopped where input failed, and each line that came whole was worked: of what was read after the place no
+-- byte is a line feed.
+pub record PlaysRead (state : State) (whole : List ℕ) (after : State) (old new : Devices) : Type 0 where
+  pub part : PlaysPart 0 state whole after old new
+  pub unended : HasNoFeed part.ahead
 
 -- Input gave more than 2^40 bytes of the whole: what it still has to give is that much shorter.
 abbrev pub GaveTooMuch : List ℕ → Option (List ℕ) → Type 0

@@ -2,13 +2,14 @@
 ghost use Rattle.std.specs.Prelude.{◌≡◌, ◌≢◌, ◌⊎◌, ◌↔◌, ◌<◌, ◌≤◌, ℕ, List, [], ◌∷◌, true, false, Some, Ok, Err};
 ghost use Rattle.std.specs.Prelude.{length, IfOk, IfErr, OnOk, OnErr};
 ghost use Rattle.portal_base.specs.Outside.{Rose, Takes, TakesPrefix};
-ghost use Rattle.portal_serve.specs.Played.{WorksLines, StopsLines, TakesTurn, EndsTurn, StopsTurn, unless_empty};
+ghost use Rattle.portal_serve.specs.Played.{WorksLines, StopsLines, TakesTurn, EndsTurn, StopsTurn, FailsTurn};
+ghost use Rattle.portal_serve.specs.Played.{unless_empty};
 ghost use Rattle.portal_serve.specs.Stopped.{IsOfLine, end_of, stop_for, begun_at, most_begun};
 ghost use Rattle.portal_serve.specs.Run.{devices, with_input};
 ghost use Rattle.portal_serve.specs.Stage.{AreSameLoans, told_on};
 ghost use Rattle.portal_lines.specs.Lines.{bytes_left};
 ghost use Rattle.portal_serve.specs.Transcript.{early_line, replied_to, reply_line};
-ghost use Rattle.portal_serve.specs.Run.{PlaysAll, PlaysPart, GaveTooMuch};
+ghost use Rattle.portal_serve.specs.Run.{PlaysAll, PlaysPart, PlaysRead, GaveTooMuch};
 ghost use Rattle.portal_serve.specs.Script.{call_of_line};
 ghost use Rattle.portal_serve.specs.Seen.{asked};
 
@@ -264,6 +265,9 @@ fn play_next<S: Source, O: Sink, C: Clock, N: Nonces>(
         reader.old reader.new
         (with_input (S.to_come input.old) (told_on O.taken C.given N.given stage.old))
         (with_input (S.to_come input.new) (told_on O.taken C.given N.given stage.new))) }
+    ensures unended { result ≡ Err Stop.ReadFault → FailsTurn portal.old portal.new reader.old reader.new
+        (with_input (S.to_come input.old) (told_on O.taken C.given N.given stage.old))
+        (with_input (S.to_come input.new) (told_on O.taken C.given N.given stage.new)) }
     ensures read_fault { result ≡ Err Stop.ReadFault → Rose (S.faults input.old) (S.faults input.new) }
     ensures write_fault { result ≡ Err Stop.WriteFault
         → Rose (O.faults stage.old.output.now) (O.faults stage.new.output.now) }
@@ -302,6 +306,10 @@ fn play_lines<S: Source, O: Sink, C: Clock, N: Nonces>(
         (with_input (S.to_come input.old) (told_on O.taken C.given N.given stage.old))
         (with_input (S.to_come input.new) (told_on O.taken C.given N.given stage.new))) }
 
+    ensures unended { result ≡ Err Stop.ReadFault → (whole : List ℕ) → S.to_come input.old ≡ Some whole
+        → PlaysRead portal.old whole portal.new
+        (with_input (S.to_come input.old) (told_on O.taken C.given N.given stage.old))
+        (with_input (S.to_come input.new) (told_on O.taken C.given N.given stage.new)) }
     ensures read_fault { result ≡ Err Stop.ReadFault → Rose (S.faults input.old) (S.faults input.new) }
     ensures write_fault { result ≡ Err Stop.WriteFault
         → Rose (O.faults stage.old.output.now) (O.faults stage.new.output.now) }
@@ -350,6 +358,10 @@ fn play_on<S: Source, O: Sink, C: Clock, N: Nonces>(
         (with_input (S.to_come input.old) (told_on O.taken C.given N.given stage.old))
         (with_input (S.to_come input.new) (told_on O.taken C.given N.given stage.new)) }
 
+    ensures unended { result ≡ PlayEnd.ReadFault → (whole : List ℕ) → S.to_come input.old ≡ Some whole
+        → PlaysRead portal.old whole portal.new
+        (with_input (S.to_come input.old) (told_on O.taken C.given N.given stage.old))
+        (with_input (S.to_come input.new) (told_on O.taken C.given N.given stage.new)) }
     ensures read_fault { result ≡ PlayEnd.ReadFault → Rose (S.faults input.old) (S.faults input.new) }
     ensures write_fault { result ≡ PlayEnd.WriteFault
         → Rose (O.faults stage.old.output.now) (O.faults stage.new.output.now) }
@@ -382,6 +394,11 @@ pub fn play<S: Source, O: Sink, C: Clock, N: Nonces>(
         (devices (S.to_come input.old) (O.taken output.old) (C.given clock.old) (N.given nonces.old))
         (devices (S.to_come input.new) (O.taken output.new) (C.given clock.new) (N.given nonces.new)) }
 
+    // Where input failed, no line that came whole was left.
+    ensures unended { result ≡ PlayEnd.ReadFault → (whole : List ℕ) → S.to_come input.old ≡ Some whole
+        → PlaysRead portal.old whole portal.new
+        (devices (S.to_come input.old) (O.taken output.old) (C.given clock.old) (N.given nonces.old))
+        (devices (S.to_come input.new) (O.taken output.new) (C.given clock.new) (N.given nonces.new)) }
     ensures read_fault { result ≡ PlayEnd.ReadFault → Rose (S.faults input.old) (S.faults input.new) }
     ensures write_fault { result ≡ PlayEnd.WriteFault → Rose (O.faults output.old) (O.faults output.new) }
     ensures too_long { (whole : List ℕ) → S.to_come input.old ≡ Some whole →

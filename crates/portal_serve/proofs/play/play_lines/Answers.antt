@@ -1,7 +1,7 @@
 -- Each turn carries the run on, and the last one ends it.
 use Rattle.std.proofs.Common.{ap, Ok, ◌∙◌, arith}
-use Rattle.portal_serve.proofs.Playing.{keeps_start, keeps_turn, keeps_all, keeps_part, gave_too_much, gave_within}
-use Rattle.portal_serve.proofs.Playing.{same_err, plays_nothing}
+use Rattle.portal_serve.proofs.Playing.{keeps_start, keeps_turn, keeps_all, keeps_part, keeps_read, gave_too_much}
+use Rattle.portal_serve.proofs.Playing.{gave_within, same_err, plays_nothing}
 use Rattle.portal_serve.proofs.Staging.{same_loans, same_loans_on}
 use Rattle.portal_serve.proofs.play.play_lines.Goals as goal
 
@@ -36,6 +36,10 @@ returns-in-Ok-false-clause-done g c =
 pub returns-in-Err-play_next-clause-cut : goal.returns-in-Err-play_next-clause-cut
 returns-in-Err-play_next-clause-cut g c =
     keeps_part _ _ _ _ _ _ _ _ _ c.lines.invariant.kept c.in-Err-play_next.ensures.cut
+
+pub returns-in-Err-play_next-clause-unended : goal.returns-in-Err-play_next-clause-unended
+returns-in-Err-play_next-clause-unended g c =
+    λ is. keeps_read _ _ _ _ _ _ _ _ c.lines.invariant.kept (c.in-Err-play_next.ensures.unended (same_err _ _ is))
 
 pub returns-in-Ok-false-clause-too_long : goal.returns-in-Ok-false-clause-too_long
 returns-in-Ok-false-clause-too_long g c =

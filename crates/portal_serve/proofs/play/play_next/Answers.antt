@@ -1,8 +1,8 @@
 -- The line that was taken is the one that was worked; what stopped work on it stopped the turn.
-use Rattle.std.proofs.Common.{◌<◌, refl, ap, subst, Ok, ◌∙◌, length}
+use Rattle.std.proofs.Common.{◌<◌, refl, ap, subst, Ok, Err, ◌∙◌, length}
 use Rattle.portal_serve.proofs.Working.{works_too_long, works_lines, stops_in_writing, begins_no_line, begun_in_line}
 use Rattle.portal_serve.proofs.Working.{stops_same_line, DrawsAll-same}
-use Rattle.portal_serve.proofs.Playing.{stops_turn, stops_between}
+use Rattle.portal_serve.proofs.Playing.{stops_turn, stops_between, fails_between, read_failed}
 use Rattle.portal_serve.specs.declared.script.TheConstants.{LONGEST_LINE}
 use Rattle.portal_serve.proofs.play.play_next.Goals as goal
 
@@ -37,3 +37,10 @@ pub returns-in-Err-clause-cut : goal.returns-in-Err-clause-cut
 returns-in-Err-clause-cut g c =
     let received = c.in-Err.ensures.received in
     stops_between _ _ _ _ _ _ _ received.0 received.1 received.2 (begins_no_line _ _ _ refl)
+
+pub returns-in-Err-clause-unended : goal.returns-in-Err-clause-unended
+returns-in-Err-clause-unended g c =
+    λ stops.
+    let failed = read_failed c.in-Err.fault c.stop_of.result c.stop_of.ensures stops in
+    let received = c.next.ensures.unended (c.in-Err.is ∙ ap (λ f. Err f) failed) in
+    fails_between _ _ _ _ _ _ received.0 received.1 received.2 received.3 (begins_no_line _ _ _ refl)
