@@ -1,6 +1,6 @@
 -- How a run ends, by what its parts did.
-use Rattle.std.proofs.Common.{◌≡◌, ◌≢◌, ℕ, List, [], ◌∷◌, Some, Result, Ok, Err, OnErr, length, get_or, slice_set, subst}
-use Rattle.std.proofs.Common.{refl, arith}
+use Rattle.std.proofs.Common.{◌≡◌, ◌≢◌, ℕ, List, [], ◌∷◌, Some, Result, Ok, Err, OnErr, length, get_or, slice_set}
+use Rattle.std.proofs.Common.{refl, subst, arith}
 use Rattle.std.specs.Prelude.{◌↔◌}
 use Rattle.portal_base.specs.Outside.{Rose}
 use Rattle.portal_base.specs.declared.outside.Failed.{Failed}
@@ -9,9 +9,9 @@ use Rattle.portal_cli.specs.Run.{OfOne, Plays, Serves}
 use Rattle.portal_cli.specs.Start.{Beginning}
 use Rattle.portal_cli.specs.Status.{status_code, status_for, status_for_desk}
 use Rattle.portal_cli.specs.declared.status.Status.TheVariants.{ListenFault}
-use Rattle.portal_serve.proofs.Playing.{all_from, part_from}
+use Rattle.portal_serve.proofs.Playing.{all_from, part_from, read_from}
 use Rattle.portal_serve.specs.Desk.{DeskSight, ServesDesk}
-use Rattle.portal_serve.specs.Run.{Devices, PlaysAll, PlaysPart}
+use Rattle.portal_serve.specs.Run.{Devices, PlaysAll, PlaysPart, PlaysRead}
 use Rattle.portal_serve.specs.Served.{LinkSight}
 use Rattle.portal_serve.specs.Stopped.{most_begun}
 use Rattle.portal_serve.specs.declared.play.PlayEnd.{PlayEnd}
@@ -22,16 +22,17 @@ pub plays_by : (first state after : State) (old new : Devices) (end : PlayEnd) �
     → (end ≡ playing.Done → (whole : List ℕ) → old.to_come ≡ Some whole → PlaysAll first whole after old new)
     → (end ≢ playing.Done → (whole : List ℕ) → old.to_come ≡ Some whole
     → PlaysPart (most_begun end) first whole after old new)
+    → (end ≡ playing.ReadFault → (whole : List ℕ) → old.to_come ≡ Some whole → PlaysRead first whole after old new)
     → Plays state old new (status_for end)
-plays_by first state after old new playing.Done is all part =
+plays_by first state after old new playing.Done is all part read =
     λ whole told. (after, all_from _ _ _ _ _ _ is (all refl whole told))
-plays_by first state after old new playing.ReadFault is all part =
+plays_by first state after old new playing.ReadFault is all part read =
+    λ whole told. (after, read_from _ _ _ _ _ _ is (read refl whole told))
+plays_by first state after old new playing.WriteFault is all part read =
     λ whole told. (after, part_from _ _ _ _ _ _ _ is (part (λ e. cc) whole told))
-plays_by first state after old new playing.WriteFault is all part =
-    λ whole told. (after, part_from _ _ _ _ _ _ _ is (part (λ e. cc) whole told))
-plays_by first state after old new playing.TooLong is all part =
+plays_by first state after old new playing.TooLong is all part read =
     (λ whole told. (after, part_from _ _ _ _ _ _ _ is (part (λ e. cc) whole told)), refl)
-plays_by first state after old new playing.OutOfMemory is all part =
+plays_by first state after old new playing.OutOfMemory is all part read =
     λ whole told. (after, part_from _ _ _ _ _ _ _ is (part (λ e. cc) whole told))
 
 -- Status 9 tells that playing ended for too much input, and nothing else does.

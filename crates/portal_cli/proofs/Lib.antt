@@ -1,3 +1,4 @@
+mod Around
 pub mod Beginning
 mod Examples
 mod StreamExamples

@@ -1,4 +1,6 @@
 pub mod Door
+pub mod Host
+pub mod Location
 pub mod Run
 pub mod Start
 pub mod Status

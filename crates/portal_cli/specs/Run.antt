@@ -7,7 +7,7 @@ use Rattle.portal_cli.specs.declared.status.Status.{Status}
 use Rattle.portal_cli.specs.declared.status.Status.TheVariants.{Done, Words, ReadFault, WriteFault, OutOfMemory}
 use Rattle.portal_cli.specs.declared.status.Status.TheVariants.{PortalFile, FetchFault, DataFault, ListenFault}
 use Rattle.portal_serve.specs.Desk.{DeskSight, ServesDesk}
-use Rattle.portal_serve.specs.Run.{Devices, PlaysAll, PlaysPart}
+use Rattle.portal_serve.specs.Run.{Devices, PlaysAll, PlaysPart, PlaysRead}
 use Rattle.portal_serve.specs.Served.{LinkSight}
 use Rattle.portal_words.specs.declared.command.Command.{Command}
 use Rattle.portal_words.specs.declared.command.Command.TheVariants.{Play, Serve}
@@ -33,11 +33,17 @@ abbrev pub PlaysToPlace : ℕ → State → Devices → Devices → Type 0
 PlaysToPlace most state old new =
     (whole : List ℕ) → old.to_come ≡ Some whole → (after : State) × PlaysPart most state whole after old new
 
+-- The script on input was played as far as it came before input failed, where input tells: each line that came whole
+-- was worked.
+abbrev pub PlaysToFault : State → Devices → Devices → Type 0
+PlaysToFault state old new =
+    (whole : List ℕ) → old.to_come ≡ Some whole → (after : State) × PlaysRead state whole after old new
+
 -- What a run of `play` did from a state, by its status. Input fails, or passes its most, between two lines.
 abbrev pub Plays : State → Devices → Devices → Status → Type 0
 Plays state old new Done = PlaysToEnd state old new
 Plays state old new Words = ⊥
-Plays state old new ReadFault = PlaysToPlace 0 state old new
+Plays state old new ReadFault = PlaysToFault state old new
 Plays state old new WriteFault = PlaysToPlace 1 state old new
 Plays state old new OutOfMemory = PlaysToPlace 1 state old new
 Plays state old new (PortalFile text) = ⊥

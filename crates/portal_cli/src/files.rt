@@ -1,5 +1,8 @@
 //! Locations of the host: its files.
-ghost use Rattle.std.specs.Prelude.{◌≡◌, ◌≤◌, length, IfOk};
+ghost use Rattle.std.specs.Prelude.{◌≡◌, ◌≢◌, ◌≤◌, ◌==◌, length, position, true, Err, IfOk, IsErrOf};
+ghost use Rattle.std.specs.List.{list_all};
+ghost use Rattle.portal_base.specs.Outside.{Rose};
+ghost use Rattle.portal_cli.specs.Location.{begins_with_letter, has_scheme, is_scheme, is_scheme_byte};
 
 use portal_base::outside::{FetchFault, Fetcher};
 use std::alloc::Global;
@@ -33,18 +36,49 @@ impl<R: Files> HostFetcher<R> {
     }
 }
 
-/// Whether the location begins with a scheme and a colon (RFC 3986, section 3.1).
-fn has_scheme(location: &str) -> bool {
-    let Some((scheme, _rest)) = location.split_once(':') else {
-        return false;
-    };
-    let bytes = scheme.as_bytes();
+fn is_scheme_byte(byte: u8) -> bool
+    ensures { result ≡ is_scheme_byte byte }
+{
+    byte.is_ascii_alphanumeric() || byte == b'+' || byte == b'-' || byte == b'.'
+}
+
+fn has_scheme_bytes_alone(bytes: &[u8]) -> bool
+    ensures { result ≡ list_all is_scheme_byte bytes.now }
+{
+    bytes.iter().all(|byte| is_scheme_byte(*byte))
+}
+
+fn begins_with_letter(bytes: &[u8]) -> bool
+    ensures { result ≡ begins_with_letter bytes.now }
+{
     match bytes.first() {
-        Some(first) if first.is_ascii_alphabetic() => bytes.iter().all(|b| b.is_ascii_alphanumeric()
-            || *b == b'+'
-            || *b == b'-'
-            || *b == b'.'),
-        _ => false,
+        Some(first) => first.is_ascii_alphabetic(),
+        None => false,
+    }
+}
+
+/// Whether the bytes are a scheme (RFC 3986, section 3.1).
+fn is_scheme(bytes: &[u8]) -> bool
+    ensures { result ≡ is_scheme bytes.now }
+{
+    begins_with_letter(bytes) && has_scheme_bytes_alone(bytes)
+}
+
+/// The place of the first colon.
+fn find_colon(bytes: &[u8]) -> Option<usize>
+    ensures { result ≡ position (λ b. b == 58) bytes.now }
+{
+    bytes.iter().position(|byte| *byte == b':')
+}
+
+/// Whether the location begins with a scheme and a colon.
+fn has_scheme(location: &str) -> bool
+    ensures { result ≡ has_scheme location.now }
+{
+    let bytes = location.as_bytes();
+    match find_colon(bytes) {
+        Some(place) => is_scheme(&bytes[..place]),
+        None => false,
     }
 }
 
@@ -91,12 +125,13 @@ impl<R: Files> Fetcher for HostFetcher<R> {
 
     ghost faults = { λ count. count };
 
-    fn fetch(
-        &mut self,
-        alloc: Global,
-        location: &str,
-        limit: usize,
-    ) -> Result<Vec<u8>, FetchFault> {
+    fn fetch(&mut self, alloc: Global, location: &str, limit: usize) -> Result<Vec<u8>, FetchFault>
+        ensures within { IfOk result (λ bytes. length bytes.items ≤ limit) }
+        ensures failed { IsErrOf result FetchFault.Failed → Rose self.old self.new }
+        ensures counts { self.old ≤ self.new }
+        ensures scheme { has_scheme location.now ≡ true → result ≡ Err FetchFault.Missing }
+        ensures quiet { result ≢ Err FetchFault.Failed → self.new ≡ self.old }
+    {
         if has_scheme(location) {
             return Err(FetchFault::Missing);
         }

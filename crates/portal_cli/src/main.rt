@@ -3,7 +3,12 @@
 //! error.
 #![tactic(auto)]
 
-ghost use Rattle.std.specs.Prelude.{◌≡◌, false, length, All, IfOk};
+ghost use Rattle.std.specs.Prelude.{◌≡◌, ◌≢◌, [], ◌∷◌, false, map, string_bytes, All, Ok, IfOk, OnErr};
+ghost use Rattle.std.specs.Char.{is_ascii_digit};
+ghost use Rattle.std.specs.List.{list_all};
+ghost use Rattle.portal_words.specs.Commands.{command_of};
+ghost use Rattle.portal_cli.specs.Host.{is_port_number, is_serve, port_in, port_number, TellsWords};
+ghost use Rattle.portal_cli.specs.Status.{status_line, TakesOrFails};
 
 pub mod files;
 pub mod net;
@@ -68,15 +73,38 @@ fn is_real(rt: &(impl env::Env + Alloc<A = Global>)) -> Result<bool, Status> {
     }
 }
 
-/// The port that a text of 1 to 5 decimal digits names, but for 0.
-fn port_in(text: &str) -> Option<u16> {
-    if text.len() > 5 || !text.bytes().all(|b| b.is_ascii_digit()) {
+fn has_digits_alone(bytes: &[u8]) -> bool
+    ensures { result ≡ list_all is_ascii_digit bytes.now }
+{
+    bytes.iter().all(|byte| byte.is_ascii_digit())
+}
+
+/// Whether the text is 1 to 5 digits.
+fn is_port_number(text: &str) -> bool
+    ensures { result ≡ is_port_number text.now }
+{
+    !text.is_empty() && text.len() <= 5 && has_digits_alone(text.as_bytes())
+}
+
+/// The number that 1 to 5 digits spell.
+fn port_number(text: &str) -> Option<u64>
+    ensures { result ≡ port_number text.now }
+{
+    if !is_port_number(text) {
         return None;
     }
-    match text.parse() {
-        Ok(0) => None,
-        Ok(port) => Some(port),
-        Err(_) => None,
+    text.parse::<u64>().ok()
+}
+
+/// The port that a text of 1 to 5 decimal digits names, but for 0.
+fn port_in(text: &str) -> Option<u16>
+    ensures { result ≡ port_in text.now }
+{
+    let number = port_number(text)?;
+    if 0 < number && number <= 65_535 {
+        Some(number as u16)
+    } else {
+        None
     }
 }
 
@@ -89,7 +117,9 @@ fn port(rt: &(impl env::Env + Alloc<A = Global>)) -> Result<u16, Status> {
 }
 
 /// Whether the first word is `serve`, which listens and works in real time.
-fn is_serve(words: &[String]) -> bool {
+fn is_serve(words: &[String]) -> bool
+    ensures { result ≡ is_serve (map string_bytes words.now) }
+{
     match words.first() {
         Some(word) => word.as_str() == "serve",
         None => false,
@@ -118,7 +148,7 @@ fn one_desk<L: Listener + Drop, C: Drop, N: Drop>(
     desk: Desk<L, C, N>,
 ) -> Result<Vec<Desk<L, C, N>>, AllocError>
     requires { L.is_out desk.listener ≡ false }
-    ensures one { IfOk result (λ desks. length desks.items ≡ 1) }
+    ensures alone { IfOk result (λ desks. desks.items ≡ desk ∷ []) }
     ensures home { IfOk result (λ desks. All (λ desk. L.is_out desk.listener ≡ false) desks.items) }
 {
     let mut desks = Vec::new(alloc);
@@ -136,6 +166,10 @@ fn run_over<E: Sink, C: Clock + Drop, N: Nonces + Drop>(
     nonces: &mut N,
 ) -> Status
     requires { desk.listener.is_out ≡ false }
+    ensures words { TellsWords (command_of (map string_bytes words.now)) result }
+    ensures line { TakesOrFails (E.taken faults.old) (E.faults faults.old) (status_line result)
+        (E.taken faults.new) (E.faults faults.new) }
+    ensures silent { result ≡ Status.Done → faults.new ≡ faults.old }
 {
     let alloc = rt.alloc();
     let Ok(mut desks) = one_desk(alloc, desk) else {
@@ -158,7 +192,10 @@ fn run_over<E: Sink, C: Clock + Drop, N: Nonces + Drop>(
 }
 
 /// The status where the host gives no random numbers. Faulty words come first among the causes.
-fn without_numbers(alloc: Global, words: &[String]) -> Status {
+fn without_numbers(alloc: Global, words: &[String]) -> Status
+    ensures words { TellsWords (command_of (map string_bytes words.now)) result }
+    ensures fault { result ≢ Status.Done }
+{
     match Command::read(alloc, words) {
         Ok(_command) => Status::ReadFault,
         Err(WordsFault::BadWords) => Status::Words,
@@ -167,7 +204,13 @@ fn without_numbers(alloc: Global, words: &[String]) -> Status {
 }
 
 /// Runs with the host's clock and random numbers. An `Err` hasn't been told.
-fn run_real<E: Sink>(rt: &HostRuntime, words: &[String], faults: &mut E) -> Result<Status, Status> {
+fn run_real<E: Sink>(rt: &HostRuntime, words: &[String], faults: &mut E) -> Result<Status, Status>
+    ensures words { IfOk result (TellsWords (command_of (map string_bytes words.now))) }
+    ensures line { IfOk result (λ status. TakesOrFails (E.taken faults.old) (E.faults faults.old)
+        (status_line status) (E.taken faults.new) (E.faults faults.new)) }
+    ensures silent { result ≡ Ok Status.Done → faults.new ≡ faults.old }
+    ensures untold { OnErr result (faults.new ≡ faults.old) }
+{
     let (Some(seed), Some(desk_seed)) = (random_seed(rt), random_seed(rt)) else {
         return Err(without_numbers(rt.alloc(), words));
     };
@@ -187,7 +230,12 @@ fn run_real<E: Sink>(rt: &HostRuntime, words: &[String], faults: &mut E) -> Resu
 }
 
 /// Runs with a clock and numbers that count.
-fn run_counted<E: Sink>(rt: &HostRuntime, words: &[String], faults: &mut E) -> Status {
+fn run_counted<E: Sink>(rt: &HostRuntime, words: &[String], faults: &mut E) -> Status
+    ensures words { TellsWords (command_of (map string_bytes words.now)) result }
+    ensures line { TakesOrFails (E.taken faults.old) (E.faults faults.old) (status_line result)
+        (E.taken faults.new) (E.faults faults.new) }
+    ensures silent { result ≡ Status.Done → faults.new ≡ faults.old }
+{
     let desk = Desk {
         listener: TcpDoor::new(rt, None),
         clock: ScriptClock::new(),
@@ -204,7 +252,12 @@ fn run_counted<E: Sink>(rt: &HostRuntime, words: &[String], faults: &mut E) -> S
 }
 
 /// Runs the words of the command line, in the time that they and the environment ask for. An `Err` hasn't been told.
-fn run_words<E: Sink>(rt: &HostRuntime, faults: &mut E) -> Result<Status, Status> {
+fn run_words<E: Sink>(rt: &HostRuntime, faults: &mut E) -> Result<Status, Status>
+    ensures line { IfOk result (λ status. TakesOrFails (E.taken faults.old) (E.faults faults.old)
+        (status_line status) (E.taken faults.new) (E.faults faults.new)) }
+    ensures silent { result ≡ Ok Status.Done → faults.new ≡ faults.old }
+    ensures untold { OnErr result (faults.new ≡ faults.old) }
+{
     let words = words(rt)?;
     if is_serve(words.as_slice()) || is_real(rt)? {
         return run_real(rt, words.as_slice(), faults);

@@ -1,6 +1,6 @@
 //! The program's call: the words say a command, which is carried out over the devices. How the run ended is told by a
 //! line on `faults`.
-ghost use Rattle.std.specs.Prelude.{◌≡◌, ◌↔◌, ℕ, List, Some, None, false, length, map, string_bytes, All};
+ghost use Rattle.std.specs.Prelude.{◌≡◌, ◌⊎◌, ◌↔◌, ℕ, List, Some, None, false, length, map, string_bytes, All};
 ghost use Rattle.portal_base.specs.Outside.{Rose};
 ghost use Rattle.portal_words.specs.Commands.{command_of};
 ghost use Rattle.portal_cli.specs.Run.{OfOne, Plays, PlaysNone, Runs, Serves, ServesNone, portal_of, sight_of};
@@ -34,6 +34,7 @@ fn play_from<S: Source, O: Sink, F: Fetcher, C: Clock, N: Nonces>(
         (devices (S.to_come input.new) (O.taken output.new) (C.given clock.new) (N.given nonces.new)) result)
         ((devices (S.to_come input.new) (O.taken output.new) (C.given clock.new) (N.given nonces.new))
         ≡ (devices (S.to_come input.old) (O.taken output.old) (C.given clock.old) (N.given nonces.old))) }
+    ensures no_file { options.now.portal ≡ None → fetcher.new ≡ fetcher.old }
     ensures read_fault { result ≡ Status.ReadFault → Rose (S.faults input.old) (S.faults input.new) }
     ensures write_fault { result ≡ Status.WriteFault → Rose (O.faults output.old) (O.faults output.new) }
     ensures too_much { (whole : List ℕ) → S.to_come input.old ≡ Some whole →
@@ -68,6 +69,7 @@ fn serve_from<F: Fetcher, L: Listener, C: Clock, N: Nonces>(
         ≡ (desk_sight (L.to_come desk.old.listener) (L.taken_back desk.old.listener) (L.count desk.old.listener)
         (L.is_at_end desk.old.listener) (L.faults desk.old.listener) (C.given desk.old.clock)
         (N.given desk.old.nonces))) }
+    ensures no_file { options.now.portal ≡ None → fetcher.new ≡ fetcher.old }
     ensures listen_fault { result ≡ Status.ListenFault →
         Rose (L.faults desk.old.listener) (L.faults desk.new.listener) }
 {
@@ -91,6 +93,8 @@ fn carry_out<S: Source, O: Sink, F: Fetcher, L: Listener, C: Clock, N: Nonces>(
     requires home { L.is_out desk.old.listener ≡ false }
     ensures home { L.is_out desk.new.listener ≡ false }
     ensures words { result ≡ Status.Words → command_of (map string_bytes words.now) ≡ None }
+    ensures no_command { command_of (map string_bytes words.now) ≡ None →
+        (result ≡ Status.Words) ⊎ (result ≡ Status.OutOfMemory) }
     ensures runs { Runs (λ peer. link_sight (L.Peer.to_come peer) (L.Peer.taken peer) (L.Peer.faults peer))
         (command_of (map string_bytes words.now))
         (fetching (F.held fetcher.old) (F.faults fetcher.old) (F.faults fetcher.new))
@@ -108,7 +112,7 @@ fn carry_out<S: Source, O: Sink, F: Fetcher, L: Listener, C: Clock, N: Nonces>(
     ensures no_script { PlaysNone (command_of (map string_bytes words.now)) →
         (input.new ≡ input.old) × (output.new ≡ output.old) × (clock.new ≡ clock.old) × (nonces.new ≡ nonces.old) }
     ensures no_links { ServesNone (command_of (map string_bytes words.now)) → desk.new ≡ desk.old }
-    ensures no_file { command_of (map string_bytes words.now) ≡ None → fetcher.new ≡ fetcher.old }
+    ensures no_file { portal_of (command_of (map string_bytes words.now)) ≡ None → fetcher.new ≡ fetcher.old }
     ensures read_fault { result ≡ Status.ReadFault → Rose (S.faults input.old) (S.faults input.new) }
     ensures write_fault { result ≡ Status.WriteFault → Rose (O.faults output.old) (O.faults output.new) }
     ensures listen_fault { result ≡ Status.ListenFault →
@@ -149,6 +153,8 @@ pub fn run<S: Source, O: Sink, E: Sink, F: Fetcher, L: Listener, C: Clock, N: No
 
     // Status 2 comes exactly where the words say no command, but for want of memory, and then nothing is touched.
     ensures words { result ≡ Status.Words → command_of (map string_bytes words.now) ≡ None }
+    ensures no_command { command_of (map string_bytes words.now) ≡ None →
+        (result ≡ Status.Words) ⊎ (result ≡ Status.OutOfMemory) }
     // What was played or served, by the command and the status: from which portal, or why from none; what was read,
     // written and drawn; each link that came, was served and was given back, `--links` of them at most.
     ensures runs { OfOne fetchers.old.items fetchers.new.items (λ before after.
@@ -166,11 +172,12 @@ pub fn run<S: Source, O: Sink, E: Sink, F: Fetcher, L: Listener, C: Clock, N: No
     ensures rule { OfOne fetchers.old.items fetchers.new.items (λ before after.
         TellsRule (fetching (F.held before) (F.faults before) (F.faults after))
         (portal_of (command_of (map string_bytes words.now))) result) }
-    // What the command doesn't use stays as it was.
+    // What the words don't ask for stays as it was: the fetcher, where they name no portal file.
     ensures no_script { PlaysNone (command_of (map string_bytes words.now)) →
         (input.new ≡ input.old) × (output.new ≡ output.old) × (clock.new ≡ clock.old) × (nonces.new ≡ nonces.old) }
     ensures no_links { ServesNone (command_of (map string_bytes words.now)) → desks.new.items ≡ desks.old.items }
-    ensures no_file { command_of (map string_bytes words.now) ≡ None → fetchers.new.items ≡ fetchers.old.items }
+    ensures no_file { portal_of (command_of (map string_bytes words.now)) ≡ None
+        → fetchers.new.items ≡ fetchers.old.items }
 
     // Every status but 0 writes its one line, whole unless `faults` fails. Status 0 leaves `faults` alone.
     ensures line { TakesOrFails (E.taken faults.old) (E.faults faults.old) (status_line result)

@@ -1,5 +1,5 @@
 //! What a run begins with: the stated portal, or that of a portal file. Here a portal is what it is opened with.
-ghost use Rattle.std.specs.Prelude.{◌≡◌, ◌⊎◌, ◌++◌, ◌≤◌, codes, Some, Ok, IsTrue, IfOk, IfErr};
+ghost use Rattle.std.specs.Prelude.{◌≡◌, ◌⊎◌, ◌++◌, ◌≤◌, codes, Some, None, Ok, IsTrue, IfOk, IfErr};
 ghost use Rattle.org_roles.specs.Distinct.{have_distinct_names, have_distinct_org_names, have_distinct_pairs};
 ghost use Rattle.portal_core.specs.Opened.{is_opening};
 ghost use Rattle.portal_file.specs.Opening.{are_housed, are_named};
@@ -140,6 +140,7 @@ pub fn start_of<F: Fetcher>(
     ensures opening { IfOk result (λ start. IsTrue (is_opening start.opening)) }
     ensures not { IfErr result (BeginsNot
         (fetching (F.held fetcher.old) (F.faults fetcher.old) (F.faults fetcher.new)) portal.now) }
+    ensures no_file { portal.now ≡ None → fetcher.new ≡ fetcher.old }
 {
     match portal {
         Some(location) => of_file(alloc, fetcher, location.as_str()),

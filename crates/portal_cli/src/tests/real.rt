@@ -70,6 +70,11 @@ const STREAM_OF_ZEROS: [u128; 18] = [
     0x3be01ee5_2af8a91c_db3e17ca_4793728b,
 ];
 
+const COUNTED_BYTES: [u8; 32] = [
+    0, 1, 2, 3, 4, 5, 6, 7, 8, 9, 10, 11, 12, 13, 14, 15, 16, 17, 18, 19, 20, 21, 22, 23, 24, 25,
+    26, 27, 28, 29, 30, 31,
+];
+
 /// The first numbers for the key of the bytes 0 to 31, as OpenSSL writes that stream.
 const STREAM_OF_COUNTED_BYTES: [u128; 4] = [
     0x7d2bfd39_6a19c5d9_7703bd8d_494adcb8,
@@ -84,9 +89,7 @@ fn numbers_are_the_key_stream(rt: HostRuntime) {
     for wanted in STREAM_OF_ZEROS {
         assert_eq!(rt; nonces.next().0, wanted);
     }
-    let mut nonces = ChaChaNonces::from_seed(
-        *b"\x00\x01\x02\x03\x04\x05\x06\x07\x08\x09\x0a\x0b\x0c\x0d\x0e\x0f\x10\x11\x12\x13\x14\x15\x16\x17\x18\x19\x1a\x1b\x1c\x1d\x1e\x1f",
-    );
+    let mut nonces = ChaChaNonces::from_seed(COUNTED_BYTES);
     for wanted in STREAM_OF_COUNTED_BYTES {
         assert_eq!(rt; nonces.next().0, wanted);
     }

@@ -7,7 +7,8 @@ use Rattle.portal_cli.proofs.work.play_script.Goals as goal
 pub returns-in-Ok-clause-plays : goal.returns-in-Ok-clause-plays
 returns-in-Ok-clause-plays g c =
     rw c.status_of.ensures
-    (plays_by _ _ _ _ _ c.play.result c.in-Ok.ensures c.play.ensures.done c.play.ensures.cut)
+    (plays_by _ _ _ _ _ c.play.result c.in-Ok.ensures c.play.ensures.done c.play.ensures.cut
+    c.play.ensures.unended)
 
 pub returns-in-Ok-clause-too_much : goal.returns-in-Ok-clause-too_much
 returns-in-Ok-clause-too_much g c =
