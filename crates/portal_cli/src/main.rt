@@ -3,7 +3,8 @@
 //! error.
 #![tactic(auto)]
 
-ghost use Rattle.std.specs.Prelude.{◌≡◌, ◌≢◌, [], ◌∷◌, false, map, string_bytes, All, Ok, IfOk, OnErr};
+ghost use Rattle.std.specs.Prelude.{◌≡◌, ◌≢◌, ◌⊎◌, [], ◌∷◌, false, map, string_bytes, All, Ok, None};
+ghost use Rattle.std.specs.Prelude.{IfOk, IfErr, OnErr};
 ghost use Rattle.std.specs.Char.{is_ascii_digit};
 ghost use Rattle.std.specs.List.{list_all};
 ghost use Rattle.portal_words.specs.Commands.{command_of};
@@ -39,7 +40,9 @@ use std::{env, io};
 const DEFAULT_PORT: u16 = 5_000;
 
 /// The words after the program's name. One that isn't UTF-8 is no word of the program.
-fn words(rt: &(impl env::Env + Alloc<A = Global>)) -> Result<Vec<String>, Status> {
+fn words(rt: &(impl env::Env + Alloc<A = Global>)) -> Result<Vec<String>, Status>
+    ensures fault { IfErr result (λ status. (status ≡ Status.Words) ⊎ (status ≡ Status.OutOfMemory)) }
+{
     let mut words = Vec::new(rt.alloc());
     match env::args(rt) {
         Ok(args) => for word in args.skip(1) {
@@ -54,10 +57,9 @@ fn words(rt: &(impl env::Env + Alloc<A = Global>)) -> Result<Vec<String>, Status
 }
 
 /// The text of a variable of the environment, if there is one.
-fn variable(
-    rt: &(impl env::Env + Alloc<A = Global>),
-    name: &str,
-) -> Result<Option<String>, Status> {
+fn variable(rt: &(impl env::Env + Alloc<A = Global>), name: &str) -> Result<Option<String>, Status>
+    ensures fault { IfErr result (λ status. status ≡ Status.OutOfMemory) }
+{
     match env::var(rt, name) {
         Ok(value) => Ok(Some(value)),
         Err(env::VarError::OutOfMemory) => Err(Status::OutOfMemory),
@@ -66,7 +68,9 @@ fn variable(
 }
 
 /// Whether the environment asks for real time: `PORTAL_TIME` is there and is `real`.
-fn is_real(rt: &(impl env::Env + Alloc<A = Global>)) -> Result<bool, Status> {
+fn is_real(rt: &(impl env::Env + Alloc<A = Global>)) -> Result<bool, Status>
+    ensures fault { IfErr result (λ status. status ≡ Status.OutOfMemory) }
+{
     match variable(rt, "PORTAL_TIME")? {
         Some(value) => Ok(value.as_str() == "real"),
         None => Ok(false),
@@ -109,7 +113,9 @@ fn port_in(text: &str) -> Option<u16>
 }
 
 /// The port that `PORTAL_PORT` names, and 5000 where it names none.
-fn port(rt: &(impl env::Env + Alloc<A = Global>)) -> Result<u16, Status> {
+fn port(rt: &(impl env::Env + Alloc<A = Global>)) -> Result<u16, Status>
+    ensures fault { IfErr result (λ status. status ≡ Status.OutOfMemory) }
+{
     match variable(rt, "PORTAL_PORT")? {
         Some(value) => Ok(port_in(value.as_str()).unwrap_or(DEFAULT_PORT)),
         None => Ok(DEFAULT_PORT),
@@ -127,7 +133,10 @@ fn is_serve(words: &[String]) -> bool
 }
 
 /// A listener on this machine alone, where the words ask for one and the host has the port free.
-fn listener(rt: &HostRuntime, words: &[String]) -> Result<Option<TcpListener>, Status> {
+fn listener(rt: &HostRuntime, words: &[String]) -> Result<Option<TcpListener>, Status>
+    ensures unasked { is_serve (map string_bytes words.now) ≡ false → result ≡ Ok None }
+    ensures fault { IfErr result (λ status. status ≡ Status.OutOfMemory) }
+{
     if !is_serve(words) {
         return Ok(None);
     }
@@ -206,6 +215,8 @@ fn without_numbers(alloc: Global, words: &[String]) -> Status
 /// Runs with the host's clock and random numbers. An `Err` hasn't been told.
 fn run_real<E: Sink>(rt: &HostRuntime, words: &[String], faults: &mut E) -> Result<Status, Status>
     ensures words { IfOk result (TellsWords (command_of (map string_bytes words.now))) }
+    ensures untold_words { IfErr result (TellsWords (command_of (map string_bytes words.now))) }
+    ensures fault { IfErr result (λ status. status ≢ Status.Done) }
     ensures line { IfOk result (λ status. TakesOrFails (E.taken faults.old) (E.faults faults.old)
         (status_line status) (E.taken faults.new) (E.faults faults.new)) }
     ensures silent { result ≡ Ok Status.Done → faults.new ≡ faults.old }
@@ -253,6 +264,7 @@ fn run_counted<E: Sink>(rt: &HostRuntime, words: &[String], faults: &mut E) -> S
 
 /// Runs the words of the command line, in the time that they and the environment ask for. An `Err` hasn't been told.
 fn run_words<E: Sink>(rt: &HostRuntime, faults: &mut E) -> Result<Status, Status>
+    ensures fault { IfErr result (λ status. status ≢ Status.Done) }
     ensures line { IfOk result (λ status. TakesOrFails (E.taken faults.old) (E.faults faults.old)
         (status_line status) (E.taken faults.new) (E.faults faults.new)) }
     ensures silent { result ≡ Ok Status.Done → faults.new ≡ faults.old }
