@@ -4,6 +4,7 @@ pub mod Faults
 pub mod Header
 pub mod Laws
 pub mod Loading
+pub mod Messages
 pub mod Pieces
 pub mod Places
 pub mod Reading

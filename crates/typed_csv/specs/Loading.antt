@@ -1,6 +1,7 @@
 -- What a loader has in hand, and what its calls answer.
 use Rattle.std.specs.Prelude.{◌≡◌, ◌⊎◌, ◌≤◌, ◌^◌, ℕ, ◌+◌, List, [], ◌∷◌, ⊤, Option, Some, None, option_map}
 use Rattle.std.specs.Prelude.{IsSome, IfSome, MatchOption, Result, Ok, Err}
+use Rattle.portal_base.specs.Outside.{IsAtEnd}
 use Rattle.table_schema.specs.Field.{FieldValue}
 use Rattle.table_schema.specs.declared.cell.Cell.{Cell}
 use Rattle.typed_csv.specs.declared.fault.LoadFault.{LoadFault}
@@ -29,6 +30,16 @@ pub record Loading (S : Type 0) : Type 0 where
 abbrev pub IsWithin : Stage → ℕ → Type 0
 IsWithin stage.Spent given = ⊤
 IsWithin other given = given ≤ 2 ^ 40
+
+-- One that is ended stands at the end of its source.
+abbrev pub IsAtLast : Stage → Option (List ℕ) → Type 0
+IsAtLast stage.Ended told = IsAtEnd told
+IsAtLast other told = ⊤
+
+-- What holds of each loader: how much it was given, and what is told of its source at the end.
+pub record IsSteady (stage : Stage) (given : ℕ) (told : Option (List ℕ)) : Type 0 where
+  pub within : IsWithin stage given
+  pub at_last : IsAtLast stage told
 
 -- What is ahead is told where the source tells: no row at the end, and of a loader that is spent that it is.
 abbrev pub IsTold : Stage → Option (List ℕ) → Option Rows → Type 0

@@ -1,7 +1,7 @@
 //! The loader: the rows of a source, one after the other.
 ghost use Rattle.std.specs.Prelude.{◌≡◌, ◌↔◌, ◌≢◌, ◌<◌, ◌≤◌, ◌^◌, ℕ, List, length, Ok, Err, None, All, IfOk, IfErr};
 ghost use Rattle.std.specs.Prelude.{IfSome};
-ghost use Rattle.portal_base.specs.Outside.{Gives, Rose};
+ghost use Rattle.portal_base.specs.Outside.{Gives, IsAtEnd, Rose};
 ghost use Rattle.table_schema.specs.Printed.{IsValue};
 ghost use Rattle.typed_csv.specs.Calls.{RefusesRecords, TakesHeader};
 ghost use Rattle.typed_csv.specs.Loading.{Answers, Begins, IsGiven, IsHeaderFault, IsLayout, IsOfSameFile, IsRow};
@@ -43,7 +43,7 @@ pub struct Loader<S: Source> {
 
 impl<S: Source> Model for Loader<S> {
     ghost use Rattle.typed_csv.specs.Calls.{rows_ahead};
-    ghost use Rattle.typed_csv.specs.Loading.{IsWithin, Loading};
+    ghost use Rattle.typed_csv.specs.Loading.{IsSteady, Loading};
 
     ghost Value = { Loading S };
 
@@ -57,7 +57,7 @@ impl<S: Source> Model for Loader<S> {
       ahead = rows_ahead S.to_come l.stage l.rows;
     } };
 
-    ghost invariant = { λ l. IsWithin l.stage l.rows.records.given };
+    ghost invariant = { λ l. IsSteady l.stage l.rows.records.given (S.to_come l.rows.records.source) };
 }
 
 impl<S: Source> Loader<S> {
@@ -74,6 +74,7 @@ impl<S: Source> Loader<S> {
             × Gives (S.to_come source) bytes (S.to_come loader.source)
             × (loader.given ≡ length bytes) × (length bytes ≤ 2 ^ 40)) }
         ensures counts { IfOk result (λ loader. S.faults source ≤ S.faults loader.source) }
+        ensures loan { IfOk result (λ loader. S.loan loader.source ≡ S.loan source) }
 
         ensures refused { IfErr result (λ back. RefusesHeader schema.fields (S.to_come source) back.0) }
         ensures cause { IfErr result (λ back. IsHeaderFault schema.fields back.0) }
@@ -82,6 +83,7 @@ impl<S: Source> Loader<S> {
         ensures failed { IfErr result
             (λ back. back.0 ≡ LoadFault.ReadFault → Rose (S.faults source) (S.faults back.1)) }
         ensures counted { IfErr result (λ back. S.faults source ≤ S.faults back.1) }
+        ensures lent { IfErr result (λ back. S.loan back.1 ≡ S.loan source) }
     {
         let mut records = RecordReader::new(alloc, source);
         let mut row = StringRecord::new(alloc);
@@ -115,12 +117,14 @@ impl<S: Source> Loader<S> {
         ensures number { self.new.number ≡ number_after self.old.number result }
         ensures spent { (result ≡ Err LoadFault.Spent) ↔ (self.old.stage ≡ Stage.Spent) }
         ensures stage { self.new.stage ≡ stage_after result }
+        ensures at_end { result ≡ Ok None → IsAtEnd (S.to_come self.new.source) }
         ensures ended { self.old.stage ≡ Stage.Ended → result ≡ Ok None }
         ensures still { self.old.stage ≢ Stage.Reading → self.new ≡ self.old }
         ensures kept { IsOfSameFile self.old self.new }
         ensures received { IsGiven S.to_come self.old self.new }
         ensures failed { result ≡ Err LoadFault.ReadFault → Rose (S.faults self.old.source) (S.faults self.new.source) }
         ensures counts { S.faults self.old.source ≤ S.faults self.new.source }
+        ensures loan { S.loan self.new.source ≡ S.loan self.old.source }
         ensures much { result ≢ Err LoadFault.Spent → ((result ≡ Err LoadFault.TooLong) ↔ (2 ^ 40 < self.new.given)) }
     {
         match self.stage {
@@ -162,6 +166,7 @@ fn read_header<S: Source>(
     ensures failed { result ≡ Err LoadFault.ReadFault
         → Rose (S.faults records.old.source) (S.faults records.new.source) }
     ensures counts { S.faults records.old.source ≤ S.faults records.new.source }
+    ensures loan { S.loan records.new.source ≡ S.loan records.old.source }
     ensures much { (result ≡ Err LoadFault.TooLong) ↔ (2 ^ 40 < records.new.given) }
 {
     match records.next(row)? {

@@ -92,12 +92,14 @@ impl<S: Source> RecordReader<S> {
         ensures text { result ≡ Ok Next.Record → is_text (fields_of row.new) ≡ true }
         ensures bytes { result ≡ Ok Next.NotText → BeginsNotText (records_ahead S.to_come self.old) }
         ensures end { result ≡ Ok Next.End → IsNoneLeft (records_ahead S.to_come self.old) }
+        ensures at_end { result ≡ Ok Next.End → IsAtEnd (S.to_come self.new.source) }
         ensures held { IsHeldBack self.old.is_fresh self.old.held
             → OnOk result (IsHeldBack self.new.is_fresh self.new.held) }
         ensures received { Receives S.to_come self.old self.new }
         ensures fault { IfErr result IsOutside }
         ensures failed { result ≡ Err LoadFault.ReadFault → Rose (S.faults self.old.source) (S.faults self.new.source) }
         ensures counts { S.faults self.old.source ≤ S.faults self.new.source }
+        ensures loan { S.loan self.new.source ≡ S.loan self.old.source }
         ensures much { (result ≡ Err LoadFault.TooLong) ↔ (2 ^ 40 < self.new.given) }
     {
         if self.given > MOST_BYTES {
@@ -127,6 +129,7 @@ impl<S: Source> RecordReader<S> {
         ensures fault { IfErr result IsOutside }
         ensures failed { result ≡ Err LoadFault.ReadFault → Rose (S.faults self.old.source) (S.faults self.new.source) }
         ensures counts { S.faults self.old.source ≤ S.faults self.new.source }
+        ensures loan { S.loan self.new.source ≡ S.loan self.old.source }
         ensures much { (result ≡ Err LoadFault.TooLong) ↔ (2 ^ 40 < self.new.given) }
     {
         make_room(self.alloc, &mut self.room)?;

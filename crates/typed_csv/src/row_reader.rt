@@ -1,6 +1,6 @@
 //! The rows of the records behind a header.
-ghost use Rattle.std.specs.Prelude.{◌≡◌, ◌↔◌, ◌≢◌, ◌<◌, ◌≤◌, ◌^◌, Err, All, IfOk, IfErr, IfSome};
-ghost use Rattle.portal_base.specs.Outside.{Rose};
+ghost use Rattle.std.specs.Prelude.{◌≡◌, ◌↔◌, ◌≢◌, ◌<◌, ◌≤◌, ◌^◌, Ok, Err, None, All, IfOk, IfErr, IfSome};
+ghost use Rattle.portal_base.specs.Outside.{IsAtEnd, Rose};
 ghost use Rattle.table_schema.specs.Printed.{IsValue};
 ghost use Rattle.typed_csv.specs.Calls.{IsOfSameColumns, Reads, rows_ahead};
 ghost use Rattle.typed_csv.specs.Loading.{IsRow, IsRowFault, number_after};
@@ -41,11 +41,13 @@ impl<S: Source> RowReader<S> {
         ensures cause { IfErr result (IsRowFault self.old.schema.fields self.old.layout self.old.number) }
         ensures number { self.new.number ≡ number_after self.old.number result }
         ensures fault { result ≢ Err LoadFault.Spent }
+        ensures end { result ≡ Ok None → IsAtEnd (S.to_come self.new.records.source) }
         ensures kept { IsOfSameColumns self.old self.new }
         ensures received { Receives S.to_come self.old.records self.new.records }
         ensures failed { result ≡ Err LoadFault.ReadFault
             → Rose (S.faults self.old.records.source) (S.faults self.new.records.source) }
         ensures counts { S.faults self.old.records.source ≤ S.faults self.new.records.source }
+        ensures loan { S.loan self.new.records.source ≡ S.loan self.old.records.source }
         ensures much { (result ≡ Err LoadFault.TooLong) ↔ (2 ^ 40 < self.new.records.given) }
     {
         let next = self.records.next(&mut self.row)?;

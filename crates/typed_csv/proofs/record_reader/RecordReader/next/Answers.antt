@@ -50,6 +50,7 @@ loop-next-preserved g c =
           c.loop-next.invariant.received)
           c.in_ok-advance.ensures.received;
       counts = grind (arith, c.in_ok-advance.ensures.counts, c.loop-next.invariant.counts);
+      loan = grind (arith, c.in_ok-advance.ensures.loan, c.loop-next.invariant.loan);
       within = grind (arith, common_steps);
       held = grind (arith, common_steps);
     }

@@ -9,6 +9,7 @@ invariant-loop-next g l = record {
   ahead : records_ahead g.S.Source.to_come l.self ≡ records_ahead g.S.Source.to_come l.fn.self;
   received : Receives g.S.Source.to_come l.fn.self l.self;
   counts : g.S.Source.faults l.fn.self.source ≤ g.S.Source.faults l.self.source;
+  loan : g.S.Source.loan l.self.source ≡ g.S.Source.loan l.fn.self.source;
   within : l.self.given ≤ 2 ^ 40;
   held : IsHeldBack l.fn.self.is_fresh l.fn.self.held → IsHeldBack l.self.is_fresh l.self.held;
 }
