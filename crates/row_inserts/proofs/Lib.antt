@@ -1,0 +1,5 @@
+mod AheadLemmas
+mod CutLemmas
+mod GivingLemmas
+mod PieceLemmas
+mod SizeLemmas

@@ -1,0 +1,177 @@
+//! A piece of records, which are inserted together.
+ghost use Rattle.std.specs.Prelude.{◌≡◌, ◌∷◌, [], ◌++◌, ◌≤◌, ◌^◌, None, OnOk, OnErr, IfOk, IfSome};
+ghost use Rattle.row_inserts.specs.Inserts.{fit, insert_body, insert_size, is_full};
+ghost use Rattle.row_inserts.specs.Piece.{Clears, IsInsertOf, Puts, piece_with, takes};
+
+use crate::records::Record;
+use portal_base::dictionary::Value;
+use portal_base::json_value::Json;
+use portal_base::seq::Seq;
+use portal_base::text::Text;
+use std::alloc::{AllocError, Global};
+use std::marker::Model;
+use std::mem;
+
+/// The most records of a piece.
+const MOST_RECORDS: usize = 500;
+
+/// The most bytes of the body of a piece's insert, but for a piece of one record.
+const MOST_BYTES: usize = 200_000;
+
+/// The body of the insert of these records into the table of the resource.
+fn insert_body(alloc: Global, resource: &str, records: Seq<Json>) -> Result<Json, AllocError>
+    ensures { IfOk result (λ body. body ≡ insert_body resource.now records) }
+{
+    Json::dictionary(
+        alloc,
+        [
+            ("method", Value::Static("insert")),
+            ("records", Value::List(records)),
+            ("resource_id", Value::Str(resource)),
+        ],
+    )
+}
+
+/// Records that wait for their insert. A contract sees the text that names the resource, and the records.
+#[derive(Drop)]
+pub struct Piece {
+    alloc: Global,
+    resource: Text,
+    records: Seq<Json>,
+    /// How many bytes the insert's body has.
+    size: usize,
+    /// How many it has without records.
+    bare_size: usize,
+}
+
+impl Model for Piece {
+    ghost use Rattle.row_inserts.specs.Piece.{IsSized, PieceValue};
+
+    ghost Value = { PieceValue };
+
+    ghost use Rattle.portal_base.specs.contracts.json_value.Json as json;
+    ghost use Rattle.std.specs.Coded.{codes};
+
+    ghost coded = { Prim.hlevel (codes, json.the_row.coded) };
+
+    ghost view = { λ p. record { resource = p.resource; records = p.records } };
+
+    ghost invariant = { λ p. IsSized p.resource p.records p.size p.bare_size };
+}
+
+/// An insert's body, and how many bytes its compact text has.
+#[derive(Drop)]
+pub struct Insert {
+    pub body: Json,
+    pub size: usize,
+}
+
+impl Piece {
+    /// A piece without records.
+    pub fn new(alloc: Global, resource: &str) -> Result<Piece, AllocError>
+        ensures { IfOk result (λ piece. piece ≡ piece_with resource.now []) }
+    {
+        let bare = insert_body(alloc, resource, Seq::new(alloc))?;
+        let bare_size = bare.text(alloc)?.len();
+        Ok(Piece {
+            alloc,
+            resource: Text::from_str(alloc, resource)?,
+            records: Seq::new(alloc),
+            size: bare_size,
+            bare_size,
+        })
+    }
+
+    /// How many bytes the insert's body has with this record behind the others, unless they are more than memory has.
+    fn size_with(&self, added: &Record) -> Option<usize>
+        ensures size { IfSome result
+            (λ size. size ≡ insert_size self.now.resource (self.now.records ++ added.now ∷ [])) }
+        ensures large { result ≡ None
+            → 2 ^ 64 ≤ insert_size self.now.resource (self.now.records ++ added.now ∷ []) }
+    {
+        if self.records.is_empty() {
+            self.size.checked_add(added.size())
+        } else {
+            self.size.checked_add(1)?.checked_add(added.size())
+        }
+    }
+
+    /// Whether the records fit with this one behind them.
+    fn fits(&self, added: &Record) -> bool
+        ensures { result ≡ fit self.now.resource (self.now.records ++ added.now ∷ []) }
+    {
+        match self.size_with(added) {
+            Some(size) => self.records.len() < MOST_RECORDS && size <= MOST_BYTES,
+            None => false,
+        }
+    }
+
+    /// Whether the piece takes this record: an empty one takes any.
+    fn takes(&self, added: &Record) -> bool
+        ensures { result ≡ takes self.now added.now }
+    {
+        self.records.is_empty() || self.fits(added)
+    }
+
+    /// Whether the piece waits for no record. An empty one waits for one.
+    pub fn is_full(&self) -> bool
+        ensures { result ≡ is_full self.now.resource self.now.records }
+    {
+        if self.records.is_empty() {
+            return false;
+        }
+        self.records.len() >= MOST_RECORDS || self.size > MOST_BYTES
+    }
+
+    /// Puts a record behind the others. For want of memory nothing changes.
+    fn add(&mut self, added: Record) -> Result<(), AllocError>
+        ensures put { OnOk result (self.new ≡ piece_with self.old.resource (self.old.records ++ added ∷ [])) }
+        ensures same { OnErr result (self.new ≡ self.old) }
+    {
+        let Some(size) = self.size_with(&added) else {
+            return Err(AllocError);
+        };
+        if self.records.push(added.into_json()).is_err() {
+            return Err(AllocError);
+        }
+        self.size = size;
+        Ok(())
+    }
+
+    /// Takes all records out, as their insert. For want of memory they are lost.
+    pub fn take(&mut self) -> Result<Insert, AllocError>
+        ensures insert { IfOk result (IsInsertOf self.old.resource self.old.records) }
+        ensures empty { self.new ≡ piece_with self.old.resource [] }
+    {
+        let size = mem::replace(&mut self.size, self.bare_size);
+        let records = mem::replace(&mut self.records, Seq::new(self.alloc));
+        let body = insert_body(self.alloc, self.resource.as_str(), records)?;
+        Ok(Insert { body, size })
+    }
+
+    /// Puts a record to the others. Where it doesn't go with them, they are given as their insert, and it is the first
+    /// of the next. For want of memory records may be lost.
+    pub fn put(&mut self, added: Record) -> Result<Option<Insert>, AllocError>
+        ensures put { IfOk result (λ insert. Puts self.old added insert self.new) }
+        ensures resource { self.new.resource ≡ self.old.resource }
+    {
+        if self.takes(&added) {
+            self.add(added)?;
+            return Ok(None);
+        }
+        let insert = self.take()?;
+        self.add(added)?;
+        Ok(Some(insert))
+    }
+
+    /// Takes all records out, as their insert, if there are some. For want of memory they are lost.
+    pub fn take_rest(&mut self) -> Result<Option<Insert>, AllocError>
+        ensures cleared { IfOk result (λ insert. Clears self.old insert self.new) }
+        ensures resource { self.new.resource ≡ self.old.resource }
+    {
+        if self.records.is_empty() {
+            return Ok(None);
+        }
+        Ok(Some(self.take()?))
+    }
+}
