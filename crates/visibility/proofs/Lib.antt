@@ -1,3 +1,4 @@
+pub mod HeldLemmas
 pub mod Opening
 pub mod Viewing
 mod Examples

@@ -3,6 +3,7 @@
 
 pub mod asked;
 pub mod class;
+pub mod held;
 pub mod laws;
 mod questions;
 pub mod sight;
