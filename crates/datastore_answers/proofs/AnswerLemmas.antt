@@ -15,7 +15,7 @@ use Rattle.visibility.specs.Visibility.{may_edit_in}
 use Rattle.datastore_table.specs.declared.method.Method.{Method}
 use Rattle.datastore_answers.specs.Answered.{answer_among, answer_on, answer_with, on_table, on_thing, resource_at}
 use Rattle.datastore_answers.specs.Answered.{tables_beside}
-use Rattle.datastore_answers.specs.Answers.{putting, upserting_as}
+use Rattle.datastore_answers.specs.Answers.{answer_to_datastore_create, creating_at, creating_on, putting, upserting_as}
 use Rattle.datastore_answers.specs.Changed.{TableChange}
 use Rattle.datastore_answers.specs.Linked.{put_at, put_for}
 use Rattle.datastore_answers.specs.Plan.{IsPlanned, change_of}
@@ -24,7 +24,7 @@ use Rattle.datastore_answers.specs.Told.{Told, put_fault, records_told, told_in}
 use Rattle.datastore_answers.specs.declared.answer.TableAnswer.TheVariants.{NoTable, Answered}
 use Rattle.datastore_answers.specs.declared.plan.TablePlan.{TablePlan}
 use Rattle.datastore_answers.specs.declared.resource_table.ResourceTable.{ResourceTable}
-use Rattle.datastore_answers.proofs.SeenLemmas.{answer-seen}
+use Rattle.datastore_answers.proofs.SeenLemmas.{answer-seen, beside-answer}
 
 -- ---- the resource and its table
 
@@ -59,6 +59,19 @@ pub on-denied : {C : Type 0} (key : List ℕ) (seen : Seen) (tables : List Resou
 on-denied {C} key seen tables answer denial found =
     ap (λ (r : Result Placed Denial). on_thing r (λ p. answer_among answer p (tables_beside p tables))) found
     ∙ sym (answer-seen key seen tables answer)
+
+-- ---- tables that come
+
+-- A resource is answered on whether it has a table or not.
+pub create-there : (seen : Seen) (tables : List ResourceTable) (placed : Placed) (given : Answer TableChange)
+    → Ok placed ≡ resource_at (codes "resource_id") seen
+    → given ≡ creating_at seen placed (tables_beside placed tables)
+    (table_at placed.resource.number (tables_beside placed tables))
+    → Answered given ≡ answer_to_datastore_create seen (tables_seen seen.datasets tables)
+create-there seen tables placed given found same =
+    ap Answered same
+    ∙ ap (λ (r : Result Placed Denial). on_thing r (λ p. creating_on seen p (tables_beside p tables))) found
+    ∙ sym (beside-answer (codes "resource_id") seen tables (creating_on seen))
 
 -- ---- records
 
@@ -101,7 +114,7 @@ at-stored (Ok a) stored nothing = nothing stored
 at-stored (Err e) stored nothing = tt
 
 -- What is told of what was read is told of it behind a reference.
-told-now : (recs : Result (Bor (List Json)) (List ℕ)) → told_in recs
+pub told-now : (recs : Result (Bor (List Json)) (List ℕ)) → told_in recs
     ≡ told_in (result_map_both (λ (r : Bor (List Json)). r.now) (λ (m : List ℕ). m) recs)
 told-now (Ok r) = refl
 told-now (Err m) = refl

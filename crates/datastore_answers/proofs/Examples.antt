@@ -1,12 +1,28 @@
--- Worked examples: what is told of faults, of methods and of records; what a change makes of the table at an address.
-use Rattle.std.proofs.Common.{◌≡◌, ℕ, List, [], ◌∷◌, ◌++◌, None, Ok, Err, refl, rules}
-use Rattle.std.specs.Prelude.{codes}
+-- Worked examples: what is told of faults, of methods and of records; what a change makes of the table at an address;
+-- what a body describes, and what foreign keys mean.
+use Rattle.std.proofs.Common.{◌≡◌, ℕ, true, false, List, [], ◌∷◌, ◌++◌, Some, None, Ok, Err, refl, rules}
+use Rattle.std.specs.Prelude.{codes, pos}
+use Rattle.packages.specs.Named.{Placed}
+use Rattle.packages.specs.declared.package.Resource.{Resource}
 use Rattle.portal_base.specs.declared.json_value.Json.{Json, the_lemmas}
 use Rattle.portal_base.specs.declared.json_value.Json as json
+use Rattle.portal_base.specs.declared.kinds.KindFault.TheVariants.{NotList, NotTexts}
+use Rattle.portal_calls.specs.declared.answer.Answer.{Answer}
+use Rattle.portal_calls.specs.declared.answer.Answer.TheVariants.{Refused}
+use Rattle.portal_calls.specs.declared.answer.Denial.TheVariants.{Validation}
+use Rattle.portal_calls.specs.declared.answer.Quota.TheVariants as quota
+use Rattle.table_schema.specs.Descriptor.{no_constraints}
+use Rattle.table_schema.specs.Field.{FieldValue, SchemaValue}
+use Rattle.table_schema.specs.declared.foreign.Foreign.{Foreign}
+use Rattle.table_schema.specs.declared.form.Form.TheVariants as form
 use Rattle.datastore_table.specs.declared.fault.TableFault.TheVariants as fault
 use Rattle.datastore_table.specs.declared.method.Method.TheVariants as method
+use Rattle.datastore_answers.specs.Answers.{created}
 use Rattle.datastore_answers.specs.Changed as change
-use Rattle.datastore_answers.specs.Changed.{changed_tables}
+use Rattle.datastore_answers.specs.Changed.{TableChange, changed_tables}
+use Rattle.datastore_answers.specs.Described.{by_fields, described_new, field_meant, fields_told, is_field}
+use Rattle.datastore_answers.specs.Described.{told_of_same, type_meant}
+use Rattle.datastore_answers.specs.Meant.{fitting, link_text, table_named}
 use Rattle.datastore_answers.specs.Told.{fault_text, method_in, records_in, row_text}
 use Rattle.datastore_answers.specs.Tables.{table_at, tables_in}
 use Rattle.datastore_answers.specs.declared.resource_table.ResourceTable.{ResourceTable}
@@ -45,6 +61,82 @@ second : records_in (json.Map ((codes "records", json.List (json.Map [] ∷ json
     ≡ Err (row_text 2 ++ codes ": not a dictionary")
 second = search (rules, the_lemmas)
 
+-- ---- columns
+
+float : type_meant (codes "float") ≡ codes "number"
+float = refl
+
+-- the types of columns aren't those of descriptors
+string : type_meant (codes "string") ≡ []
+string = refl
+
+-- a column without a type is of texts
+untyped : field_meant (json.Map ((codes "id", json.Text (codes "k")) ∷ []))
+    ≡ json.Map ((codes "name", json.Text (codes "k")) ∷ (codes "type", json.Text (codes "string")) ∷ [])
+untyped = search (rules, the_lemmas)
+
+nameless : field_meant (json.Map ((codes "id", json.Whole (pos 5)) ∷ (codes "type", json.Text (codes "int")) ∷ []))
+    ≡ json.Map ((codes "name", json.Null) ∷ (codes "type", json.Text (codes "integer")) ∷ [])
+nameless = search (rules, the_lemmas)
+
+no_column : field_meant (json.Text (codes "k")) ≡ json.Null
+no_column = search (rules, the_lemmas)
+
+-- ---- descriptions
+
+abbrev number_field : FieldValue
+number_field = record {
+  name = codes "v";
+  form = form.Number (record { decimal = 46; group = None; bare = true });
+  constraints = no_constraints;
+  missing = [];
+  in_key = false;
+}
+
+abbrev unkeyed : SchemaValue
+unkeyed = record { fields = number_field ∷ []; key = []; foreign = []; missing = [] }
+
+-- Neither fields nor a schema. Beside neither, a key is ignored.
+neither : (placed : Placed) (beside : List ResourceTable)
+    → described_new placed beside (Ok None) (Err NotTexts) None ≡ Err ((codes "fields", codes "Missing value") ∷ [])
+neither placed beside = refl
+
+-- Every faulty key is told.
+all_told : by_fields (Err NotTexts) (Some json.Null) (Err (codes "no fields"))
+    ≡ Err ((codes "fields", codes "no fields") ∷ (codes "primary_key", codes "Must be a list of texts")
+    ∷ (codes "schema", codes "Give fields or schema, not both") ∷ [])
+all_told = refl
+
+-- a list is wanted before anything else of `fields`
+no_list : (schema : SchemaValue) → fields_told schema (Err NotList) (Ok (Some [])) ≡ Some (codes "Must be a list")
+no_list schema = refl
+
+-- a key that differs is told on `fields`, also where these are absent
+other_key : told_of_same unkeyed (Ok None) (Ok (Some (codes "k" ∷ []))) None
+    ≡ (codes "fields", codes "Table exists with other fields") ∷ []
+other_key = refl
+
+-- `[]` fits a table without a key
+no_key : told_of_same unkeyed (Ok None) (Ok (Some [])) None ≡ []
+no_key = refl
+
+-- `float` fits a column of numbers
+float_fits : is_field number_field (json.Map ((codes "id", json.Text (codes "v"))
+    ∷ (codes "type", json.Text (codes "float")) ∷ [])) ≡ true
+float_fits = search (rules, the_lemmas)
+
+-- and the name of a descriptor's type doesn't
+number_differs : is_field number_field (json.Map ((codes "id", json.Text (codes "v"))
+    ∷ (codes "type", json.Text (codes "number")) ∷ [])) ≡ false
+number_differs = search (rules, the_lemmas)
+
+-- Where the table is described only faulty records are told, and else they are told beside the rest.
+beside_the_rest : (beside : List ResourceTable) (make : List Json → ResourceTable → Answer TableChange)
+    → created quota.UsedUp beside make (Err ((codes "fields", codes "no fields") ∷ [])) (Err (codes "Must be a list"))
+    ≡ Refused (Validation ((codes "body", codes "Quota of accepted bytes is used up")
+    ∷ (codes "fields", codes "no fields") ∷ (codes "records", codes "Must be a list") ∷ []))
+beside_the_rest beside make = refl
+
 -- ---- tables
 
 -- a table without rows of the resource of this number, whose next `_id` is this
@@ -77,3 +169,31 @@ between = refl
 -- and goes at its address alone
 gone : changed_tables (change.Remove (record { dataset = codes "b"; number = 1 })) two ≡ empty (codes "a") 1 1 ∷ []
 gone = refl
+
+-- ---- foreign keys
+
+abbrev resource : List ℕ → ℕ → Resource
+resource name number = record {
+  number = number;
+  name = name;
+  url = [];
+  format = [];
+  description = [];
+  mimetype = [];
+}
+
+-- a foreign key of the first field
+abbrev to : List ℕ → List (List ℕ) → Foreign
+to resource target = record { fields = 0 ∷ []; resource = resource; target = target }
+
+-- the first of the resources of that name that has a table
+second_lamp : table_named (resource (codes "lamp") 1 ∷ resource (codes "lamp") 3 ∷ resource (codes "lamp") 2 ∷ [])
+    (empty (codes "a") 2 1 ∷ empty (codes "a") 3 1 ∷ []) (codes "lamp") ≡ Some (empty (codes "a") 3 1)
+second_lamp = refl
+
+no_table : fitting unkeyed 2 (to (codes "street") []) None ≡ Err (link_text 2 ++ codes ": no such table")
+no_table = refl
+
+not_its_key : fitting unkeyed 1 (to (codes "street") (codes "id" ∷ [])) (Some (empty (codes "a") 2 1))
+    ≡ Err (link_text 1 ++ codes ": not that table's key")
+not_its_key = refl

@@ -17,6 +17,7 @@ use Rattle.portal_calls.proofs.Answering.{thing_at-ok}
 use Rattle.visibility.specs.Seen.{Seen}
 use Rattle.datastore_answers.specs.Answered.{answer_among, answer_on, on_thing, resource_at, tables_beside}
 use Rattle.datastore_answers.specs.Tables.{is_table_among, tables_seen}
+use Rattle.datastore_answers.specs.declared.answer.TableAnswer.{TableAnswer}
 use Rattle.datastore_answers.specs.declared.resource_table.ResourceTable.{ResourceTable}
 
 -- ---- the resource's dataset is seen
@@ -45,6 +46,26 @@ resource-seen key seen placed is =
     let named = thing_at-ok key seen.call.request.body kind.Resource (resource_named seen.datasets) placed is in
     named-dataset seen.datasets named.name placed named.looked
 
+-- the resource stands at its place in its dataset
+placed_at-named : (dataset : Package) (place : ℕ) (placed : Placed) → placed_at dataset place ≡ Some placed
+    → slice_get placed.dataset.resources placed.place ≡ Some placed.resource
+placed_at-named dataset place placed is = by (slice_get dataset.resources place) refl is
+  where
+    by : (found : Option Resource) → slice_get dataset.resources place ≡ found
+        → option_map (λ resource. record { dataset = dataset; place = place; resource = resource }) found ≡ Some placed
+        → slice_get placed.dataset.resources placed.place ≡ Some placed.resource
+    by None there same = absurd (cc)
+    by (Some resource) there same =
+        subst (λ (p : Placed). slice_get p.dataset.resources p.place ≡ Some p.resource) (same_Some _ placed same) there
+
+pub resource-named : (key : List ℕ) (seen : Seen) (placed : Placed) → resource_at key seen ≡ Ok placed
+    → slice_get placed.dataset.resources placed.place ≡ Some placed.resource
+resource-named key seen placed is =
+    let named = thing_at-ok key seen.call.request.body kind.Resource (resource_named seen.datasets) placed is in
+    option_and_then_some (resource_in named.name) (find (has_address named.name) seen.datasets) placed named.looked
+    (λ dataset found within. option_and_then_some (placed_at dataset) (place_of named.name dataset) placed within
+    (λ place at there. placed_at-named dataset place placed there))
+
 -- ---- so are the tables of that
 
 -- Any passes that is among them.
@@ -72,22 +93,29 @@ beside-kept q p (t ∷ ts) kept = by (p t) (q t) refl refl (beside-kept q p ts k
     by false true is own rest = let here : p t ≡ true = kept t own in absurd (cc)
     by false false is own rest = rest
 
-beside-seen : (placed : Placed) (datasets : List Package) (tables : List ResourceTable) → IsIn placed.dataset datasets
+pub beside-seen : (placed : Placed) (datasets : List Package) (tables : List ResourceTable)
+    → IsIn placed.dataset datasets
     → tables_beside placed (tables_seen datasets tables) ≡ tables_beside placed tables
 beside-seen placed datasets tables among =
     beside-kept (λ t. bytes_eq t.address.dataset placed.dataset.id) (is_table_among datasets) tables
     (λ t own. any-among (λ d. bytes_eq t.address.dataset d.id) placed.dataset datasets among own)
 
+-- An answer on the tables beside is the same on all tables and on those that are seen.
+pub beside-answer : {C : Type 0} (key : List ℕ) (seen : Seen) (tables : List ResourceTable)
+    (answer : Placed → List ResourceTable → TableAnswer C)
+    → on_thing (resource_at key seen)
+    (λ placed. answer placed (tables_beside placed (tables_seen seen.datasets tables)))
+    ≡ on_thing (resource_at key seen) (λ placed. answer placed (tables_beside placed tables))
+beside-answer {C} key seen tables answer = by (resource_at key seen) refl
+  where
+    by : (found : Result Placed Denial) → resource_at key seen ≡ found
+        → on_thing found (λ placed. answer placed (tables_beside placed (tables_seen seen.datasets tables)))
+        ≡ on_thing found (λ placed. answer placed (tables_beside placed tables))
+    by (Ok placed) is =
+        ap (answer placed) (beside-seen placed seen.datasets tables (resource-seen key seen placed is))
+    by (Err denial) is = refl
+
 pub answer-seen : {C : Type 0} (key : List ℕ) (seen : Seen) (tables : List ResourceTable)
     (answer : Placed → List ResourceTable → ResourceTable → Answer C)
     → answer_on key seen (tables_seen seen.datasets tables) answer ≡ answer_on key seen tables answer
-answer-seen {C} key seen tables answer = by (resource_at key seen) refl
-  where
-    by : (found : Result Placed Denial) → resource_at key seen ≡ found
-        → on_thing found (λ placed. answer_among answer placed
-        (tables_beside placed (tables_seen seen.datasets tables)))
-        ≡ on_thing found (λ placed. answer_among answer placed (tables_beside placed tables))
-    by (Ok placed) is =
-        ap (answer_among answer placed)
-        (beside-seen placed seen.datasets tables (resource-seen key seen placed is))
-    by (Err denial) is = refl
+answer-seen key seen tables answer = beside-answer key seen tables (answer_among answer)

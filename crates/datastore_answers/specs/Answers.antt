@@ -1,23 +1,30 @@
 -- The answers to calls on the tables of resources: functions of the call and of what its caller sees. Names, rights
 -- and results are those of CKAN 2.10's DataStore; rules and messages are the portal's own.
-use Rattle.std.specs.Prelude.{ℕ, List, [], codes, Ok, Err, length}
+use Rattle.std.specs.Prelude.{ℕ, List, [], codes, Option, Some, None, Result, Ok, Err, length}
+use Rattle.portal_base.specs.Faults.{Fault, noted_if}
 use Rattle.portal_base.specs.declared.json_value.Json.{Json}
 use Rattle.packages.specs.Named.{Placed, resource_address}
-use Rattle.portal_calls.specs.Answer.{needing, ruled}
+use Rattle.portal_calls.specs.Answer.{needing, quota_told, ruled}
 use Rattle.portal_calls.specs.declared.answer.Answer.{Answer}
-use Rattle.portal_calls.specs.declared.answer.Answer.TheVariants.{Shown, Accepted}
+use Rattle.portal_calls.specs.declared.answer.Answer.TheVariants.{Shown, Refused, Accepted}
+use Rattle.portal_calls.specs.declared.answer.Denial.TheVariants.{Validation}
+use Rattle.portal_calls.specs.declared.answer.Quota.{Quota}
 use Rattle.portal_calls.specs.declared.answer.Right.TheVariants.{EditDataset}
 use Rattle.visibility.specs.Seen.{Seen}
 use Rattle.visibility.specs.Visibility.{may_edit_in}
 use Rattle.datastore_table.specs.declared.method.Method.{Method}
 use Rattle.datastore_table.specs.declared.method.Method.TheVariants as method
-use Rattle.datastore_answers.specs.Answered.{address_of, answer_on}
-use Rattle.datastore_answers.specs.Changed.{TableChange}
+use Rattle.datastore_answers.specs.Answered.{address_of, answer_on, on_thing, resource_at, tables_beside}
+use Rattle.datastore_answers.specs.Changed.{TableChange, put_into}
 use Rattle.datastore_answers.specs.Changed as change
-use Rattle.datastore_answers.specs.Dictionary.{cut_dictionary, gone_dictionary, info_dictionary, upsert_dictionary}
-use Rattle.datastore_answers.specs.Told.{Told, method_in, records_in, told_of_cut, told_of_put}
+use Rattle.datastore_answers.specs.Described.{described_in}
+use Rattle.datastore_answers.specs.Dictionary.{create_dictionary, cut_dictionary, gone_dictionary, info_dictionary}
+use Rattle.datastore_answers.specs.Dictionary.{upsert_dictionary}
+use Rattle.datastore_answers.specs.Tables.{table_at}
+use Rattle.datastore_answers.specs.Told.{Told, method_in, records_in, told_in, told_of_cut, told_of_put}
 use Rattle.datastore_answers.specs.Told.{told_of_removal}
 use Rattle.datastore_answers.specs.declared.answer.TableAnswer.{TableAnswer}
+use Rattle.datastore_answers.specs.declared.answer.TableAnswer.TheVariants.{Answered}
 use Rattle.datastore_answers.specs.declared.resource_table.ResourceTable.{ResourceTable}
 
 -- the answer for who may edit the resource's dataset
@@ -30,6 +37,10 @@ abbrev pub read_or : {A : Type 0} → A → Told A → A
 read_or d (Ok x) = x
 read_or d (Err message) = d
 
+-- what is told of a body that breaks rules, the quota with it
+abbrev pub broken : {C : Type 0} → Quota → List Fault → Answer C
+broken quota faults = Refused (Validation (noted_if (codes "body") (quota_told quota) faults))
+
 -- the id of a resource
 abbrev pub id_of : Placed → List ℕ
 id_of placed = resource_address placed.dataset.id placed.resource.number
@@ -39,6 +50,50 @@ id_of placed = resource_address placed.dataset.id placed.resource.number
 abbrev pub answer_to_datastore_info : Seen → List ResourceTable → TableAnswer TableChange
 answer_to_datastore_info seen tables =
     answer_on (codes "id") seen tables (λ placed beside t. Shown (info_dictionary t))
+
+-- ---- tables that come
+
+-- a new table, with the records in it
+abbrev pub making : Placed → List Json → ResourceTable → Answer TableChange
+making placed records t =
+    Accepted (create_dictionary (id_of placed) t.table.schema) (change.Create (put_into method.Insert records t))
+
+-- the records, put into the table that is there
+abbrev pub filling : Placed → List Json → ResourceTable → Answer TableChange
+filling placed records t =
+    Accepted (create_dictionary (id_of placed) t.table.schema)
+    (change.Put (address_of placed) method.Insert records)
+
+-- a table that is described, whether it is new or there
+abbrev pub creating : Placed → Option ResourceTable → List Json → ResourceTable → Answer TableChange
+creating placed None records t = making placed records t
+creating placed (Some there) records t = filling placed records t
+
+-- Where a table was described the records are put into it; else what is told of the body is told.
+abbrev pub created : Quota → List ResourceTable → (List Json → ResourceTable → Answer TableChange)
+    → Result ResourceTable (List Fault) → Told (List Json) → Answer TableChange
+created quota beside make (Ok t) records =
+    ruled quota (told_of_put beside t (Ok method.Insert) records) (make (read_or [] records) t)
+created quota beside make (Err faults) records = broken quota (noted_if (codes "records") (told_in records) faults)
+
+-- the answer on the resource and the table that it has, if it has one, for who may edit its dataset
+abbrev pub created_among : Quota → Placed → List ResourceTable → Json → Told (List Json) → Option ResourceTable
+    → Answer TableChange
+created_among quota placed beside body records there =
+    created quota beside (creating placed there) (described_in placed beside body there) records
+
+abbrev pub creating_at : Seen → Placed → List ResourceTable → Option ResourceTable → Answer TableChange
+creating_at seen placed beside there =
+    editing seen placed
+    (created_among seen.quota placed beside seen.call.request.body (records_in seen.call.request.body) there)
+
+abbrev pub creating_on : Seen → Placed → List ResourceTable → TableAnswer TableChange
+creating_on seen placed beside = Answered (creating_at seen placed beside (table_at placed.resource.number beside))
+
+-- A resource without a table is no fault here.
+abbrev pub answer_to_datastore_create : Seen → List ResourceTable → TableAnswer TableChange
+answer_to_datastore_create seen tables =
+    on_thing (resource_at (codes "resource_id") seen) (λ placed. creating_on seen placed (tables_beside placed tables))
 
 -- ---- rows that come and change
 

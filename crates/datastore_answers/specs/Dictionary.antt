@@ -52,6 +52,18 @@ info_dictionary t = json.Map (
     ∷ (codes "meta", meta_dictionary (length t.table.rows) (key_shown t.table.schema))
     ∷ [])
 
+-- these fields and this key of the table of the resource of that id
+abbrev pub description_dictionary : Json → Json → List ℕ → Json
+description_dictionary fields key resource = json.Map (
+    (codes "fields", fields)
+    ∷ (codes "primary_key", key)
+    ∷ (codes "resource_id", json.Text resource)
+    ∷ [])
+
+-- a table of the resource of that id that was made, or that is there: its fields and its key
+abbrev pub create_dictionary : List ℕ → SchemaValue → Json
+create_dictionary resource schema = description_dictionary (fields_shown schema) (key_shown schema) resource
+
 abbrev pub method_name : Method → List ℕ
 method_name method.Upsert = codes "upsert"
 method_name method.Insert = codes "insert"

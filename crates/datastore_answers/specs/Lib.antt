@@ -1,9 +1,13 @@
 pub mod Answered
 pub mod Answers
 pub mod Changed
+pub mod Described
 pub mod Dictionary
 pub mod Fit
+pub mod Holdings
+pub mod Kept
 pub mod Linked
+pub mod Meant
 pub mod Order
 pub mod Plan
 pub mod Spared

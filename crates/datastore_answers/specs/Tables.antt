@@ -1,8 +1,10 @@
 -- The tables of resources.
-use Rattle.std.specs.Prelude.{ℕ, ◌==◌, List, Bool, map, filter, find, Option}
+use Rattle.std.specs.Prelude.{ℕ, ◌==◌, List, Bool, not, ◌||◌, map, filter, find, Option}
 use Rattle.std.specs.List.{list_any}
 use Rattle.std.specs.Str.{bytes_eq}
 use Rattle.packages.specs.declared.package.Package.{Package}
+use Rattle.packages.specs.declared.package.Resource.{Resource}
+use Rattle.visibility.specs.Held.{is_among}
 use Rattle.datastore_answers.specs.declared.resource_table.ResourceTable.{ResourceTable}
 
 -- The tables, ascending by their addresses, and whether one more fits without memory.
@@ -25,6 +27,11 @@ tables_in dataset tables = filter (λ t. bytes_eq t.address.dataset dataset) tab
 -- of a dataset's tables that of the resource of this number
 abbrev pub table_at : ℕ → List ResourceTable → Option ResourceTable
 table_at number beside = find (λ t. t.address.number == number) beside
+
+-- The tables, of the dataset's those of these resources alone.
+abbrev pub tables_kept : List ℕ → List Resource → List ResourceTable → List ResourceTable
+tables_kept dataset resources tables =
+    filter (λ t. not (bytes_eq t.address.dataset dataset) || is_among resources t.address.number) tables
 
 -- ---- what a caller sees
 

@@ -10,9 +10,11 @@ ghost use Rattle.packages.specs.Placing.{placed_now};
 ghost use Rattle.packages.specs.Told.{message_unless};
 ghost use Rattle.portal_calls.specs.Answer.{AcceptsOnly, ruled};
 ghost use Rattle.portal_calls.specs.declared.answer.Answer.{Answer};
+ghost use Rattle.portal_calls.specs.declared.answer.Answer.TheVariants.{Accepted};
 ghost use Rattle.table_schema.specs.Values.{is_map};
 ghost use Rattle.visibility.specs.Seen.{seen_by};
 ghost use Rattle.datastore_answers.specs.Answered.{AcceptsSuch, address_of, answer_with, table_answer_with};
+ghost use Rattle.datastore_answers.specs.Answers.{answer_to_datastore_create};
 ghost use Rattle.datastore_answers.specs.Answers.{answer_to_datastore_info, answer_to_datastore_upsert, putting};
 ghost use Rattle.datastore_answers.specs.Answers.{answer_to_datastore_delete, cutting, deleting_rows, editing};
 ghost use Rattle.datastore_answers.specs.Answers.{answer_to_datastore_delete_rows, removing, upserting_as};
@@ -27,6 +29,7 @@ ghost use Rattle.datastore_answers.specs.declared.resource_table.ResourceTable.{
 
 use crate::answer::TableAnswer;
 use crate::copies::copies_of;
+use crate::creation::created_at;
 use crate::dictionary::{cut_json, gone_json, info_json, upsert_json};
 use crate::lookup::{address_of, id_of, resource_at};
 use crate::plan::TablePlan;
@@ -67,7 +70,7 @@ pub fn datastore_info(
 // ---- rules
 
 /// What is refused for broken rules.
-fn refused(quota: Quota, faults: Faults) -> Result<Answer<TablePlan>, AllocError>
+pub(crate) fn refused(quota: Quota, faults: Faults) -> Result<Answer<TablePlan>, AllocError>
     requires { faults ≢ [] }
     ensures refusal { IfOk result (λ answer. (given : Answer TableChange) →
         answer_with change_of answer ≡ ruled quota faults given) }
@@ -77,6 +80,29 @@ fn refused(quota: Quota, faults: Faults) -> Result<Answer<TablePlan>, AllocError
         Some(denial) => Ok(Answer::Refused(denial)),
         None => unreachable!(),
     }
+}
+
+// ---- tables that come
+
+/// The answer to a `datastore_create`.
+pub fn datastore_create(
+    alloc: Global,
+    asked: &Asked<'_>,
+    tables: &mut Tables,
+) -> Result<TableAnswer<TablePlan>, AllocError>
+    requires linked { AreLinked (tables_of tables.old) }
+    ensures same { tables_of tables.new ≡ tables_of tables.old }
+    ensures answer { IfOk result (λ answer. table_answer_with change_of answer
+        ≡ answer_to_datastore_create (seen_by asked.now)
+        (tables_seen (seen_by asked.now).datasets (tables_of tables.old))) }
+    ensures ready { IfOk result (λ answer. AcceptsSuch (λ plan. IsPlanned plan tables.new) answer) }
+{
+    let named = match resource_at(alloc, asked, "resource_id")? {
+        Ok(placed) => placed,
+        Err(denial) => return Ok(TableAnswer::Answered(Answer::Refused(denial))),
+    };
+    let answer = created_at(alloc, asked, &named, tables)?;
+    Ok(TableAnswer::Answered(answer))
 }
 
 // ---- rows that come and change
@@ -125,7 +151,44 @@ fn put_plan(
     Ok(TablePlan::Put(address, method, records, batch))
 }
 
-/// The answer to records for the table of a resource that the caller may edit.
+/// The answer to records for the table of a resource that the caller may edit, of which this is shown.
+pub(crate) fn put_shown(
+    alloc: Global,
+    quota: Quota,
+    placed: &PlacedResource<'_>,
+    tables: &mut Tables,
+    method: Method,
+    records: &Seq<Json>,
+    shown: Json,
+) -> Result<Answer<TablePlan>, AllocError>
+    requires stands { IsSome (table_at placed.now.resource.now.number
+        (tables_in placed.now.dataset.now.id (tables_of tables.old))) }
+    requires maps { IsTrue (list_all is_map records.now) }
+    requires linked { AreLinked (tables_of tables.old) }
+    ensures same { tables_of tables.new ≡ tables_of tables.old }
+    ensures answer { IfOk result (λ answer. answer_with change_of answer
+        ≡ ruled quota (noted_if (codes "records")
+        (put_fault (put_at (tables_in placed.now.dataset.now.id (tables_of tables.old))
+        placed.now.resource.now.number method records.now)) [])
+        (Accepted shown (change.Put (address_of (placed_now placed.now)) method records.now))) }
+    ensures ready { IfOk result (λ answer. AcceptsOnly (λ plan. IsPlanned plan tables.new) answer) }
+{
+    let mut faults = Faults::new(alloc);
+    let batch = match tried_batch(alloc, placed, tables, method, records)? {
+        Ok(batch) => batch,
+        Err(message) => {
+            faults.note(Text::from_static("records"), message)?;
+            return refused(quota, faults);
+        }
+    };
+    if let Some(denial) = denial_by(quota, faults)? {
+        return Ok(Answer::Refused(denial));
+    }
+    let plan = put_plan(alloc, placed, method, records, batch)?;
+    Ok(Answer::Accepted(shown, plan))
+}
+
+/// The answer to records that a call puts into the table of a resource that the caller may edit.
 fn upsert_at(
     alloc: Global,
     quota: Quota,
@@ -146,20 +209,8 @@ fn upsert_at(
         (putting (placed_now placed.now) method records.now)) }
     ensures ready { IfOk result (λ answer. AcceptsOnly (λ plan. IsPlanned plan tables.new) answer) }
 {
-    let mut faults = Faults::new(alloc);
-    let batch = match tried_batch(alloc, placed, tables, method, records)? {
-        Ok(batch) => batch,
-        Err(message) => {
-            faults.note(Text::from_static("records"), message)?;
-            return refused(quota, faults);
-        }
-    };
-    if let Some(denial) = denial_by(quota, faults)? {
-        return Ok(Answer::Refused(denial));
-    }
     let shown = upsert_json(alloc, id_of(alloc, placed)?, method, records)?;
-    let plan = put_plan(alloc, placed, method, records, batch)?;
-    Ok(Answer::Accepted(shown, plan))
+    put_shown(alloc, quota, placed, tables, method, records, shown)
 }
 
 /// What is refused of a body whose method or records can't be read.

@@ -1,5 +1,5 @@
 //! Batches of records, prepared on the table of a resource among the tables of its dataset.
-ghost use Rattle.std.specs.Prelude.{◌≡◌, ◌⊎◌, ◌<◌, Ok, Err, IfOk, IfErr, OnOk, IsSome, IsTrue, Some, None, length};
+ghost use Rattle.std.specs.Prelude.{◌≡◌, ◌⊎◌, ◌<◌, [], Ok, Err, IfOk, IfErr, OnOk, IsSome, IsTrue, Some, None, length};
 ghost use Rattle.std.specs.Prelude.{option_copied, option_map, slice_get};
 ghost use Rattle.std.specs.List.{list_all};
 ghost use Rattle.table_schema.specs.Values.{is_map};
@@ -8,7 +8,8 @@ ghost use Rattle.datastore_table.specs.Batch.{IsReady, worked_on};
 ghost use Rattle.datastore_table.specs.Put.{put_records};
 ghost use Rattle.datastore_table.specs.Rows.{row_cmp};
 ghost use Rattle.datastore_table.specs.declared.fault.TableFault.TheVariants.{OutOfMemory};
-ghost use Rattle.datastore_answers.specs.Linked.{AreLinked, alone, link_checked, links_checked, put_at};
+ghost use Rattle.datastore_answers.specs.Changed.{put_into};
+ghost use Rattle.datastore_answers.specs.Linked.{AreLinked, alone, link_checked, links_checked, put_among, put_at};
 ghost use Rattle.datastore_answers.specs.Linked.{put_own, target_of};
 ghost use Rattle.datastore_answers.specs.Order.{at_address};
 ghost use Rattle.datastore_answers.specs.Plan.{IsBatchAt, IsPutReady};
@@ -76,6 +77,28 @@ impl Tables {
             }
             None => unreachable!(),
         }
+    }
+
+    /// The table without rows, with the records in it, which are dictionaries.
+    pub(crate) fn filled(
+        &self,
+        table: ResourceTable,
+        records: &Seq<Json>,
+    ) -> Result<ResourceTable, TableFault>
+        requires maps { IsTrue (list_all is_map records.now) }
+        requires empty { table.table.rows ≡ [] }
+        ensures table { IfOk result (λ t. bare t ≡ put_into Method.Insert records.now (bare table)) }
+        ensures taken { IfOk result (λ _. put_fault (put_among
+            (tables_in table.address.dataset (tables_of self.now)) Method.Insert records.now (bare table)) ≡ None) }
+        ensures fault { IfErr result (λ fault. (fault ≡ OutOfMemory)
+            ⊎ (put_among (tables_in table.address.dataset (tables_of self.now)) Method.Insert records.now (bare table)
+            ≡ Err fault)) }
+    {
+        let mut table = table;
+        let batch = prepared(&mut table, Method::Insert, records)?;
+        self.check_links(&table, &batch)?;
+        table.table.commit(batch);
+        Ok(table)
     }
 
     // Prepares a batch on that table, whose references to other tables aren't looked at.

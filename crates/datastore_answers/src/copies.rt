@@ -36,7 +36,10 @@ pub(crate) fn copies_of(alloc: Global, items: &Seq<Json>) -> Result<Seq<Json>, A
 
 /// A copy of the entries.
 #[cycle(copies)]
-fn entries_of(alloc: Global, entries: &Seq<(Text, Json)>) -> Result<Seq<(Text, Json)>, AllocError>
+pub fn entries_of(
+    alloc: Global,
+    entries: &Seq<(Text, Json)>,
+) -> Result<Seq<(Text, Json)>, AllocError>
     ensures { IfOk result (λ copies. copies ≡ entries.now) }
 {
     let mut copies = Vec::with_capacity(alloc, entries.len())?;

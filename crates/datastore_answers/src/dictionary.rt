@@ -4,8 +4,9 @@ ghost use Rattle.portal_base.specs.declared.json_value.Json.{Json};
 ghost use Rattle.portal_base.specs.declared.json_value.Json as json;
 ghost use Rattle.table_schema.specs.Written.{name_at, names_value};
 ghost use Rattle.datastore_answers.specs.Dictionary.{type_name, field_dictionary, fields_shown, key_shown};
-ghost use Rattle.datastore_answers.specs.Dictionary.{cut_dictionary, gone_dictionary, info_dictionary};
-ghost use Rattle.datastore_answers.specs.Dictionary.{meta_dictionary, method_name};
+ghost use Rattle.datastore_answers.specs.Dictionary.{create_dictionary, cut_dictionary, description_dictionary};
+ghost use Rattle.datastore_answers.specs.Dictionary.{gone_dictionary};
+ghost use Rattle.datastore_answers.specs.Dictionary.{info_dictionary, meta_dictionary, method_name};
 ghost use Rattle.datastore_answers.specs.Dictionary.{upsert_dictionary};
 
 use crate::resource_table::ResourceTable;
@@ -17,7 +18,8 @@ use portal_base::text::Text;
 use std::alloc::{AllocError, Global};
 use table_schema::{Field, Kind, Schema};
 
-fn type_name(kind: Kind) -> &'static str
+/// The type of a column.
+pub fn type_name(kind: Kind) -> &'static str
     ensures { result.now ≡ type_name kind }
 {
     match kind {
@@ -62,7 +64,8 @@ pub(crate) fn fields_json(alloc: Global, schema: &Schema) -> Result<Json, AllocE
     Ok(Json::List(field_list(alloc, schema.fields().as_slice())?))
 }
 
-fn name_at(fields: &[Field], place: u32) -> &str
+/// The name of the field at the place, or nothing where there is none.
+pub(crate) fn name_at(fields: &[Field], place: u32) -> &str
     ensures { result.now ≡ name_at fields.now place }
 {
     match fields.get(place as usize) {
@@ -113,6 +116,37 @@ pub(crate) fn info_json(alloc: Global, table: &ResourceTable) -> Result<Json, Al
         alloc,
         [("fields", Value::Json(fields)), ("meta", Value::Json(meta))],
     )
+}
+
+fn description_json(
+    alloc: Global,
+    fields: Json,
+    key: Json,
+    resource: Text,
+) -> Result<Json, AllocError>
+    ensures { IfOk result (λ json. json ≡ description_dictionary fields key resource) }
+{
+    Json::dictionary(
+        alloc,
+        [
+            ("fields", Value::Json(fields)),
+            ("primary_key", Value::Json(key)),
+            ("resource_id", Value::Json(Json::Text(resource))),
+        ],
+    )
+}
+
+/// A table of the resource of that id that was made, or that is there.
+pub(crate) fn create_json(
+    alloc: Global,
+    resource: Text,
+    schema: &Schema,
+) -> Result<Json, AllocError>
+    ensures { IfOk result (λ json. json ≡ create_dictionary resource schema.now) }
+{
+    let fields = fields_json(alloc, schema)?;
+    let key = key_json(alloc, schema)?;
+    description_json(alloc, fields, key, resource)
 }
 
 fn method_name(method: Method) -> &'static str

@@ -15,7 +15,7 @@ use std::alloc::{AllocError, Global};
 use visibility::asked::Asked;
 
 /// The resource that a key of the body names, or why there is none.
-pub(crate) fn resource_at<'a>(
+pub fn resource_at<'a>(
     alloc: Global,
     asked: &Asked<'a>,
     key: &'static str,
@@ -44,7 +44,7 @@ pub(crate) fn address_of(alloc: Global, placed: &PlacedResource<'_>) -> Result<A
 }
 
 /// The resource's id.
-pub(crate) fn id_of(alloc: Global, placed: &PlacedResource<'_>) -> Result<Text, AllocError>
+pub fn id_of(alloc: Global, placed: &PlacedResource<'_>) -> Result<Text, AllocError>
     ensures { IfOk result (λ id. id ≡ id_of (placed_now placed.now)) }
 {
     resource_address(alloc, &placed.dataset.id, placed.resource.number)

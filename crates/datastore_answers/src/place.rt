@@ -1,7 +1,8 @@
 //! Where the table at an address stands.
 ghost use Rattle.std.specs.Prelude.{◌≡◌, ◌<◌, ◌≤◌, None, MatchOption, IfSome, length, slice_get};
 ghost use Rattle.std.specs.List.{prefix_len};
-ghost use Rattle.std.specs.Ordering.{is_lt};
+ghost use Rattle.std.specs.Cmp.Lexicographic.{slice_cmp};
+ghost use Rattle.std.specs.Ordering.{is_le, is_lt, nat_cmp};
 ghost use Rattle.portal_base.specs.Ordered.{IsAscending, found};
 ghost use Rattle.datastore_answers.specs.Order.{at_address, table_cmp};
 
@@ -17,6 +18,19 @@ fn stands(table: &ResourceTable, dataset: &Text, number: u32) -> Ordering
         Ordering::Equal => table.address.number.cmp(&number),
         unequal => unequal,
     }
+}
+
+/// Where the dataset's tables begin, and where they end. Both are found by halves.
+pub(crate) fn places_in(tables: &[ResourceTable], dataset: &Text) -> (usize, usize)
+    requires { IsAscending table_cmp tables.now }
+    ensures from { result.0 ≡ prefix_len (λ t. is_lt (slice_cmp nat_cmp t.address.dataset dataset.now)) tables.now }
+    ensures to { result.1 ≡ prefix_len (λ t. is_le (slice_cmp nat_cmp t.address.dataset dataset.now)) tables.now }
+    ensures ordered { result.0 ≤ result.1 }
+    ensures within { result.1 ≤ length tables.now }
+{
+    let from = tables.partition_point(|table| table.address.dataset.cmp(dataset).is_lt());
+    let to = tables.partition_point(|table| table.address.dataset.cmp(dataset).is_le());
+    (from, to)
 }
 
 /// How many tables stand before that address. It is found by halves.

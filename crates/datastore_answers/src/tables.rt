@@ -4,13 +4,15 @@ ghost use Rattle.portal_base.specs.Ordered.{dropped, found, placed};
 ghost use Rattle.datastore_answers.specs.Changed.{changed_tables, cut_from, put_into, with_table_at};
 ghost use Rattle.datastore_answers.specs.Order.{at_address, table_cmp};
 ghost use Rattle.datastore_answers.specs.Plan.{IsCutReady, IsPutReady, IsReadyPlan, change_of};
-ghost use Rattle.datastore_answers.specs.Tables.{bare, table_at, tables_in, tables_of};
+ghost use Rattle.datastore_answers.specs.Tables.{bare, table_at, tables_in, tables_kept, tables_of};
 
 use crate::address::Address;
-use crate::place::place_at;
+use crate::held::is_among;
+use crate::place::{place_at, places_in};
 use crate::plan::TablePlan;
 use crate::resource_table::ResourceTable;
 use datastore_table::{Batch, Method, Removal};
+use packages::package::Resource;
 use portal_base::json_value::Json;
 use portal_base::ordered::{drop_at, replace_or_put, reserve};
 use portal_base::seq::Seq;
@@ -86,6 +88,18 @@ impl Tables {
                 self.put(&address, method, &records, batch)
             }
             TablePlan::Cut(address, removal) => self.cut(&address, removal),
+        }
+    }
+
+    /// Drops the dataset's tables but those of these resources. It takes no memory.
+    pub fn keep(&mut self, dataset: &Text, resources: &[Resource])
+        ensures { tables_of self.new ≡ tables_kept dataset.now resources.now (tables_of self.old) }
+    {
+        let (from, to) = places_in(self.tables.as_slice(), dataset);
+        for place in (from..to).rev() {
+            if !is_among(resources, self.tables[place].address.number) {
+                self.tables.remove(place);
+            }
         }
     }
 

@@ -138,7 +138,8 @@ pub(crate) fn method_in(
 
 // ---- records
 
-fn is_map(value: &Json) -> bool
+/// Whether the value is a dictionary.
+pub(crate) fn is_map(value: &Json) -> bool
     ensures { result ≡ is_map value.now }
 {
     matches!(value, Json::Map(_))

@@ -1,4 +1,4 @@
-use Rattle.std.proofs.Common.{◌≡◌, sym}
+use Rattle.std.proofs.Common.{sym}
 use Rattle.std.specs.Prelude.{codes}
 use Rattle.packages.specs.Placing.{placed_now}
 use Rattle.visibility.specs.Seen.{seen_by}
