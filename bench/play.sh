@@ -11,7 +11,7 @@ from measuring import built, worked
 KINDS = ("create", "show_by_name", "show_by_id", "patch")
 COUNTS = (10_000, 20_000, 40_000)
 BOUND = 2.3
-ROUNDS = 10
+ROUNDS = 40
 
 program = built("portal_count")
 

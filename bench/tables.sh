@@ -1,6 +1,6 @@
 #!/bin/sh
-# Inserts 100,000, 200,000 and 400,000 rows into a table, 500 in a batch, puts 200 batches of 500 known keys into each,
-# and asks each ten times by a filter and five times for a sorted page.
+# Inserts 100,000, 200,000 and 400,000 rows into a table, 500 in a batch, puts 200 batches of 500 known keys into each, the
+# same keys into each, and asks each ten times by a filter and five times for a sorted page.
 # Prints thousands of rows a second of processor time for the inserts, how many times as long twice the rows take (more
 # than 2.3 times ends it with a failure), bytes of peak memory a row, and the time of one batch of known keys, of one filter
 # and of one sorted page, from which the inserts are taken off. Beside each how many times as long the table takes as
@@ -20,8 +20,9 @@ BATCHES = 200
 FILTERS = 10
 PAGES = 5
 STRIDE = 7919
+KNOWN = 100_000
 BOUND = 2.3
-ROUNDS = 3
+ROUNDS = 8
 
 # What is done behind the inserts: nothing, batches of known keys, filters, and sorted pages.
 BEHIND = {"inserts": (0, 0, 0), "batch": (BATCHES, 0, 0), "filter": (0, FILTERS, 0), "page": (0, 0, PAGES)}
@@ -43,7 +44,7 @@ def record(key):
 
 def upsert(table, rows):
     for place in range(BATCHES):
-        keys = (at * STRIDE % rows for at in range(place * BATCH, (place + 1) * BATCH))
+        keys = (at * STRIDE % KNOWN for at in range(place * BATCH, (place + 1) * BATCH))
         with table:
             table.executemany(
                 "INSERT INTO t VALUES (?, ?, ?) ON CONFLICT (id) DO UPDATE SET place = excluded.place,"

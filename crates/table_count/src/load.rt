@@ -21,6 +21,9 @@ const BATCH: u64 = 500;
 /// How far apart the keys of the batches of known keys are.
 const STRIDE: u64 = 7919;
 
+/// Among how many of the first rows they are, so that they are the same ones in each larger table.
+const KNOWN: u64 = 100_000;
+
 fn invalid() -> io::Error {
     io::Error::from(ErrorKind::InvalidData)
 }
@@ -107,7 +110,7 @@ pub fn loaded(alloc: Global, rows: u64, batches: u64) -> io::Result<Table> {
         put(alloc, &mut table, Method::Insert, keys.as_slice())?;
     }
     for place in 0..batches {
-        let keys = keys_of(alloc, place, Some(table.len()))?;
+        let keys = keys_of(alloc, place, Some(table.len().min(KNOWN)))?;
         put(alloc, &mut table, Method::Upsert, keys.as_slice())?;
     }
     Ok(table)
