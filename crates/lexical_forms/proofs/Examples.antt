@@ -1,7 +1,14 @@
 -- The definitions on worked examples.
-use Rattle.std.proofs.Common.{◌≡◌, true, false, Some, None, refl}
+use Rattle.std.proofs.Common.{◌≡◌, inr, true, false, Some, None, refl, lit<}
 use Rattle.std.specs.Prelude.{codes, pos, neg_ℤ}
 use Rattle.lexical_forms.specs.declared.form.NumberForm.{NumberForm}
+use Rattle.lexical_forms.specs.Forms.{IsIntegerText, IsInside, IsGroups, IsFractionPart, IsExponentPart}
+use Rattle.lexical_forms.specs.Forms.{IsUnsignedText, IsNumberText, IsSpelling}
+use Rattle.lexical_forms.specs.Forms.IsExponentPart.{ten_to}
+use Rattle.lexical_forms.specs.Forms.IsFractionPart.{point}
+use Rattle.lexical_forms.specs.Forms.IsGroups.{one, digit, mark}
+use Rattle.lexical_forms.specs.Forms.IsSign.{plus, minus}
+use Rattle.lexical_forms.specs.Forms.IsWholePart.{some}
 use Rattle.lexical_forms.specs.Number.{whole_reading, integer_reading, bare_reading, number_reading, default_spelling}
 
 -- ---- whole numbers
@@ -47,3 +54,91 @@ a_grouped_number = refl
 a_doubled_group : number_reading continental (codes "1..234") ≡ None
 unfolding bare_reading
 a_doubled_group = refl
+
+-- ---- the forms, by hand
+
+-- `-007` is a sign and digits
+minus_seven : IsIntegerText (codes "-007") (neg_ℤ (pos 7))
+minus_seven = record {
+  sign = codes "-";
+  negative = true;
+  digits = codes "007";
+  cut = refl;
+  signs = minus;
+  some = refl;
+  value = refl;
+}
+
+-- `EUR 12 each`: nothing in `EUR ` begins a number, and there is no digit in ` each`
+twelve_inside : IsInside None (codes "EUR 12 each") (codes "12")
+twelve_inside = record {
+  front = codes "EUR ";
+  back = codes " each";
+  cut = refl;
+  before = refl;
+  core = inr (record {
+    first = 49;
+    behind = codes "2";
+    before = codes "1";
+    last = 50;
+    from_first = refl;
+    begins = refl;
+    to_last = refl;
+    ends = refl;
+  });
+  behind = refl;
+}
+
+-- `1.23`: each point stands between two digits
+groups_of_two : IsGroups (Some 46) (codes "1.23") (codes "123")
+groups_of_two = mark 49 46 (codes "23") (codes "23") refl refl (digit 50 (codes "3") (codes "3") refl (one 51 refl))
+
+-- `,5`: the decimal character and a digit
+a_fraction : IsFractionPart 44 (codes ",5") (codes "5")
+a_fraction = point (codes "5") refl
+
+-- `e-1`: the mark and a whole number
+a_power : IsExponentPart (codes "e-1") (neg_ℤ (pos 1))
+a_power = ten_to 101 (codes "-1") (neg_ℤ (pos 1)) refl (record {
+  sign = codes "-";
+  negative = true;
+  digits = codes "1";
+  cut = refl;
+  signs = minus;
+  some = refl;
+  value = refl;
+})
+
+-- `1.23,5e-1` is 123.5 / 10 = 12.35, which is 12350000000 billionths
+a_size : IsUnsignedText continental (codes "1.23,5e-1") 12350000000
+a_size = record {
+  whole = codes "1.23";
+  fraction = codes ",5";
+  exponent = codes "e-1";
+  digits = codes "123";
+  places = codes "5";
+  power = neg_ℤ (pos 1);
+  cut = refl;
+  whole_part = some (codes "1.23") (codes "123") groups_of_two;
+  fraction_part = a_fraction;
+  exponent_part = a_power;
+  some = refl;
+  exact = refl;
+  small = lit< tt;
+}
+
+-- `+1.23,5e-1` is that, and continental numbers are spelled as descriptors can have them
+a_number : IsNumberText continental (codes "+1.23,5e-1") (pos 12350000000)
+a_number = record {
+  sign = codes "+";
+  negative = false;
+  rest = codes "1.23,5e-1";
+  size = 12350000000;
+  cut = refl;
+  signs = plus;
+  number = a_size;
+  value = refl;
+}
+
+a_spelling : IsSpelling continental
+a_spelling = record { decimal = refl; group = refl; apart = λ e. cc }

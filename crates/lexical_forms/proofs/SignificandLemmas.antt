@@ -122,7 +122,7 @@ scaled-long cs (negsuc down) long = by_rest (eqb (spelled cs % 10 ^ suc down) 0)
 -- ---- the size of a number in billionths
 
 -- The point is moved behind the last zero that is left.
-scaled-exact : (value zeros k : ℕ) (e : ℤ) → e +ℤ pos zeros ≡ pos k
+pub scaled-exact : (value zeros k : ℕ) (e : ℤ) → e +ℤ pos zeros ≡ pos k
     → scaled (value * 10 ^ zeros) e ≡ Some (value * 10 ^ k)
 scaled-exact value zeros k (pos up) h =
     let n : zeros + up ≡ k = omega (arith, ints) in

@@ -3,6 +3,7 @@
 
 mod field_name;
 mod form;
+pub mod laws;
 mod mark;
 mod number;
 mod print;

@@ -1,0 +1,5 @@
+use Rattle.lexical_forms.proofs.FormLemmas.{integer_where_of_form}
+use Rattle.lexical_forms.proofs.laws.a_text_is_a_whole_number_exactly_where_it_is_of_the_form.Goals as goal
+
+pub returns : goal.returns
+returns c = integer_where_of_form
