@@ -1,10 +1,10 @@
 -- A field is read back from the dictionary that it is written as.
-use Rattle.std.proofs.Common.{◌≡◌, ℕ, suc, Bool, true, false, refl, ap, sym, ◌∙◌, subst, List, [], ◌∷◌, ◌++◌, map}
+use Rattle.std.proofs.Common.{◌≡◌, ◌≢◌, ℕ, suc, Bool, true, false, refl, ap, sym, ◌∙◌, subst, List, [], ◌∷◌, ◌++◌, map}
 use Rattle.std.proofs.Common.{length, codes}
 use Rattle.std.specs.Prelude.{if◌then◌else◌, Option, Some, None, option_map, is_some, Result, Ok, Err, IfSome, All}
 use Rattle.std.specs.Char.{encode_utf8}
 use Rattle.std.specs.Str.{all_scalars, chars}
-use Rattle.std.proofs.lemmas.Bool.{and_parts}
+use Rattle.std.proofs.lemmas.Bool.{and_parts, eqb-false}
 use Rattle.std.proofs.lemmas.List.{append-nil}
 use Rattle.std.proofs.lemmas.Str.{chars-encodes}
 use Rattle.portal_base.specs.declared.json_value.Json as json
@@ -29,7 +29,7 @@ use Rattle.table_schema.specs.Keys.{field_of, fields_from}
 use Rattle.lexical_forms.specs.FieldName.{is_field_name}
 use Rattle.lexical_forms.specs.Mark.{is_mark, mark_of}
 use Rattle.lexical_forms.specs.Number.{is_that}
-use Rattle.table_schema.specs.Printed.{HasValues}
+use Rattle.table_schema.specs.Texts.{IsSpelled}
 use Rattle.table_schema.specs.Truth.{is_among, default_trues, default_falses}
 use Rattle.portal_base.specs.Kinds.{present, text_in}
 use Rattle.table_schema.specs.Values.{◌>>=◌, ◌>>>◌, or_fault, or_default, optional, dictionary_in, truth_in, texts_in}
@@ -192,8 +192,14 @@ truths-back name c m k t =
 -- the type, and the options that are read again
 pub record IsForm (k : Kind) (f : Form) : Type 0 where
   pub kind : kind_of f ≡ k
+  pub spelled : IsSpelled f
   pub back : (name : List ℕ) (c : Constraints) (missing : List (List ℕ)) (in_key : Bool)
       → form_in k (field_value (given name f c missing in_key)) ≡ Some f
+
+-- The group character is another than the decimal one.
+group-apart : (g : Option ℕ) (d : ℕ) → is_that g d ≡ false → IfSome g (λ c. c ≢ d)
+group-apart None d h = tt
+group-apart (Some c) d h = λ e. eqb-false d c h (sym e)
 
 form-Number : (item : Json) (f : Form) → option_map form.Number (spelling_in item) ≡ Some f → IsForm kind.Number f
 form-Number item f e =
@@ -212,6 +218,11 @@ form-Number item f e =
     ap form.Number apart.1 ∙ got.1.1 in
     subst (IsForm kind.Number) whole (record {
       kind = refl;
+      spelled = record {
+        decimal = decimal-mark (present (codes "decimalChar") item) decimal.0 decimal.1.0;
+        group = group-mark (present (codes "groupChar") item) group.0 group.1.0;
+        apart = group-apart group.0 decimal.0 apart.0;
+      };
       back = λ name c missing in_key. ap (option_map form.Number)
           (number-back name c missing in_key decimal.0 group.0 bare.0
           (decimal-mark (present (codes "decimalChar") item) decimal.0 decimal.1.0)
@@ -223,6 +234,7 @@ form-Integer item f e =
     let got = map-some form.Integer (bare_in item) f e in
     subst (IsForm kind.Integer) got.1.1 (record {
       kind = refl;
+      spelled = tt;
       back = λ name c missing in_key. ap (λ o. option_map form.Integer (or_default truth_in true o))
           (present-Map (codes "bareNumber") _ ∙ full-Truth got.0) ∙ ap (option_map form.Integer) (truth_in-Truth got.0);
     })
@@ -238,6 +250,7 @@ form-Boolean item f e =
     subst (IsForm kind.Boolean) whole
     (record {
       kind = refl;
+      spelled = tt;
       back = λ name c missing in_key. truths-back name c missing in_key
           (record { true_values = trues.0; false_values = falses.0 });
     })
@@ -245,20 +258,20 @@ form-Boolean item f e =
 -- The type and the options that were read are read again.
 pub form-back : (k : Kind) (item : Json) (f : Form) → form_in k item ≡ Some f → IsForm k f
 form-back kind.Text item f e = let same : form.Text ≡ f = cc in
-    subst (IsForm kind.Text) same (record { kind = refl; back = λ name c missing in_key. refl })
+    subst (IsForm kind.Text) same (record { kind = refl; spelled = tt; back = λ name c missing in_key. refl })
 form-back kind.Integer item f e = form-Integer item f e
 form-back kind.Number item f e = form-Number item f e
 form-back kind.Boolean item f e = form-Boolean item f e
 form-back kind.Date item f e = let same : form.Date ≡ f = cc in
-    subst (IsForm kind.Date) same (record { kind = refl; back = λ name c missing in_key. refl })
+    subst (IsForm kind.Date) same (record { kind = refl; spelled = tt; back = λ name c missing in_key. refl })
 form-back kind.Time item f e = let same : form.Time ≡ f = cc in
-    subst (IsForm kind.Time) same (record { kind = refl; back = λ name c missing in_key. refl })
+    subst (IsForm kind.Time) same (record { kind = refl; spelled = tt; back = λ name c missing in_key. refl })
 form-back kind.Datetime item f e = let same : form.Datetime ≡ f = cc in
-    subst (IsForm kind.Datetime) same (record { kind = refl; back = λ name c missing in_key. refl })
+    subst (IsForm kind.Datetime) same (record { kind = refl; spelled = tt; back = λ name c missing in_key. refl })
 form-back kind.Year item f e = let same : form.Year ≡ f = cc in
-    subst (IsForm kind.Year) same (record { kind = refl; back = λ name c missing in_key. refl })
+    subst (IsForm kind.Year) same (record { kind = refl; spelled = tt; back = λ name c missing in_key. refl })
 form-back kind.YearMonth item f e = let same : form.YearMonth ≡ f = cc in
-    subst (IsForm kind.YearMonth) same (record { kind = refl; back = λ name c missing in_key. refl })
+    subst (IsForm kind.YearMonth) same (record { kind = refl; spelled = tt; back = λ name c missing in_key. refl })
 
 -- ---- the field
 
@@ -414,24 +427,24 @@ columns-length number names (item ∷ items) columns e =
     sym (ap length same) ∙ ap suc (columns-length (suc number) (names ++ column.name ∷ []) items rest.0 rest.1.0)
 
 -- The bounds and the allowed cells of each field are values.
-pub columns-values : (number : ℕ) (names : List (List ℕ)) (items : List Json) (columns : List Column)
-    (missing : List (List ℕ)) (key : List ℕ) (place : ℕ) → columns_reading number names items ≡ Ok columns
-    → All (λ (f : FieldValue). HasValues f.constraints) (fields_from missing key place columns)
-columns-values number names [] columns missing key place e =
-    let none : [] ≡ columns = cc in
-    subst (λ l. All (λ (f : FieldValue). HasValues f.constraints) (fields_from missing key place l)) none
-    (All-none (λ (f : FieldValue). HasValues f.constraints))
-columns-values number names (item ∷ items) columns missing key place e =
+pub columns-all : (P : FieldValue → Type 0) (missing : List (List ℕ)) (key : List ℕ)
+    → ((names : List (List ℕ)) (place : ℕ) (column : Column) → IsColumn names column
+    → P (field_of missing key place column))
+    → (number : ℕ) (names : List (List ℕ)) (items : List Json) (columns : List Column) (place : ℕ)
+    → columns_reading number names items ≡ Ok columns → All P (fields_from missing key place columns)
+columns-all P missing key each number names [] columns place e =
+    let none : [] ≡ columns = cc (e) in
+    subst (λ l. All P (fields_from missing key place l)) none (All-none P)
+columns-all P missing key each number names (item ∷ items) columns place e =
     let first = bind-ok (column_reading number names item) (after_first number names items) columns e in
     let column = first.0 in
     let behind = names ++ column.name ∷ [] in
     let rest = bind-ok (columns_reading (suc number) behind items) (with_rest column) columns first.1.1 in
     let same : column ∷ rest.0 ≡ columns = cc (rest.1.1) in
-    subst (λ l. All (λ (f : FieldValue). HasValues f.constraints) (fields_from missing key place l)) same
-    (All-more (λ (f : FieldValue). HasValues f.constraints) (field_of missing key place column)
-    (fields_from missing key (suc place) rest.0)
-    (column-is number names item column first.1.0).constraints.values
-    (columns-values (suc number) behind items rest.0 missing key (suc place) rest.1.0))
+    subst (λ l. All P (fields_from missing key place l)) same
+    (All-more P (field_of missing key place column) (fields_from missing key (suc place) rest.0)
+    (each names place column (column-is number names item column first.1.0))
+    (columns-all P missing key each (suc number) behind items rest.0 (suc place) rest.1.0))
 
 -- ---- the readings one behind the other, with the first fault
 

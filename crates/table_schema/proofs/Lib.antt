@@ -1,5 +1,6 @@
 mod CalendarLemmas
 pub mod CellLemmas
+mod CellTextLemmas
 mod ColumnLemmas
 mod ConstraintLemmas
 mod DescriptorLemmas
@@ -7,5 +8,7 @@ mod Examples
 mod KeyLemmas
 mod OrderLemmas
 mod PrintLemmas
+mod PrintedTextLemmas
+mod TextLemmas
 mod ValueLemmas
 mod WrittenLemmas

@@ -149,7 +149,7 @@ calendar_seconds-of day second h =
     ap unsigned_abs total
 
 -- The text of a moment has the texts of its date and its time of day.
-moment_text-of : (day : ℤ) (second : ℕ) → IsDay day → second < 86400
+pub moment_text-of : (day : ℤ) (second : ℕ) → IsDay day → second < 86400
     → moment_text (seconds_of day second) ≡ date_text day ++ codes "T" ++ clock_text second
 unfolding moment_text
 moment_text-of day second h lt =

@@ -16,7 +16,7 @@ use Rattle.table_schema.specs.declared.foreign.Foreign.{Foreign}
 use Rattle.table_schema.specs.Descriptor.{dictionaries, field_items, columns_reading}
 use Rattle.lexical_forms.specs.Digits.{is_empty}
 use Rattle.table_schema.specs.Field.{FieldValue, SchemaValue, shown}
-use Rattle.table_schema.specs.Keys.{missing_in, place_of, is_new, places_from, places_of, places_in, key_in}
+use Rattle.table_schema.specs.Keys.{field_of, missing_in, place_of, is_new, places_from, places_of, places_in, key_in}
 use Rattle.table_schema.specs.Keys.{refers_to_key, foreign_of, reference_in, resource_in, target_in, foreign_in}
 use Rattle.table_schema.specs.Keys.{foreigns_in, fields_from, schema_of, keyed, columns_in, schema_reading}
 use Rattle.table_schema.specs.Printed.{HasValues}
@@ -25,7 +25,8 @@ use Rattle.table_schema.specs.Values.{◌>>=◌, ◌>>>◌, or_fault, or_default
 use Rattle.table_schema.specs.Values.{names_in, all_of}
 use Rattle.table_schema.specs.Written.{texts_value, field_value, name_at, reference_value, foreign_value, schema_value}
 use Rattle.table_schema.proofs.ColumnLemmas.{field_items-of}
-use Rattle.table_schema.proofs.DescriptorLemmas.{texts_in-back, columns-back, columns-length, columns-values}
+use Rattle.table_schema.specs.Texts.{IsSpelled}
+use Rattle.table_schema.proofs.DescriptorLemmas.{texts_in-back, columns-back, columns-length, columns-all, IsColumn}
 use Rattle.table_schema.proofs.ValueLemmas.{bind-some, bind-same, bind-ok, ok-same, map-some, gated, or_fault-ok}
 use Rattle.table_schema.proofs.ValueLemmas.{if_some, all_of-back, texts-back, out-List, text_in-Text, list_in-List}
 use Rattle.table_schema.proofs.ValueLemmas.{dictionary_in-Map, is_map-Map, full-Text, full-List, full-Map}
@@ -262,11 +263,13 @@ schema-back value schema e =
     let read = bind-ok (field_items value >>> columns_reading 1 []) (λ cs. or_fault BadKey (keyed cs value)) schema e in
     keyed_back read.0 value schema read.1.0 (or_fault-ok BadKey (keyed read.0 value) schema read.1.1)
 
--- The bounds and the allowed cells of its fields are values.
-pub schema-values : (value : Json) (schema : SchemaValue) → schema_reading value ≡ Ok schema
-    → All (λ (f : FieldValue). HasValues f.constraints) schema.fields
+-- What holds of each field that is read holds of the schema's fields.
+schema-all : (P : FieldValue → Type 0) (value : Json) (schema : SchemaValue)
+    → ((missing : List (List ℕ)) (key : List ℕ) (names : List (List ℕ)) (place : ℕ) (column : Column)
+    → IsColumn names column → P (field_of missing key place column))
+    → schema_reading value ≡ Ok schema → All P schema.fields
 unfolding schema_reading
-schema-values value schema e =
+schema-all P value schema each e =
     let read = bind-ok (field_items value >>> columns_reading 1 []) (λ cs. or_fault BadKey (keyed cs value)) schema e in
     let columns = read.0 in
     let items = bind-ok (field_items value) (columns_reading 1 []) columns read.1.0 in
@@ -276,8 +279,22 @@ schema-values value schema e =
     let foreign = bind-some (foreigns_in columns key.0 value) (λ f. Some (schema_of columns missing.0 key.0 f)) schema
     key.1.1 in
     let same : schema_of columns missing.0 key.0 foreign.0 ≡ schema = cc (foreign.1.1) in
-    subst (λ s. All (λ (f : FieldValue). HasValues f.constraints) s.fields) same
-    (columns-values 1 [] items.0 columns missing.0 key.0 0 items.1.1)
+    subst (λ s. All P s.fields) same
+    (columns-all P missing.0 key.0 (each missing.0 key.0) 1 [] items.0 columns 0 items.1.1)
+
+-- The bounds and the allowed cells of its fields are values.
+pub schema-values : (value : Json) (schema : SchemaValue) → schema_reading value ≡ Ok schema
+    → All (λ (f : FieldValue). HasValues f.constraints) schema.fields
+schema-values value schema e =
+    schema-all (λ (f : FieldValue). HasValues f.constraints) value schema
+    (λ missing key names place column is. is.constraints.values) e
+
+-- Its numbers are spelled as descriptors can have them spelled.
+pub schema-spelled : (value : Json) (schema : SchemaValue) → schema_reading value ≡ Ok schema
+    → All (λ (f : FieldValue). IsSpelled f.form) schema.fields
+schema-spelled value schema e =
+    schema-all (λ (f : FieldValue). IsSpelled f.form) value schema
+    (λ missing key names place column is. is.form.spelled) e
 
 -- A schema of these parts is what its keys are read as.
 pub keyed_shown : (columns : List Column) (value : Json) (fields : List FieldValue) (missing : List (List ℕ))

@@ -8,6 +8,7 @@ pub mod Messages
 pub mod Order
 pub mod Printed
 pub mod Reading
+pub mod Texts
 pub mod Truth
 pub mod Values
 pub mod Written
