@@ -12,5 +12,5 @@ pub mod resources;
 pub mod shelf;
 mod tags;
 pub mod texts;
-mod told;
+pub mod told;
 pub mod walk;

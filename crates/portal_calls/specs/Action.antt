@@ -12,7 +12,8 @@ use Rattle.portal_calls.specs.declared.action.Action.TheVariants.{OrganizationPa
 use Rattle.portal_calls.specs.declared.action.Action.TheVariants.{OrganizationShow, OrganizationList}
 use Rattle.portal_calls.specs.declared.action.Action.TheVariants.{OrganizationListForUser, OrganizationMemberCreate}
 use Rattle.portal_calls.specs.declared.action.Action.TheVariants.{OrganizationMemberDelete, MemberList}
-use Rattle.portal_calls.specs.declared.action.Action.TheVariants.{UserList}
+use Rattle.portal_calls.specs.declared.action.Action.TheVariants.{UserList, DatastoreCreate, DatastoreUpsert}
+use Rattle.portal_calls.specs.declared.action.Action.TheVariants.{DatastoreDelete, DatastoreSearch, DatastoreInfo}
 
 abbrev pub action_name : Action → List ℕ
 action_name PackageCreate = codes "package_create"
@@ -36,6 +37,11 @@ action_name OrganizationMemberCreate = codes "organization_member_create"
 action_name OrganizationMemberDelete = codes "organization_member_delete"
 action_name MemberList = codes "member_list"
 action_name UserList = codes "user_list"
+action_name DatastoreCreate = codes "datastore_create"
+action_name DatastoreUpsert = codes "datastore_upsert"
+action_name DatastoreDelete = codes "datastore_delete"
+action_name DatastoreSearch = codes "datastore_search"
+action_name DatastoreInfo = codes "datastore_info"
 
 abbrev pub all_actions : List Action
 all_actions =
@@ -46,6 +52,8 @@ all_actions =
     ∷ OrganizationPatch ∷ OrganizationDelete ∷ OrganizationShow
     ∷ OrganizationList ∷ OrganizationListForUser ∷ OrganizationMemberCreate
     ∷ OrganizationMemberDelete ∷ MemberList ∷ UserList
+    ∷ DatastoreCreate ∷ DatastoreUpsert ∷ DatastoreDelete
+    ∷ DatastoreSearch ∷ DatastoreInfo
     ∷ []
 
 -- the action of that name
@@ -75,3 +83,8 @@ is_reading OrganizationMemberCreate = false
 is_reading OrganizationMemberDelete = false
 is_reading MemberList = true
 is_reading UserList = true
+is_reading DatastoreCreate = false
+is_reading DatastoreUpsert = false
+is_reading DatastoreDelete = false
+is_reading DatastoreSearch = true
+is_reading DatastoreInfo = true

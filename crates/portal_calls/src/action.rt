@@ -26,11 +26,16 @@ pub enum Action {
     OrganizationMemberDelete,
     MemberList,
     UserList,
+    DatastoreCreate,
+    DatastoreUpsert,
+    DatastoreDelete,
+    DatastoreSearch,
+    DatastoreInfo,
 }
 
 impl Action {
     /// Every action.
-    pub const ALL: [Action; 21] = [
+    pub const ALL: [Action; 26] = [
         Action::PackageCreate,
         Action::PackageUpdate,
         Action::PackagePatch,
@@ -52,6 +57,11 @@ impl Action {
         Action::OrganizationMemberDelete,
         Action::MemberList,
         Action::UserList,
+        Action::DatastoreCreate,
+        Action::DatastoreUpsert,
+        Action::DatastoreDelete,
+        Action::DatastoreSearch,
+        Action::DatastoreInfo,
     ];
 
     /// The action's name in a call.
@@ -80,6 +90,11 @@ impl Action {
             Action::OrganizationMemberDelete => "organization_member_delete",
             Action::MemberList => "member_list",
             Action::UserList => "user_list",
+            Action::DatastoreCreate => "datastore_create",
+            Action::DatastoreUpsert => "datastore_upsert",
+            Action::DatastoreDelete => "datastore_delete",
+            Action::DatastoreSearch => "datastore_search",
+            Action::DatastoreInfo => "datastore_info",
         }
     }
 
@@ -107,6 +122,8 @@ impl Action {
                 | Action::OrganizationListForUser
                 | Action::MemberList
                 | Action::UserList
+                | Action::DatastoreSearch
+                | Action::DatastoreInfo
         )
     }
 }

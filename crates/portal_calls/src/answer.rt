@@ -18,6 +18,7 @@ pub enum Kind {
     Dataset,
     Resource,
     Organization,
+    Table,
 }
 
 /// A right that a caller lacks.
