@@ -1,5 +1,5 @@
 -- What the answers on datasets and resources accept is fit to be made.
-use Rattle.std.proofs.Common.{◌≡◌, ℕ, Bool, true, false, List, [], ◌∷◌, Option, Some, None, Ok}
+use Rattle.std.proofs.Common.{◌≡◌, ◌⊎◌, inl, inr, ℕ, Bool, true, false, List, [], ◌∷◌, Option, Some, None, Ok}
 use Rattle.std.proofs.Common.{refl, sym, ap, ◌∙◌, subst}
 use Rattle.std.specs.Prelude.{codes, option_and_then, option_map, slice_get, is_some, find, not, ◌&&◌}
 use Rattle.std.specs.List.{Contains}
@@ -42,13 +42,15 @@ use Rattle.dataset_answers.specs.Answers.{answer_to_dataset_purge, answer_to_pac
 use Rattle.dataset_answers.specs.Answers.{answer_to_resource_create, answer_to_resource_update}
 use Rattle.dataset_answers.specs.Answers.{answer_to_resource_delete, answer_to_resource_show}
 use Rattle.dataset_answers.specs.Answers.{may_create, purgeable_dataset}
-use Rattle.dataset_answers.specs.Fit.{IsFitDataset, IsReplacement}
+use Rattle.visibility.specs.Held.{Holding, loses_referred}
+use Rattle.dataset_answers.proofs.HeldLemmas.{all-keep, more-keep, place-keeps, unlost}
+use Rattle.dataset_answers.specs.Fit.{IsFitDataset, IsReplacement, KeepsResources}
 use Rattle.dataset_answers.specs.Lookup.{dataset_at, dataset_named, naming_key, own_dataset_at, own_resource_at}
 use Rattle.dataset_answers.specs.Lookup.{resource_at}
 use Rattle.dataset_answers.specs.Sound.{IsId, IsSound, Stands}
 use Rattle.dataset_answers.specs.Told.{changed_dataset, created_dataset, deleted_dataset, organization_told}
 use Rattle.dataset_answers.specs.Told.{told_of_dataset, told_of_new_resource, with_new_resource, with_resource_at}
-use Rattle.dataset_answers.specs.Told.{without_resource_at}
+use Rattle.dataset_answers.specs.Told.{lost_told, told_of_change, without_resource_at}
 use Rattle.dataset_answers.specs.declared.change.DatasetChange.{DatasetChange}
 
 -- ---- what holds where nothing is told
@@ -125,14 +127,16 @@ like-sound people old new like sound = record {
   tags = like.tags sound.tags;
 }
 
-like-replacement : (seen : Seen) (old new : Package) → Contains seen.datasets old → IsLike old new
-    → IsReplacement seen new
-like-replacement seen old new stood like = record {
+like-replacement : (seen : Seen) (held : List Holding) (old new : Package) → Contains seen.datasets old
+    → IsLike old new → KeepsResources old new ⊎ (loses_referred held new.id new.resources ≡ false)
+    → IsReplacement seen held new
+like-replacement seen held old new stood like spared = record {
   old = old;
   stood = stood;
   id = sym like.id;
   name = sym like.name;
   sound = like-sound seen.people old new like;
+  spared = spared;
 }
 
 changed-like : (call : Call) (whole : Bool) (old : Package) → told_of call.request.body (Some old) ≡ []
@@ -169,22 +173,22 @@ found-stood : (test : Package → Bool) (datasets : List Package) (dataset : Pac
 found-stood test datasets dataset found =
     Contains-IsIn dataset datasets (IsIn-find test dataset datasets found).0
 
-at-stood : (key : List ℕ) (seen : Seen) (dataset : Package) → dataset_at key seen ≡ Ok dataset
+pub at-stood : (key : List ℕ) (seen : Seen) (dataset : Package) → dataset_at key seen ≡ Ok dataset
     → Contains seen.datasets dataset
 at-stood key seen dataset is =
     let named = thing_at-ok key seen.call.request.body kind.Dataset (dataset_named seen.datasets) dataset is in
     found-stood (is_named named.name) seen.datasets dataset named.looked
 
-own-stood : (key : List ℕ) (seen : Seen) (dataset : Package) → own_dataset_at key seen ≡ Ok dataset
+pub own-stood : (key : List ℕ) (seen : Seen) (dataset : Package) → own_dataset_at key seen ≡ Ok dataset
     → Contains seen.datasets dataset
 own-stood key seen dataset is =
     at-stood key seen dataset
     (allowed_thing-ok (may_edit_in seen.people seen.call.caller) EditDataset (dataset_at key seen) dataset is).1
 
 -- a resource that stands at its place in a dataset among these
-record IsPlaced (datasets : List Package) (placed : Placed) : Type 0 where
-  stood : Contains datasets placed.dataset
-  there : slice_get placed.dataset.resources placed.place ≡ Some placed.resource
+pub record IsPlaced (datasets : List Package) (placed : Placed) : Type 0 where
+  pub stood : Contains datasets placed.dataset
+  pub there : slice_get placed.dataset.resources placed.place ≡ Some placed.resource
 
 -- what is placed stands where it is placed
 placed_at-there : (datasets : List Package) (dataset : Package) (place : ℕ) (placed : Placed)
@@ -206,97 +210,118 @@ named-placed datasets address placed is =
     (λ place at there. placed_at-there datasets dataset place placed
     (found-stood (has_address address) datasets dataset found) there))
 
-own-placed : (seen : Seen) (placed : Placed) → own_resource_at seen ≡ Ok placed → IsPlaced seen.datasets placed
-own-placed seen placed is =
-    let own =
-    allowed_thing-ok (λ (p : Placed). may_edit_in seen.people seen.call.caller p.dataset) EditDataset
-    (resource_at seen) placed is in
+pub at-placed : (seen : Seen) (placed : Placed) → resource_at seen ≡ Ok placed → IsPlaced seen.datasets placed
+at-placed seen placed is =
     let named =
-    thing_at-ok (codes "id") seen.call.request.body kind.Resource (resource_named seen.datasets) placed own.1 in
+    thing_at-ok (codes "id") seen.call.request.body kind.Resource (resource_named seen.datasets) placed is in
     named-placed seen.datasets named.name placed named.looked
+
+pub own-placed : (seen : Seen) (placed : Placed) → own_resource_at seen ≡ Ok placed → IsPlaced seen.datasets placed
+own-placed seen placed is =
+    at-placed seen placed
+    (allowed_thing-ok (λ (p : Placed). may_edit_in seen.people seen.call.caller p.dataset) EditDataset
+    (resource_at seen) placed is).1
 
 -- ---- the answers
 
-pub create_fit : (seen : Seen) → AcceptsOnly (IsFitDataset seen) (answer_to_package_create seen)
-create_fit seen =
-    AcceptsOnly-needing (IsFitDataset seen) (may_create seen) CreateDataset _
-    (λ may. AcceptsOnly-ruled (IsFitDataset seen) seen.quota
+pub create_fit : (seen : Seen) (held : List Holding)
+    → AcceptsOnly (IsFitDataset seen held) (answer_to_package_create seen)
+create_fit seen held =
+    AcceptsOnly-needing (IsFitDataset seen held) (may_create seen) CreateDataset _
+    (λ may. AcceptsOnly-ruled (IsFitDataset seen held) seen.quota
     (told_of_dataset seen.people seen.call.request.body None) _ (created-sound seen))
 
-change-fit : (whole : Bool) (seen : Seen) → AcceptsOnly (IsFitDataset seen) (answer_to_package_change whole seen)
-change-fit whole seen =
+change-fit : (whole : Bool) (seen : Seen) (held : List Holding)
+    → AcceptsOnly (IsFitDataset seen held) (answer_to_package_change whole seen held)
+change-fit whole seen held =
     let body = seen.call.request.body in
-    AcceptsOnly-answered (IsFitDataset seen) (own_dataset_at (naming_key body) seen) _
-    (λ dataset own. AcceptsOnly-ruled (IsFitDataset seen) seen.quota
-    (told_of_dataset seen.people body (Some dataset)) _
-    (λ none. like-replacement seen dataset (changed_dataset seen.call whole dataset)
-    (own-stood (naming_key body) seen dataset own)
-    (changed-like seen.call whole dataset (dataset-untold seen.people body (Some dataset) none).body_untold)))
+    AcceptsOnly-answered (IsFitDataset seen held) (own_dataset_at (naming_key body) seen) _
+    (λ dataset own. AcceptsOnly-ruled (IsFitDataset seen held) seen.quota
+    (told_of_change seen.people held body dataset (changed_dataset seen.call whole dataset)) _
+    (λ none. let changed = changed_dataset seen.call whole dataset in
+    let parts = noted_if-none (codes "resources") (lost_told held changed)
+    (told_of_dataset seen.people body (Some dataset)) none in
+    like-replacement seen held dataset changed (own-stood (naming_key body) seen dataset own)
+    (changed-like seen.call whole dataset (dataset-untold seen.people body (Some dataset) parts.0).body_untold)
+    (inr (unlost held changed parts.1))))
 
-pub update_fit : (seen : Seen) → AcceptsOnly (IsFitDataset seen) (answer_to_package_update seen)
+pub update_fit : (seen : Seen) (held : List Holding)
+    → AcceptsOnly (IsFitDataset seen held) (answer_to_package_update seen held)
 update_fit = change-fit true
 
-pub patch_fit : (seen : Seen) → AcceptsOnly (IsFitDataset seen) (answer_to_package_patch seen)
+pub patch_fit : (seen : Seen) (held : List Holding)
+    → AcceptsOnly (IsFitDataset seen held) (answer_to_package_patch seen held)
 patch_fit = change-fit false
 
-pub delete_fit : (seen : Seen) → AcceptsOnly (IsFitDataset seen) (answer_to_package_delete seen)
-delete_fit seen =
-    AcceptsOnly-answered (IsFitDataset seen) (own_dataset_at (codes "id") seen) _
-    (λ dataset own. AcceptsOnly-ruled (IsFitDataset seen) seen.quota [] _
+pub delete_fit : (seen : Seen) (held : List Holding)
+    → AcceptsOnly (IsFitDataset seen held) (answer_to_package_delete seen)
+delete_fit seen held =
+    AcceptsOnly-answered (IsFitDataset seen held) (own_dataset_at (codes "id") seen) _
+    (λ dataset own. AcceptsOnly-ruled (IsFitDataset seen held) seen.quota [] _
     (λ none. let deleted = deleted_dataset seen.call dataset in
-    like-replacement seen dataset deleted (own-stood (codes "id") seen dataset own)
+    like-replacement seen held dataset deleted (own-stood (codes "id") seen dataset own)
     (numbered-like dataset deleted refl refl refl refl refl
-    (λ stood. numbered_with_same_numbers dataset deleted stood refl refl))))
+    (λ stood. numbered_with_same_numbers dataset deleted stood refl refl))
+    (inl (all-keep dataset))))
 
-pub purge_fit : (seen : Seen) → AcceptsOnly (IsFitDataset seen) (answer_to_dataset_purge seen)
-purge_fit seen =
-    AcceptsOnly-answered (IsFitDataset seen) (purgeable_dataset seen) _
-    (λ dataset purgeable. AcceptsOnly-ruled (IsFitDataset seen) seen.quota [] _
+pub purge_fit : (seen : Seen) (held : List Holding)
+    → AcceptsOnly (IsFitDataset seen held) (answer_to_dataset_purge seen)
+purge_fit seen held =
+    AcceptsOnly-answered (IsFitDataset seen held) (purgeable_dataset seen) _
+    (λ dataset purgeable. AcceptsOnly-ruled (IsFitDataset seen held) seen.quota [] _
     (λ none. let found =
     allowed_thing-ok (λ (d : Package). is_sysadmin_in seen.people seen.call.caller && not (is_harvested d)) PurgeDataset
     (dataset_at (codes "id") seen) dataset purgeable in
     record { old = dataset; stood = at-stood (codes "id") seen dataset found.1; id = refl }))
 
-pub resource_create_fit : (seen : Seen) → AcceptsOnly (IsFitDataset seen) (answer_to_resource_create seen)
-resource_create_fit seen =
+pub resource_create_fit : (seen : Seen) (held : List Holding)
+    → AcceptsOnly (IsFitDataset seen held) (answer_to_resource_create seen held)
+resource_create_fit seen held =
     let body = seen.call.request.body in
-    AcceptsOnly-answered (IsFitDataset seen) (own_dataset_at (codes "package_id") seen) _
-    (λ dataset own. AcceptsOnly-ruled (IsFitDataset seen) seen.quota (told_of_new_resource dataset body) _
+    AcceptsOnly-answered (IsFitDataset seen held) (own_dataset_at (codes "package_id") seen) _
+    (λ dataset own. AcceptsOnly-ruled (IsFitDataset seen held) seen.quota (told_of_new_resource dataset body) _
     (λ none. let resource = resource_for dataset.next_resource body in
     let more = with_new_resource seen.call dataset resource in
-    like-replacement seen dataset more (own-stood (codes "package_id") seen dataset own)
+    like-replacement seen held dataset more (own-stood (codes "package_id") seen dataset own)
     (numbered-like dataset more refl refl refl refl refl
-    (λ stood. numbered_with_one_more dataset more resource stood refl refl refl))))
+    (λ stood. numbered_with_one_more dataset more resource stood refl refl refl))
+    (inl (more-keep dataset more resource refl))))
 
-pub resource_update_fit : (seen : Seen) → AcceptsOnly (IsFitDataset seen) (answer_to_resource_update seen)
-resource_update_fit seen =
+pub resource_update_fit : (seen : Seen) (held : List Holding)
+    → AcceptsOnly (IsFitDataset seen held) (answer_to_resource_update seen held)
+resource_update_fit seen held =
     let body = seen.call.request.body in
-    AcceptsOnly-answered (IsFitDataset seen) (own_resource_at seen) _
-    (λ placed own. AcceptsOnly-ruled (IsFitDataset seen) seen.quota (told_of_resource body) _
+    AcceptsOnly-answered (IsFitDataset seen held) (own_resource_at seen) _
+    (λ placed own. AcceptsOnly-ruled (IsFitDataset seen held) seen.quota (told_of_resource body) _
     (λ none. let resource = resource_for placed.resource.number body in
     let changed = with_resource_at seen.call placed.dataset placed.place resource in
     let found = own-placed seen placed own in
-    like-replacement seen placed.dataset changed found.stood
+    like-replacement seen held placed.dataset changed found.stood
     (numbered-like placed.dataset changed refl refl refl refl refl
     (λ stood. numbered_with_place_replaced placed.dataset changed placed.place placed.resource resource stood
-    found.there refl refl refl))))
+    found.there refl refl refl))
+    (inl (place-keeps placed.dataset changed placed.place placed.resource resource found.there refl refl))))
 
-pub resource_delete_fit : (seen : Seen) → AcceptsOnly (IsFitDataset seen) (answer_to_resource_delete seen)
-resource_delete_fit seen =
-    AcceptsOnly-answered (IsFitDataset seen) (own_resource_at seen) _
-    (λ placed own. AcceptsOnly-ruled (IsFitDataset seen) seen.quota [] _
-    (λ none. let less = without_resource_at seen.call placed.dataset placed.place in
-    like-replacement seen placed.dataset less (own-placed seen placed own).stood
+pub resource_delete_fit : (seen : Seen) (held : List Holding)
+    → AcceptsOnly (IsFitDataset seen held) (answer_to_resource_delete seen held)
+resource_delete_fit seen held =
+    AcceptsOnly-answered (IsFitDataset seen held) (own_resource_at seen) _
+    (λ placed own. let less = without_resource_at seen.call placed.dataset placed.place in
+    AcceptsOnly-ruled (IsFitDataset seen held) seen.quota (noted_if (codes "id") (lost_told held less) []) _
+    (λ none. like-replacement seen held placed.dataset less (own-placed seen placed own).stood
     (numbered-like placed.dataset less refl refl refl refl refl
-    (λ stood. numbered_without_place placed.dataset less placed.place stood refl refl))))
+    (λ stood. numbered_without_place placed.dataset less placed.place stood refl refl))
+    (inr (unlost held less (noted_if-none (codes "id") (lost_told held less) [] none).1))))
 
 -- ---- readings, which accept no change, of whatever kind
 
-pub show_only : (P : DatasetChange → Type 0) (seen : Seen) → AcceptsOnly P (answer_to_package_show seen)
-show_only P seen = AcceptsOnly-answered P (dataset_at (codes "id") seen) _ (λ dataset found. tt)
+pub show_only : (P : DatasetChange → Type 0) (seen : Seen) (held : List Holding)
+    → AcceptsOnly P (answer_to_package_show seen held)
+show_only P seen held = AcceptsOnly-answered P (dataset_at (codes "id") seen) _ (λ dataset found. tt)
 
-pub resource_show_only : (P : DatasetChange → Type 0) (seen : Seen) → AcceptsOnly P (answer_to_resource_show seen)
-resource_show_only P seen = AcceptsOnly-answered P (resource_at seen) _ (λ placed found. tt)
+pub resource_show_only : (P : DatasetChange → Type 0) (seen : Seen) (held : List Holding)
+    → AcceptsOnly P (answer_to_resource_show seen held)
+resource_show_only P seen held = AcceptsOnly-answered P (resource_at seen) _ (λ placed found. tt)
 
 pub list_only : (P : DatasetChange → Type 0) (seen : Seen) → AcceptsOnly P (answer_to_package_list seen)
 list_only P seen =

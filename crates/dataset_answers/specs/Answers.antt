@@ -11,6 +11,7 @@ use Rattle.org_roles.specs.Rights.{rights_for}
 use Rattle.org_roles.specs.declared.entry.Org.{Org}
 use Rattle.packages.specs.Resources.{told_of_resource, resource_for}
 use Rattle.packages.specs.declared.package.Package.{Package}
+use Rattle.visibility.specs.Held.{Holding}
 use Rattle.visibility.specs.Seen.{Seen}
 use Rattle.visibility.specs.View.{edits_somewhere, open_names}
 use Rattle.visibility.specs.Visibility.{caller_role, is_harvested}
@@ -22,6 +23,7 @@ use Rattle.portal_calls.specs.declared.answer.Right.TheVariants.{CreateDataset, 
 use Rattle.dataset_answers.specs.Dictionary.{package_dictionary, resource_dictionary}
 use Rattle.dataset_answers.specs.Lookup.{dataset_at, own_dataset_at, naming_key, resource_at, own_resource_at}
 use Rattle.dataset_answers.specs.Told.{organization_given, told_of_dataset, created_dataset, changed_dataset}
+use Rattle.dataset_answers.specs.Told.{lost_told, told_of_change}
 use Rattle.dataset_answers.specs.Told.{deleted_dataset, told_of_new_resource, with_new_resource, with_resource_at}
 use Rattle.dataset_answers.specs.Told.{without_resource_at}
 use Rattle.dataset_answers.specs.declared.change.DatasetChange.{DatasetChange}
@@ -29,14 +31,14 @@ use Rattle.dataset_answers.specs.declared.change.DatasetChange.TheVariants.{Crea
 
 -- ---- readings
 
-abbrev pub answer_to_package_show : Seen → Answer DatasetChange
-answer_to_package_show seen =
-    answered (dataset_at (codes "id") seen) (λ dataset. Shown (package_dictionary seen.people dataset))
+abbrev pub answer_to_package_show : Seen → List Holding → Answer DatasetChange
+answer_to_package_show seen held =
+    answered (dataset_at (codes "id") seen) (λ dataset. Shown (package_dictionary seen.people held dataset))
 
-abbrev pub answer_to_resource_show : Seen → Answer DatasetChange
-answer_to_resource_show seen =
+abbrev pub answer_to_resource_show : Seen → List Holding → Answer DatasetChange
+answer_to_resource_show seen held =
     answered (resource_at seen)
-    (λ placed. Shown (resource_dictionary placed.dataset.id placed.place placed.resource))
+    (λ placed. Shown (resource_dictionary held placed.dataset.id placed.place placed.resource))
 
 -- so many of the names, or all, from a place on
 abbrev pub page_of : Option ℕ → Option ℕ → List (List ℕ) → List (List ℕ)
@@ -63,26 +65,28 @@ may_create seen =
     is_sysadmin_in seen.people seen.call.caller
     || creates_in seen.people seen.call.caller (organization_given seen.people seen.call.request.body)
 
+-- no resource of a new dataset has a table
 abbrev pub answer_to_package_create : Seen → Answer DatasetChange
 answer_to_package_create seen =
     let dataset = created_dataset seen.call in
     needing (may_create seen) CreateDataset
     (ruled seen.quota (told_of_dataset seen.people seen.call.request.body None)
-    (Accepted (package_dictionary seen.people dataset) (Create dataset)))
+    (Accepted (package_dictionary seen.people [] dataset) (Create dataset)))
 
 -- what a call on a dataset changes is answered alike, whether absent keys take their defaults or keep what stands
-abbrev pub answer_to_package_change : Bool → Seen → Answer DatasetChange
-answer_to_package_change whole seen =
+abbrev pub answer_to_package_change : Bool → Seen → List Holding → Answer DatasetChange
+answer_to_package_change whole seen held =
     answered (own_dataset_at (naming_key seen.call.request.body) seen)
-    (λ dataset. ruled seen.quota (told_of_dataset seen.people seen.call.request.body (Some dataset))
-    (Accepted (package_dictionary seen.people (changed_dataset seen.call whole dataset))
-    (Replace (changed_dataset seen.call whole dataset))))
+    (λ dataset.
+    let changed = changed_dataset seen.call whole dataset in
+    ruled seen.quota (told_of_change seen.people held seen.call.request.body dataset changed)
+    (Accepted (package_dictionary seen.people held changed) (Replace changed)))
 
-abbrev pub answer_to_package_update : Seen → Answer DatasetChange
-answer_to_package_update seen = answer_to_package_change true seen
+abbrev pub answer_to_package_update : Seen → List Holding → Answer DatasetChange
+answer_to_package_update seen held = answer_to_package_change true seen held
 
-abbrev pub answer_to_package_patch : Seen → Answer DatasetChange
-answer_to_package_patch seen = answer_to_package_change false seen
+abbrev pub answer_to_package_patch : Seen → List Holding → Answer DatasetChange
+answer_to_package_patch seen held = answer_to_package_change false seen held
 
 -- ---- datasets that go
 
@@ -103,27 +107,28 @@ answer_to_dataset_purge seen =
 
 -- ---- resources
 
-abbrev pub answer_to_resource_create : Seen → Answer DatasetChange
-answer_to_resource_create seen =
+abbrev pub answer_to_resource_create : Seen → List Holding → Answer DatasetChange
+answer_to_resource_create seen held =
     answered (own_dataset_at (codes "package_id") seen)
     (λ dataset.
     let resource = resource_for dataset.next_resource seen.call.request.body in
     ruled seen.quota (told_of_new_resource dataset seen.call.request.body)
-    (Accepted (resource_dictionary dataset.id (length dataset.resources) resource)
+    (Accepted (resource_dictionary held dataset.id (length dataset.resources) resource)
     (Replace (with_new_resource seen.call dataset resource))))
 
 -- absent keys take their defaults
-abbrev pub answer_to_resource_update : Seen → Answer DatasetChange
-answer_to_resource_update seen =
+abbrev pub answer_to_resource_update : Seen → List Holding → Answer DatasetChange
+answer_to_resource_update seen held =
     answered (own_resource_at seen)
     (λ placed.
     let resource = resource_for placed.resource.number seen.call.request.body in
     ruled seen.quota (told_of_resource seen.call.request.body)
-    (Accepted (resource_dictionary placed.dataset.id placed.place resource)
+    (Accepted (resource_dictionary held placed.dataset.id placed.place resource)
     (Replace (with_resource_at seen.call placed.dataset placed.place resource))))
 
-abbrev pub answer_to_resource_delete : Seen → Answer DatasetChange
-answer_to_resource_delete seen =
+abbrev pub answer_to_resource_delete : Seen → List Holding → Answer DatasetChange
+answer_to_resource_delete seen held =
     answered (own_resource_at seen)
-    (λ placed. ruled seen.quota []
-    (Accepted json.Null (Replace (without_resource_at seen.call placed.dataset placed.place))))
+    (λ placed.
+    let changed = without_resource_at seen.call placed.dataset placed.place in
+    ruled seen.quota (noted_if (codes "id") (lost_told held changed) []) (Accepted json.Null (Replace changed)))

@@ -1,5 +1,5 @@
 -- The dictionaries in which replies show things, with keys that ascend by bytes. Keys are those of CKAN 2.10.
-use Rattle.std.specs.Prelude.{ℕ, ◌+◌, pos, List, [], ◌∷◌, ◌++◌, false, map, length, codes, option_map, unwrap_or}
+use Rattle.std.specs.Prelude.{ℕ, ◌+◌, pos, List, [], ◌∷◌, ◌++◌, map, length, codes, option_map, unwrap_or}
 use Rattle.portal_base.specs.MomentText.{moment_text}
 use Rattle.portal_base.specs.declared.json_value.Json.{Json}
 use Rattle.portal_base.specs.declared.json_value.Json as json
@@ -9,6 +9,7 @@ use Rattle.packages.specs.declared.package.Package.{Package}
 use Rattle.packages.specs.declared.package.Resource.{Resource}
 use Rattle.packages.specs.declared.package.State.{State}
 use Rattle.packages.specs.declared.package.State.TheVariants.{Draft, Active, Deleted}
+use Rattle.visibility.specs.Held.{Holding, has_table}
 
 abbrev pub state_name : State → List ℕ
 state_name Draft = codes "draft"
@@ -30,10 +31,10 @@ organization_dictionary people name = json.Map (
 abbrev pub tag_dictionary : List ℕ → Json
 tag_dictionary tag = json.Map ((codes "display_name", json.Text tag) ∷ (codes "name", json.Text tag) ∷ [])
 
--- a resource at its position in the dataset of that id; none has a table so far
-abbrev pub resource_dictionary : List ℕ → ℕ → Resource → Json
-resource_dictionary dataset position resource = json.Map (
-    (codes "datastore_active", json.Truth false)
+-- a resource at its position in the dataset of that id, and whether it has a table
+abbrev pub resource_dictionary : List Holding → List ℕ → ℕ → Resource → Json
+resource_dictionary held dataset position resource = json.Map (
+    (codes "datastore_active", json.Truth (has_table held dataset resource.number))
     ∷ (codes "description", json.Text resource.description)
     ∷ (codes "format", json.Text resource.format)
     ∷ (codes "id", json.Text (resource_address dataset resource.number))
@@ -45,10 +46,10 @@ resource_dictionary dataset position resource = json.Map (
     ∷ [])
 
 -- the resources from that position on
-abbrev pub resource_dictionaries : List ℕ → ℕ → List Resource → List Json
-resource_dictionaries dataset position [] = []
-resource_dictionaries dataset position (r ∷ rs) =
-    resource_dictionary dataset position r ∷ resource_dictionaries dataset (position + 1) rs
+abbrev pub resource_dictionaries : List Holding → List ℕ → ℕ → List Resource → List Json
+resource_dictionaries held dataset position [] = []
+resource_dictionaries held dataset position (r ∷ rs) =
+    resource_dictionary held dataset position r ∷ resource_dictionaries held dataset (position + 1) rs
 
 -- the members of a dataset's dictionary from `author` to `notes`
 abbrev pub described : Package → List (List ℕ × Json)
@@ -75,9 +76,9 @@ placed people dataset =
     ∷ []
 
 -- those from `resources` to `version`
-abbrev pub listed : Package → List (List ℕ × Json)
-listed dataset =
-    (codes "resources", json.List (resource_dictionaries dataset.id 0 dataset.resources))
+abbrev pub listed : List Holding → Package → List (List ℕ × Json)
+listed held dataset =
+    (codes "resources", json.List (resource_dictionaries held dataset.id 0 dataset.resources))
     ∷ (codes "state", json.Text (state_name dataset.state))
     ∷ (codes "tags", json.List (map tag_dictionary dataset.tags))
     ∷ (codes "title", json.Text dataset.title)
@@ -86,6 +87,6 @@ listed dataset =
     ∷ (codes "version", json.Text dataset.version)
     ∷ []
 
--- a dataset
-abbrev pub package_dictionary : Peopled → Package → Json
-package_dictionary people dataset = json.Map (described dataset ++ (placed people dataset ++ listed dataset))
+-- a dataset, where these resources have tables
+abbrev pub package_dictionary : Peopled → List Holding → Package → Json
+package_dictionary people held dataset = json.Map (described dataset ++ (placed people dataset ++ listed held dataset))

@@ -1,6 +1,6 @@
 -- What is told of the bodies of calls on datasets and resources, and the datasets that they say. Defaults, and what
 -- `package_update` and `package_patch` keep, are as in CKAN 2.10.
-use Rattle.std.specs.Prelude.{ℕ, ◌+◌, List, [], ◌∷◌, ◌++◌, codes, Bool, true, nat_lt, is_some, length, set}
+use Rattle.std.specs.Prelude.{ℕ, ◌+◌, List, [], ◌∷◌, ◌++◌, codes, Bool, true, not, nat_lt, is_some, length, set}
 use Rattle.std.specs.Prelude.{Option, Some, None, option_and_then}
 use Rattle.std.specs.List.{remove}
 use Rattle.portal_base.specs.Faults.{Fault, noted_if, also_noted}
@@ -18,6 +18,7 @@ use Rattle.packages.specs.declared.package.Package.{Package}
 use Rattle.packages.specs.declared.package.Resource.{Resource}
 use Rattle.packages.specs.declared.package.State.TheVariants.{Deleted}
 use Rattle.portal_calls.specs.declared.call.Call.{Call}
+use Rattle.visibility.specs.Held.{Holding, loses_referred}
 
 -- ---- what is told of a dataset
 
@@ -34,6 +35,18 @@ organization_told people body =
 abbrev pub told_of_dataset : Peopled → Json → Option Package → List Fault
 told_of_dataset people body old =
     also_noted (told_of body old) (noted_if (codes "owner_org") (organization_told people body) [])
+
+-- a table that stays refers to one that goes
+abbrev pub lost_told : List Holding → Package → Option (List ℕ)
+lost_told held changed =
+    message_unless (not (loses_referred held changed.id changed.resources))
+    (codes "A table of another resource refers to it")
+
+-- What is told of a body by which a dataset becomes another. That a table is lost is told behind the other rules of
+-- its key.
+abbrev pub told_of_change : Peopled → List Holding → Json → Package → Package → List Fault
+told_of_change people held body dataset changed =
+    noted_if (codes "resources") (lost_told held changed) (told_of_dataset people body (Some dataset))
 
 -- ---- datasets that calls say
 

@@ -3,6 +3,7 @@
 //! Each names the thing, the right, the reading of the body and the change. What it answers is a function of the call
 //! and of what the caller sees.
 ghost use Rattle.std.specs.Prelude.{◌≡◌, IfOk};
+ghost use Rattle.visibility.specs.Held.{held_seen};
 ghost use Rattle.visibility.specs.Seen.{seen_by};
 ghost use Rattle.dataset_answers.specs.Answers.{answer_to_package_show, answer_to_package_list, creates_in, may_create};
 ghost use Rattle.dataset_answers.specs.Answers.{answer_to_package_create, answer_to_package_change};
@@ -20,8 +21,8 @@ use crate::lookup::{
 };
 use crate::told::{
     changed_dataset, created_dataset, deleted_dataset, organization_given, read_count,
-    told_of_dataset, told_of_new_resource, with_new_resource, with_resource_at,
-    without_resource_at,
+    told_of_change, told_of_dataset, told_of_deletion, told_of_new_resource, with_new_resource,
+    with_resource_at, without_resource_at,
 };
 use org_roles::role::rights_of;
 use packages::resources::{resource_for, told_of_resource};
@@ -31,15 +32,21 @@ use portal_base::json_value::Json;
 use portal_calls::answer::{Answer, Denial, Right, denial_by, denial_of};
 use std::alloc::{AllocError, Global};
 use visibility::asked::Asked;
+use visibility::held::{Held, NoTables};
 
 // ---- readings
 
 /// The answer to a `package_show`.
-pub fn package_show(alloc: Global, asked: &Asked<'_>) -> Result<Answer<DatasetChange>, AllocError>
-    ensures { IfOk result (λ answer. answer ≡ answer_to_package_show (seen_by asked.now)) }
+pub fn package_show<H: Held>(
+    alloc: Global,
+    asked: &Asked<'_>,
+    tables: &H,
+) -> Result<Answer<DatasetChange>, AllocError>
+    ensures { IfOk result (λ answer. answer ≡ answer_to_package_show (seen_by asked.now)
+        (held_seen (seen_by asked.now).datasets (H.held tables.now))) }
 {
     match dataset_at(alloc, asked, "id")? {
-        Ok(dataset) => Ok(Answer::Shown(package_json(alloc, asked, dataset)?)),
+        Ok(dataset) => Ok(Answer::Shown(package_json(alloc, asked, tables, dataset)?)),
         Err(denial) => Ok(Answer::Refused(denial)),
     }
 }
@@ -60,12 +67,23 @@ pub fn package_list(alloc: Global, asked: &Asked<'_>) -> Result<Answer<DatasetCh
 }
 
 /// The answer to a `resource_show`.
-pub fn resource_show(alloc: Global, asked: &Asked<'_>) -> Result<Answer<DatasetChange>, AllocError>
-    ensures { IfOk result (λ answer. answer ≡ answer_to_resource_show (seen_by asked.now)) }
+pub fn resource_show<H: Held>(
+    alloc: Global,
+    asked: &Asked<'_>,
+    tables: &H,
+) -> Result<Answer<DatasetChange>, AllocError>
+    ensures { IfOk result (λ answer. answer ≡ answer_to_resource_show (seen_by asked.now)
+        (held_seen (seen_by asked.now).datasets (H.held tables.now))) }
 {
     match resource_at(alloc, asked)? {
         Ok(placed) => {
-            let shown = resource_json(alloc, &placed.dataset.id, placed.place, placed.resource)?;
+            let shown = resource_json(
+                alloc,
+                tables,
+                &placed.dataset.id,
+                placed.place,
+                placed.resource,
+            )?;
             Ok(Answer::Shown(shown))
         }
         Err(denial) => Ok(Answer::Refused(denial)),
@@ -104,44 +122,56 @@ pub fn package_create(alloc: Global, asked: &Asked<'_>) -> Result<Answer<Dataset
         return Ok(Answer::Refused(denial));
     }
     let dataset = created_dataset(alloc, asked.call)?;
-    let shown = package_json(alloc, asked, &dataset)?;
+    let shown = package_json(alloc, asked, &NoTables, &dataset)?;
     Ok(Answer::Accepted(shown, DatasetChange::Create(dataset)))
 }
 
 /// The answer to a `package_update`.
-pub fn package_update(alloc: Global, asked: &Asked<'_>) -> Result<Answer<DatasetChange>, AllocError>
-    ensures { IfOk result (λ answer. answer ≡ answer_to_package_update (seen_by asked.now)) }
+pub fn package_update<H: Held>(
+    alloc: Global,
+    asked: &Asked<'_>,
+    tables: &H,
+) -> Result<Answer<DatasetChange>, AllocError>
+    ensures { IfOk result (λ answer. answer ≡ answer_to_package_update (seen_by asked.now)
+        (held_seen (seen_by asked.now).datasets (H.held tables.now))) }
 {
-    package_change(alloc, asked, true)
+    package_change(alloc, asked, tables, true)
 }
 
 /// The answer to a `package_patch`.
-pub fn package_patch(alloc: Global, asked: &Asked<'_>) -> Result<Answer<DatasetChange>, AllocError>
-    ensures { IfOk result (λ answer. answer ≡ answer_to_package_patch (seen_by asked.now)) }
+pub fn package_patch<H: Held>(
+    alloc: Global,
+    asked: &Asked<'_>,
+    tables: &H,
+) -> Result<Answer<DatasetChange>, AllocError>
+    ensures { IfOk result (λ answer. answer ≡ answer_to_package_patch (seen_by asked.now)
+        (held_seen (seen_by asked.now).datasets (H.held tables.now))) }
 {
-    package_change(alloc, asked, false)
+    package_change(alloc, asked, tables, false)
 }
 
 /// The answer to a call that changes a dataset. `whole` says that absent keys take their defaults, and don't keep what
 /// stands.
-fn package_change(
+fn package_change<H: Held>(
     alloc: Global,
     asked: &Asked<'_>,
+    tables: &H,
     whole: bool,
 ) -> Result<Answer<DatasetChange>, AllocError>
-    ensures { IfOk result (λ answer. answer ≡ answer_to_package_change whole (seen_by asked.now)) }
+    ensures { IfOk result (λ answer. answer ≡ answer_to_package_change whole (seen_by asked.now)
+        (held_seen (seen_by asked.now).datasets (H.held tables.now))) }
 {
     let key = naming_key(&asked.call.request.body);
     let dataset = match own_dataset_at(alloc, asked, key)? {
         Ok(dataset) => dataset,
         Err(denial) => return Ok(Answer::Refused(denial)),
     };
-    let faults = told_of_dataset(alloc, asked, Some(dataset))?;
+    let changed = changed_dataset(alloc, asked.call, whole, dataset)?;
+    let faults = told_of_change(alloc, asked, tables, dataset, &changed)?;
     if let Some(denial) = denial_by(asked.quota, faults)? {
         return Ok(Answer::Refused(denial));
     }
-    let changed = changed_dataset(alloc, asked.call, whole, dataset)?;
-    let shown = package_json(alloc, asked, &changed)?;
+    let shown = package_json(alloc, asked, tables, &changed)?;
     Ok(Answer::Accepted(shown, DatasetChange::Replace(changed)))
 }
 
@@ -180,11 +210,13 @@ pub fn dataset_purge(alloc: Global, asked: &Asked<'_>) -> Result<Answer<DatasetC
 // ---- resources
 
 /// The answer to a `resource_create`.
-pub fn resource_create(
+pub fn resource_create<H: Held>(
     alloc: Global,
     asked: &Asked<'_>,
+    tables: &H,
 ) -> Result<Answer<DatasetChange>, AllocError>
-    ensures { IfOk result (λ answer. answer ≡ answer_to_resource_create (seen_by asked.now)) }
+    ensures { IfOk result (λ answer. answer ≡ answer_to_resource_create (seen_by asked.now)
+        (held_seen (seen_by asked.now).datasets (H.held tables.now))) }
 {
     let dataset = match own_dataset_at(alloc, asked, "package_id")? {
         Ok(dataset) => dataset,
@@ -195,17 +227,25 @@ pub fn resource_create(
         return Ok(Answer::Refused(denial));
     }
     let resource = resource_for(alloc, dataset.next_resource, &asked.call.request.body)?;
-    let shown = resource_json(alloc, &dataset.id, dataset.resources.len(), &resource)?;
+    let shown = resource_json(
+        alloc,
+        tables,
+        &dataset.id,
+        dataset.resources.len(),
+        &resource,
+    )?;
     let changed = with_new_resource(alloc, asked.call, dataset, resource)?;
     Ok(Answer::Accepted(shown, DatasetChange::Replace(changed)))
 }
 
 /// The answer to a `resource_update`.
-pub fn resource_update(
+pub fn resource_update<H: Held>(
     alloc: Global,
     asked: &Asked<'_>,
+    tables: &H,
 ) -> Result<Answer<DatasetChange>, AllocError>
-    ensures { IfOk result (λ answer. answer ≡ answer_to_resource_update (seen_by asked.now)) }
+    ensures { IfOk result (λ answer. answer ≡ answer_to_resource_update (seen_by asked.now)
+        (held_seen (seen_by asked.now).datasets (H.held tables.now))) }
 {
     let placed = match own_resource_at(alloc, asked)? {
         Ok(placed) => placed,
@@ -217,25 +257,28 @@ pub fn resource_update(
     }
     let dataset = placed.dataset;
     let resource = resource_for(alloc, placed.resource.number, &asked.call.request.body)?;
-    let shown = resource_json(alloc, &dataset.id, placed.place, &resource)?;
+    let shown = resource_json(alloc, tables, &dataset.id, placed.place, &resource)?;
     let changed = with_resource_at(alloc, asked.call, dataset, placed.place, resource)?;
     Ok(Answer::Accepted(shown, DatasetChange::Replace(changed)))
 }
 
 /// The answer to a `resource_delete`.
-pub fn resource_delete(
+pub fn resource_delete<H: Held>(
     alloc: Global,
     asked: &Asked<'_>,
+    tables: &H,
 ) -> Result<Answer<DatasetChange>, AllocError>
-    ensures { IfOk result (λ answer. answer ≡ answer_to_resource_delete (seen_by asked.now)) }
+    ensures { IfOk result (λ answer. answer ≡ answer_to_resource_delete (seen_by asked.now)
+        (held_seen (seen_by asked.now).datasets (H.held tables.now))) }
 {
     let placed = match own_resource_at(alloc, asked)? {
         Ok(placed) => placed,
         Err(denial) => return Ok(Answer::Refused(denial)),
     };
-    if let Some(denial) = denial_by(asked.quota, Faults::new(alloc))? {
+    let changed = without_resource_at(alloc, asked.call, placed.dataset, placed.place)?;
+    let faults = told_of_deletion(alloc, tables, &changed)?;
+    if let Some(denial) = denial_by(asked.quota, faults)? {
         return Ok(Answer::Refused(denial));
     }
-    let changed = without_resource_at(alloc, asked.call, placed.dataset, placed.place)?;
     Ok(Answer::Accepted(Json::Null, DatasetChange::Replace(changed)))
 }

@@ -13,6 +13,7 @@ use portal_base::seq::Seq;
 use portal_base::text::Text;
 use std::alloc::{AllocError, Global};
 use visibility::asked::Asked;
+use visibility::held::Held;
 
 fn name_of_state(state: State) -> &'static str
     ensures { result.now ≡ state_name state }
@@ -74,19 +75,24 @@ fn tags_json(alloc: Global, tags: &[Text]) -> Result<Seq<Json>, AllocError>
 }
 
 /// The dictionary of a resource at its position in the dataset of that id.
-pub fn resource_json<'a>(
+pub fn resource_json<'a, H: Held>(
     alloc: Global,
+    tables: &H,
     dataset: &'a Text,
     position: usize,
     resource: &'a Resource,
 ) -> Result<Json, AllocError>
-    ensures { IfOk result (λ json. json ≡ resource_dictionary dataset.now position resource.now) }
+    ensures { IfOk result (λ json.
+        json ≡ resource_dictionary (H.held tables.now) dataset.now position resource.now) }
 {
     let id = resource_address(alloc, dataset, resource.number)?;
     Json::dictionary(
         alloc,
         [
-            ("datastore_active", Value::Truth(false)),
+            (
+                "datastore_active",
+                Value::Truth(tables.has_table(dataset, resource.number)),
+            ),
             ("description", Value::Text(&resource.description)),
             ("format", Value::Text(&resource.format)),
             ("id", Value::Json(Json::Text(id))),
@@ -99,26 +105,33 @@ pub fn resource_json<'a>(
     )
 }
 
-fn resources_json(
+fn resources_json<H: Held>(
     alloc: Global,
+    tables: &H,
     dataset: &Text,
     resources: &[Resource],
 ) -> Result<Seq<Json>, AllocError>
-    ensures { IfOk result (λ list. list ≡ resource_dictionaries dataset.now 0 resources.now) }
+    ensures { IfOk result (λ list. list ≡ resource_dictionaries (H.held tables.now) dataset.now 0 resources.now) }
 {
     let mut list = Vec::with_capacity(alloc, resources.len())?;
     for (position, resource) in resources.iter().enumerate() {
-        list.push(resource_json(alloc, dataset, position, resource)?)?;
+        list.push(resource_json(alloc, tables, dataset, position, resource)?)?;
     }
     Ok(Seq::from(list))
 }
 
 /// The dictionary of a dataset. Its keys are those of CKAN 2.10's package dictionary that the portal keeps.
-pub fn package_json(alloc: Global, asked: &Asked<'_>, dataset: &Package) -> Result<Json, AllocError>
-    ensures { IfOk result (λ json. json ≡ package_dictionary (seen_by asked.now).people dataset.now) }
+pub fn package_json<H: Held>(
+    alloc: Global,
+    asked: &Asked<'_>,
+    tables: &H,
+    dataset: &Package,
+) -> Result<Json, AllocError>
+    ensures { IfOk result (λ json.
+        json ≡ package_dictionary (seen_by asked.now).people (H.held tables.now) dataset.now) }
 {
     let organization = organization_json(alloc, asked, &dataset.owner_org)?;
-    let resources = resources_json(alloc, &dataset.id, dataset.resources.as_slice())?;
+    let resources = resources_json(alloc, tables, &dataset.id, dataset.resources.as_slice())?;
     let tags = tags_json(alloc, dataset.tags.as_slice())?;
     Json::dictionary(
         alloc,

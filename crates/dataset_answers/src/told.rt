@@ -1,11 +1,12 @@
 //! What is told of the bodies of calls on datasets and resources, and the datasets that they say. Each key is read once
 //! for each.
-ghost use Rattle.std.specs.Prelude.{◌≡◌, ◌<◌, IfOk, OnOk, length};
+ghost use Rattle.std.specs.Prelude.{◌≡◌, ◌<◌, IfOk, OnOk, [], codes, length};
 ghost use Rattle.std.specs.Option.{option_copied};
 ghost use Rattle.portal_base.specs.Faults.{found_value, kind_message, noted_if};
 ghost use Rattle.portal_base.specs.Kinds.{count_at};
 ghost use Rattle.visibility.specs.Seen.{seen_by};
 ghost use Rattle.dataset_answers.specs.Told.{organization_given, organization_told, told_of_dataset, caller_name};
+ghost use Rattle.dataset_answers.specs.Told.{lost_told, told_of_change};
 ghost use Rattle.dataset_answers.specs.Told.{created_dataset, changed_dataset, deleted_dataset, told_of_new_resource};
 ghost use Rattle.dataset_answers.specs.Told.{with_new_resource, with_resource_at, without_resource_at};
 
@@ -14,6 +15,7 @@ use packages::build;
 use packages::package::{Package, Resource, State};
 use packages::resources::told_of_resource;
 use packages::texts::text_given;
+use packages::told::{message_unless, note};
 use portal_base::caller::Caller;
 use portal_base::copy::TryClone;
 use portal_base::faults::Faults;
@@ -26,6 +28,7 @@ use portal_calls::call::Call;
 use std::alloc::{AllocError, Global};
 use std::mem;
 use visibility::asked::Asked;
+use visibility::held::Held;
 
 /// How many resources a dataset may have.
 const MOST_RESOURCES: usize = 200;
@@ -95,6 +98,45 @@ pub fn told_of_dataset(
     }
     let others = build::told(alloc, &asked.call.request.body, old)?;
     faults.note_all(others.into_list())?;
+    Ok(faults)
+}
+
+/// What is told where a table that stays refers to one that goes.
+pub fn lost_told<H: Held>(tables: &H, changed: &Package) -> Option<Text>
+    ensures { result ≡ lost_told (H.held tables.now) changed.now }
+{
+    let is_lost = tables.loses_referred(&changed.id, changed.resources.as_slice());
+    message_unless(!is_lost, "A table of another resource refers to it")
+}
+
+/// What is told of a body by which a dataset becomes another. That a table is lost comes behind the other rules of its
+/// key.
+pub fn told_of_change<H: Held>(
+    alloc: Global,
+    asked: &Asked<'_>,
+    tables: &H,
+    dataset: &Package,
+    changed: &Package,
+) -> Result<Faults, AllocError>
+    ensures { IfOk result (λ faults. faults ≡ told_of_change (seen_by asked.now).people (H.held tables.now)
+        asked.now.call.now.request.body dataset.now changed.now) }
+{
+    let mut faults = told_of_dataset(alloc, asked, Some(dataset))?;
+    note(&mut faults, "resources", lost_told(tables, changed))?;
+    Ok(faults)
+}
+
+/// What is told of the deletion of a resource, by which its dataset becomes another.
+pub fn told_of_deletion<H: Held>(
+    alloc: Global,
+    tables: &H,
+    changed: &Package,
+) -> Result<Faults, AllocError>
+    ensures { IfOk result (λ faults. faults
+        ≡ noted_if (codes "id") (lost_told (H.held tables.now) changed.now) []) }
+{
+    let mut faults = Faults::new(alloc);
+    note(&mut faults, "id", lost_told(tables, changed))?;
     Ok(faults)
 }
 

@@ -4,6 +4,7 @@ use Rattle.dataset_answers.proofs.dictionary.resources_json.Given as goal
 
 -- the dictionaries so far and those of the resources that are left are those of all
 abbrev pub invariant-loop-position : goal.invariant-loop-position
-invariant-loop-position l =
-    l.list.items ++ resource_dictionaries l.dataset l.position (drop l.position l.resources)
-    ≡ resource_dictionaries l.dataset 0 l.resources
+invariant-loop-position g l =
+    let held = g.H.Held.held l.tables in
+    l.list.items ++ resource_dictionaries held l.dataset l.position (drop l.position l.resources)
+    ≡ resource_dictionaries held l.dataset 0 l.resources
