@@ -8,7 +8,7 @@ use Rattle.portal_base.specs.Ordered.{inserted}
 use Rattle.portal_base.specs.declared.json_value.Json.{Json, Map, Text}
 use Rattle.portal_base.specs.declared.json_value.Json as json
 use Rattle.portal_calls.specs.declared.answer.Kind.{Kind}
-use Rattle.portal_calls.specs.declared.answer.Kind.TheVariants.{Dataset, Resource, Organization}
+use Rattle.portal_calls.specs.declared.answer.Kind.TheVariants.{Dataset, Resource, Organization, Table}
 use Rattle.portal_calls.specs.declared.answer.Right.{Right}
 use Rattle.portal_calls.specs.declared.answer.Right.TheVariants.{CreateDataset, EditDataset, PurgeDataset}
 use Rattle.portal_calls.specs.declared.answer.Right.TheVariants.{CreateOrganization, AdministerOrganization}
@@ -23,6 +23,7 @@ abbrev pub kind_name : Kind → List ℕ
 kind_name Dataset = codes "Dataset"
 kind_name Resource = codes "Resource"
 kind_name Organization = codes "Organization"
+kind_name Table = codes "Table"
 
 abbrev pub right_name : Right → List ℕ
 right_name CreateDataset = codes "create dataset"

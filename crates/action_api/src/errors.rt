@@ -25,6 +25,7 @@ fn name_of_kind(kind: Kind) -> &'static str
         Kind::Dataset => "Dataset",
         Kind::Resource => "Resource",
         Kind::Organization => "Organization",
+        Kind::Table => "Table",
     }
 }
 

@@ -1,5 +1,5 @@
 -- What a caller sees of a state with a change is what it sees with the change made in what it sees.
-use Rattle.std.proofs.Common.{◌≡◌, ℕ, Bool, true, false, ◌&&◌, ◌||◌, cond, List, [], ◌∷◌, map}
+use Rattle.std.proofs.Common.{◌≡◌, ℕ, Bool, true, false, not, ◌&&◌, ◌||◌, cond, List, [], ◌∷◌, map, subst}
 use Rattle.std.proofs.Common.{refl, sym, ap, ◌∙◌, ◌⊎◌, inl, inr}
 use Rattle.std.specs.Prelude.{filter, find}
 use Rattle.std.specs.List.{list_any}
@@ -12,8 +12,8 @@ use Rattle.std.proofs.lemmas.List.Elements.{filter_agree}
 use Rattle.portal_base.specs.declared.caller.Caller.{Caller}
 use Rattle.portal_base.specs.declared.caller.Caller.TheVariants.{Anonymous, Named}
 use Rattle.portal_base.specs.Ordered.{IsAscending, placed, dropped}
-use Rattle.portal_base.proofs.Filtered.{IsAscending-filter}
-use Rattle.portal_base.proofs.Placed.{filter-placed, filter-dropped, filter-dropped_hidden, filter-placed_hidden}
+use Rattle.portal_base.proofs.Filtered.{filter-IsIn, filter-filter, IsIn-filter}
+use Rattle.portal_base.proofs.Placed.{filter-dropped_hidden, filter-placed_hidden, IsIn-dropped, IsIn-placed}
 use Rattle.portal_base.proofs.Unique.{IsIn}
 use Rattle.org_roles.specs.Changed.{changed_people}
 use Rattle.org_roles.specs.Order.{org_cmp, membership_cmp, membership_cmp_total}
@@ -35,48 +35,24 @@ use Rattle.packages.specs.declared.package.Package.{Package}
 use Rattle.visibility.specs.View.{is_called, user_seen, administers, is_role_seen, people_seen, datasets_seen}
 use Rattle.visibility.specs.Visibility.{caller_role, sees_in, is_open_if_harvested}
 use Rattle.visibility.proofs.Viewing.{filter_twice, find-kept, called_by_name}
-use Rattle.visibility.proofs.Viewing.{is_sysadmin_in_seen, sees_in_seen, people_seen_twice}
+use Rattle.visibility.proofs.Viewing.{datasets_seen_twice, is_sysadmin_in_seen, sees_in_seen, people_seen_twice}
 use Rattle.visibility.proofs.VisibilityLemmas.{sees_in-own}
 use Rattle.visibility.proofs.Opening.{own_is_seen}
 use Rattle.dataset_answers.specs.Changed.{changed_datasets, dataset_at_id}
 use Rattle.dataset_answers.specs.declared.change.DatasetChange.{DatasetChange}
 use Rattle.dataset_answers.specs.declared.change.DatasetChange.TheVariants as dataset
-use Rattle.portal_core.specs.Changed.{changed}
+use Rattle.datastore_answers.specs.Changed.{changed_tables}
+use Rattle.datastore_answers.specs.Order.{table_cmp}
+use Rattle.datastore_answers.specs.Tables.{is_table_among, tables_seen}
+use Rattle.datastore_answers.specs.declared.resource_table.ResourceTable.{ResourceTable}
+use Rattle.visibility.specs.Held.{is_among}
+use Rattle.portal_core.proofs.Kept.{dropped-kept, filter-narrower, placed-kept}
+use Rattle.portal_core.proofs.TableViewing.{among-narrower, any-among, any-is, own-id, tables-kept}
+use Rattle.portal_core.specs.Changed.{changed, tables_left}
 use Rattle.portal_core.specs.State.{State}
 use Rattle.portal_core.specs.View.{view_of, is_spent_of}
 use Rattle.portal_core.specs.declared.spent.Spent.{Spent}
-use Rattle.portal_core.specs.declared.change.Change.{Change}
-use Rattle.portal_core.specs.declared.change.Change.TheVariants.{People, Datasets}
-
--- ---- lists
-
--- what a test keeps that keeps no more than another is kept of what that one keeps
-pub filter-narrower : {X : Type 0} (p q : X → Bool) (xs : List X) → ((x : X) → IsIn x xs → p x ≡ true → q x ≡ true)
-    → filter p (filter q xs) ≡ filter p xs
-filter-narrower p q [] narrower = refl
-filter-narrower {X} p q (x ∷ xs) narrower =
-    by (p x) refl (q x) refl (filter-narrower p q xs (λ z m. narrower z (inr m)))
-  where
-    by : (a : Bool) → p x ≡ a → (b : Bool) → q x ≡ b → filter p (filter q xs) ≡ filter p xs
-        → filter p (cond b (x ∷ filter q xs) (filter q xs)) ≡ cond a (x ∷ filter p xs) (filter p xs)
-    by a is true keeps rest =
-        ap (λ c. cond c (x ∷ filter p (filter q xs)) (filter p (filter q xs))) is ∙ ap (λ l. cond a (x ∷ l) l) rest
-    by true is false keeps rest = let seen : q x ≡ true = narrower x (inl refl) is in absurd (cc)
-    by false is false keeps rest = rest
-
--- what is kept of a list in which an item was placed hangs on what is kept of the list
-placed-kept : {X : Type 0} (cmp : X → X → Ordering) (o : IsTotalOrder cmp) (p q : X → Bool) (x : X) (xs : List X)
-    → IsAscending cmp xs → filter p (filter q xs) ≡ filter p xs
-    → filter p (placed cmp x (filter q xs)) ≡ filter p (placed cmp x xs)
-placed-kept cmp o p q x xs up same =
-    filter-placed cmp o p x (filter q xs) (IsAscending-filter cmp q xs up)
-    ∙ ap (λ l. cond (p x) (placed cmp x l) (dropped (λ y. cmp y x) l)) same
-    ∙ sym (filter-placed cmp o p x xs up)
-
-dropped-kept : {X : Type 0} (p q : X → Bool) (at : X → Ordering) (xs : List X) → filter p (filter q xs) ≡ filter p xs
-    → filter p (dropped at (filter q xs)) ≡ filter p (dropped at xs)
-dropped-kept p q at xs same =
-    filter-dropped p at (filter q xs) ∙ ap (dropped at) same ∙ sym (filter-dropped p at xs)
+use Rattle.portal_core.specs.Change.{Change, People, Datasets, Tables}
 
 -- ---- datasets
 
@@ -392,30 +368,142 @@ datasets-changed_seen change caller people datasets up own harvested =
     ∙ filter-narrower (sees_in (changed_people change people) caller) (sees_in people caller) datasets
     (λ d within now. sight-narrower change caller people up own d (harvested d within) now)
 
+-- no table is of a dataset of that id
+abbrev pub HasNoTables : List ℕ → List ResourceTable → Type 0
+HasNoTables id tables = (t : ResourceTable) → IsIn t tables → bytes_eq t.address.dataset id ≡ false
+
+-- the caller sees a dataset of that id
+abbrev pub IsIdSeen : Caller → State → List ℕ → Type 0
+IsIdSeen caller state id =
+    list_any (λ (e : Package). bytes_eq id e.id) (datasets_seen caller state.people state.datasets) ≡ true
+
+abbrev pub IsOwnDatasets : Caller → State → DatasetChange → Type 0
+IsOwnDatasets caller state (dataset.Create d) = HasNoTables d.id state.tables
+IsOwnDatasets caller state (dataset.Replace d) = IsIdSeen caller state d.id
+IsOwnDatasets caller state (dataset.Remove id) = Unit {0}
+
 -- what the caller changes is its own to change
 abbrev pub IsOwn : Caller → State → Change → Type 0
 IsOwn caller state (People change) = IsOwnChange caller state.people change
-IsOwn caller state (Datasets change) = Unit {0}
+IsOwn caller state (Datasets change) = IsOwnDatasets caller state change
+IsOwn caller state (Tables change) = Unit {0}
 
-abbrev stated : Peopled → List Package → List Spent → State
-stated people datasets spent = record { people = people; datasets = datasets; spent = spent }
+abbrev pub stated : Peopled → List Package → List ResourceTable → List Spent → State
+stated people datasets tables spent =
+    record { people = people; datasets = datasets; tables = tables; spent = spent }
 
-same_state : {p q : Peopled} {ds es : List Package} {ss ts : List Spent} → p ≡ q → ds ≡ es → ss ≡ ts
-    → stated p ds ss ≡ stated q es ts
-same_state people datasets spent = rw (people, datasets, spent) refl
+pub same_state : {p q : Peopled} {ds es : List Package} {us vs : List ResourceTable} {ss ts : List Spent} → p ≡ q
+    → ds ≡ es → us ≡ vs → ss ≡ ts → stated p ds us ss ≡ stated q es vs ts
+same_state people datasets tables spent = rw (people, datasets, tables, spent) refl
+
+-- ---- tables
+
+-- The tables that are seen after a change of people are among those that were seen.
+people-tables : (change : OrgChange) (caller : Caller) (state : State)
+    → IsAscending membership_cmp state.people.roles → IsOwnChange caller state.people change
+    → ((d : Package) → IsIn d state.datasets → is_open_if_harvested d ≡ true)
+    → tables_seen (datasets_seen caller (changed_people change (people_seen caller state.people))
+    (datasets_seen caller state.people state.datasets))
+    (tables_seen (datasets_seen caller state.people state.datasets) state.tables)
+    ≡ tables_seen (datasets_seen caller (changed_people change state.people) state.datasets) state.tables
+people-tables change caller state roles_up own harvested =
+    let before : List Package = datasets_seen caller state.people state.datasets in
+    let after : List Package = datasets_seen caller (changed_people change state.people) state.datasets in
+    ap (λ (ds : List Package). tables_seen ds (tables_seen before state.tables))
+    (datasets-changed_seen change caller state.people state.datasets roles_up own harvested)
+    ∙ filter-narrower (is_table_among after) (is_table_among before) state.tables
+    (λ t within now. among-narrower after before
+    (λ d seen. let was = IsIn-filter (sees_in (changed_people change state.people) caller) d state.datasets seen in
+    own-id d before
+    (filter-IsIn (sees_in state.people caller) d state.datasets was.0
+    (sight-narrower change caller state.people roles_up own d (harvested d was.0) was.1))) t now)
+
+-- Where a dataset was placed, a table that is seen now was seen, unless it is of that dataset and none of its id was
+-- seen.
+placed-among : (caller : Caller) (state : State) (d : Package) (t : ResourceTable)
+    → is_table_among (datasets_seen caller state.people (placed dataset_cmp d state.datasets)) t ≡ true
+    → (bytes_eq t.address.dataset d.id ≡ false) ⊎ IsIdSeen caller state d.id
+    → is_table_among (datasets_seen caller state.people state.datasets) t ≡ true
+placed-among caller state d t now known =
+    let here = any-is (λ (e : Package). bytes_eq t.address.dataset e.id)
+    (datasets_seen caller state.people (placed dataset_cmp d state.datasets)) now in
+    let there = IsIn-filter (sees_in state.people caller) here.0 (placed dataset_cmp d state.datasets) here.1 in
+    by here.0 here.2 (IsIn-placed dataset_cmp d here.0 state.datasets there.0) there.1 known
+  where
+    before : List Package
+    before = datasets_seen caller state.people state.datasets
+
+    by : (e : Package) → bytes_eq t.address.dataset e.id ≡ true
+        → (e ≡ d) ⊎ (IsIn e state.datasets × (is_eq (dataset_cmp e d) ≡ false)) → sees_in state.people caller e ≡ true
+        → (bytes_eq t.address.dataset d.id ≡ false) ⊎ IsIdSeen caller state d.id → is_table_among before t ≡ true
+    by e own (inr was) sees k =
+        any-among (λ (f : Package). bytes_eq t.address.dataset f.id) e before
+        (filter-IsIn (sees_in state.people caller) e state.datasets was.0 sees) own
+    by e own (inl is) sees (inl other) =
+        let same : bytes_eq t.address.dataset d.id ≡ true =
+        sym (ap (λ (f : Package). bytes_eq t.address.dataset f.id) is) ∙ own in
+        absurd (cc)
+    by e own (inl is) sees (inr seen) =
+        let same : t.address.dataset ≡ d.id =
+        (bytes_eq-Decides t.address.dataset e.id).0 own ∙ ap (λ (f : Package). f.id) is in
+        subst (λ (id : List ℕ). list_any (λ (f : Package). bytes_eq id f.id) before ≡ true) (sym same) seen
+
+-- What is seen of the tables that are left after a change of a dataset.
+left-kept : (change : DatasetChange) (caller : Caller) (state : State) → IsOwnDatasets caller state change
+    → tables_seen (datasets_seen caller state.people (changed_datasets change state.datasets))
+    (tables_left change (tables_seen (datasets_seen caller state.people state.datasets) state.tables))
+    ≡ tables_seen (datasets_seen caller state.people (changed_datasets change state.datasets))
+    (tables_left change state.tables)
+left-kept (dataset.Create d) caller state own =
+    let before : List Package = datasets_seen caller state.people state.datasets in
+    let after : List Package = datasets_seen caller state.people (placed dataset_cmp d state.datasets) in
+    filter-narrower (is_table_among after) (is_table_among before) state.tables
+    (λ t within now. placed-among caller state d t now (inl (own t within)))
+left-kept (dataset.Replace d) caller state own =
+    let before : List Package = datasets_seen caller state.people state.datasets in
+    let after : List Package = datasets_seen caller state.people (placed dataset_cmp d state.datasets) in
+    let keeps : ResourceTable → Bool =
+    λ t. not (bytes_eq t.address.dataset d.id) || is_among d.resources t.address.number in
+    ap (filter (is_table_among after)) (filter-filter keeps (is_table_among before) state.tables)
+    ∙ filter-narrower (is_table_among after) (is_table_among before) (filter keeps state.tables)
+    (λ t within now. placed-among caller state d t now (inr own))
+left-kept (dataset.Remove id) caller state own =
+    let before : List Package = datasets_seen caller state.people state.datasets in
+    let after : List Package = datasets_seen caller state.people (dropped (dataset_at_id id) state.datasets) in
+    let keeps : ResourceTable → Bool =
+    λ t. not (bytes_eq t.address.dataset id) || is_among [] t.address.number in
+    ap (filter (is_table_among after)) (filter-filter keeps (is_table_among before) state.tables)
+    ∙ filter-narrower (is_table_among after) (is_table_among before) (filter keeps state.tables)
+    (λ t within now. among-narrower after before
+    (λ e seen. let was = IsIn-filter (sees_in state.people caller) e (dropped (dataset_at_id id) state.datasets) seen in
+    own-id e before
+    (filter-IsIn (sees_in state.people caller) e state.datasets
+    (IsIn-dropped (dataset_at_id id) e state.datasets was.0).0 was.1)) t now)
 
 pub changed-seen : (change : Change) (caller : Caller) (state : State)
     → IsAscending membership_cmp state.people.roles → IsAscending dataset_cmp state.datasets
+    → IsAscending table_cmp state.tables
     → ((d : Package) → IsIn d state.datasets → is_open_if_harvested d ≡ true) → IsOwn caller state change
     → view_of caller (changed change (view_of caller state)) ≡ view_of caller (changed change state)
-changed-seen (People change) caller state roles_up up harvested own =
+changed-seen (People change) caller state roles_up up tables_up harvested own =
     same_state (people-changed_seen change caller state.people roles_up own)
     (datasets-changed_seen change caller state.people state.datasets roles_up own harvested)
+    (people-tables change caller state roles_up own harvested)
     (filter_twice (is_spent_of caller) state.spent)
-changed-seen (Datasets change) caller state roles_up up harvested own =
-    same_state (people_seen_twice caller state.people)
-    (filter_agree (sees_in (people_seen caller state.people) caller) (sees_in state.people caller)
+changed-seen (Datasets change) caller state roles_up up tables_up harvested own =
+    let datasets = filter_agree (sees_in (people_seen caller state.people) caller) (sees_in state.people caller)
     (sees_in_seen caller state.people) (changed_datasets change (datasets_seen caller state.people state.datasets))
     ∙ datasets-kept change (sees_in state.people caller) (sees_in state.people caller) state.datasets up
-    (filter_twice (sees_in state.people caller) state.datasets))
+    (filter_twice (sees_in state.people caller) state.datasets) in
+    let before : List Package = datasets_seen caller state.people state.datasets in
+    same_state (people_seen_twice caller state.people) datasets
+    (ap (λ (ds : List Package). tables_seen ds (tables_left change (tables_seen before state.tables))) datasets
+    ∙ left-kept change caller state own)
+    (filter_twice (is_spent_of caller) state.spent)
+changed-seen (Tables change) caller state roles_up up tables_up harvested own =
+    let before : List Package = datasets_seen caller state.people state.datasets in
+    same_state (people_seen_twice caller state.people) (datasets_seen_twice caller state.people state.datasets)
+    (ap (λ (ds : List Package). tables_seen ds (changed_tables change (tables_seen before state.tables)))
+    (datasets_seen_twice caller state.people state.datasets)
+    ∙ tables-kept change before state.tables tables_up)
     (filter_twice (is_spent_of caller) state.spent)

@@ -1,5 +1,6 @@
 -- What is hidden from a caller leaves what the caller sees.
-use Rattle.std.proofs.Common.{◌≡◌, ◌≢◌, ℕ, Bool, true, false, ◌&&◌, ◌||◌, List, map, Option, Some, None}
+use Rattle.std.proofs.Common.{◌≡◌, ◌≢◌, ℕ, Bool, true, false, not, ◌&&◌, ◌||◌, List, [], ◌∷◌, map, Option, Some, None}
+use Rattle.std.proofs.Common.{if◌then◌else◌}
 use Rattle.std.proofs.Common.{refl, sym, ap, ◌∙◌, subst, inl, inr, ◌⊎◌, ◌+◌}
 use Rattle.std.specs.Prelude.{filter, find}
 use Rattle.std.specs.Cmp.{IsTotalOrder}
@@ -16,7 +17,7 @@ use Rattle.portal_base.specs.declared.json_value.Json.{Json}
 use Rattle.portal_base.specs.Ordered.{IsAscending, placed, dropped}
 use Rattle.portal_base.proofs.Filtered.{IsIn-filter, filter-IsIn, IsAscending-filter}
 use Rattle.portal_base.proofs.Placed.{Contains-placed, placed-Contains_other, Contains-dropped, dropped-Contains}
-use Rattle.portal_base.proofs.Unique.{IsIn-Contains, Contains-IsIn, unique}
+use Rattle.portal_base.proofs.Unique.{IsIn, IsIn-Contains, Contains-IsIn, unique}
 use Rattle.org_roles.specs.Changed.{changed_people}
 use Rattle.org_roles.specs.Order.{user_cmp, org_cmp, membership_cmp, pair_at}
 use Rattle.org_roles.specs.Order.{user_cmp_total, org_cmp_total, membership_cmp_total}
@@ -32,26 +33,37 @@ use Rattle.org_roles.proofs.ChangeLemmas.{role_in-with_role_other, role_in-witho
 use Rattle.org_roles.proofs.PeopleLemmas.{is_eq-membership_cmp}
 use Rattle.packages.specs.Order.{dataset_cmp, dataset_cmp_total}
 use Rattle.packages.specs.declared.package.Package.{Package}
+use Rattle.packages.specs.declared.package.Resource.{Resource}
 use Rattle.dataset_answers.specs.Changed.{dataset_at_id}
 use Rattle.dataset_answers.specs.declared.change.DatasetChange.TheVariants as dataset
+use Rattle.datastore_answers.proofs.FitLemmas.{put_into-address}
+use Rattle.datastore_answers.proofs.KeepLemmas.{at-is}
+use Rattle.datastore_answers.specs.Changed.{TableChange, changed_tables, cut_from, put_into}
+use Rattle.datastore_answers.specs.Changed as table
+use Rattle.datastore_answers.specs.Order.{at_address, is_at, table_cmp, table_cmp_total}
+use Rattle.datastore_answers.specs.Tables.{is_table_among, tables_kept}
+use Rattle.datastore_answers.specs.declared.address.Address.{Address}
+use Rattle.datastore_answers.specs.declared.resource_table.ResourceTable.{ResourceTable}
 use Rattle.portal_calls.specs.declared.answer.Answer.{Answer}
 use Rattle.portal_calls.specs.declared.answer.Answer.TheVariants.{Accepted}
 use Rattle.portal_calls.specs.declared.call.Call.{Call}
 use Rattle.visibility.specs.View.{is_called, user_seen, administers, is_role_seen, people_seen}
+use Rattle.visibility.specs.Held.{is_among}
 use Rattle.visibility.specs.Visibility.{caller_role, sees_in}
 use Rattle.portal_core.specs.Answer.{answer_to}
 use Rattle.portal_core.specs.Changed.{changed, charged, made, claims_of, is_in_use}
 use Rattle.portal_core.specs.Hidden.{IsHiddenChange, IsHiddenBetween, IsHidden, is_kept, is_caller}
-use Rattle.portal_core.specs.Hidden.{IsIdUnseen, IsRoleUnseen}
+use Rattle.portal_core.specs.Hidden.{IsIdUnseen, IsRoleUnseen, address_in}
 use Rattle.portal_core.specs.State.{State, spent_cmp, spent_cmp_total, bytes_of_user}
 use Rattle.portal_core.specs.Step.{settled, settled_unless}
 use Rattle.portal_core.specs.Valid.{IsValid}
-use Rattle.portal_core.specs.View.{view_of, is_spent_of}
-use Rattle.portal_core.specs.declared.change.Change.{Change}
-use Rattle.portal_core.specs.declared.change.Change.TheVariants.{People, Datasets}
+use Rattle.portal_core.specs.View.{view_of, is_spent_of, is_table_seen}
+use Rattle.portal_core.specs.Change.{Change, People, Datasets, Tables}
 use Rattle.portal_core.specs.declared.change.Claim.{Claim}
 use Rattle.portal_core.specs.declared.event.Event.TheVariants.{Call as a_call}
 use Rattle.portal_core.specs.declared.spent.Spent.{Spent}
+use Rattle.portal_core.proofs.TableViewing.{any-is}
+use Rattle.portal_core.proofs.Changing.{same_state, stated}
 use Rattle.portal_core.proofs.Changing.{IsSameStanding, is_sysadmin_in-users, is_role_seen-standing, sees_in-standing}
 use Rattle.portal_core.proofs.Changing.{caller_role-own}
 
@@ -109,6 +121,48 @@ hidden-dropped {X} at p q xs hides = record {
     apart : (z : X) → Contains xs z → p z ≡ true → (b : Bool) → is_eq (at z) ≡ b → is_eq (at z) ≡ false
     apart z m kept true is = let not_kept : p z ≡ false = hides z m is in absurd (cc)
     apart z m kept false is = is
+
+-- what wasn't kept is left out
+hidden-filtered : {X : Type 0} (stays p q : X → Bool) (xs : List X)
+    → ((z : X) → Contains xs z → stays z ≡ false → p z ≡ false) → IsHiddenChange p q xs (filter stays xs)
+hidden-filtered {X} stays p q xs hides = record {
+  stays = λ z m kept. Contains-IsIn z (filter stays xs)
+      (filter-IsIn stays z xs (IsIn-Contains z xs m) (by z m kept (stays z) refl));
+  stood = λ z m kept. Contains-IsIn z xs (IsIn-filter stays z xs (IsIn-Contains z (filter stays xs) m)).0;
+}
+  where
+    by : (z : X) → Contains xs z → p z ≡ true → (b : Bool) → stays z ≡ b → stays z ≡ true
+    by z m kept true is = is
+    by z m kept false is = let not_kept : p z ≡ false = hides z m is in absurd (cc)
+
+-- what is made over keeps what the test looks at, and wasn't kept
+hidden-made : {X : Type 0} (p q : X → Bool) (f : X → X) (xs : List X)
+    → ((z : X) → Contains xs z → (f z ≡ z) ⊎ ((p z ≡ false) × (q (f z) ≡ false)))
+    → IsHiddenChange p q xs (map f xs)
+hidden-made {X} p q f xs each = record {
+  stays = λ z m kept. Contains-IsIn z (map f xs) (stayed z (IsIn-Contains z xs m) kept (each z m));
+  stood = λ z m kept. let x = map-was f z xs (IsIn-Contains z (map f xs) m) in
+      stood_by z x.0 x.1 x.2 kept (each x.0 (Contains-IsIn x.0 xs x.1));
+}
+  where
+    map-was : (f : X → X) (y : X) (xs : List X) → IsIn y (map f xs) → (x : X) × IsIn x xs × (y ≡ f x)
+    map-was f y [] m = absurd m
+    map-was f y (x ∷ xs) (inl is) = (x, inl refl, is)
+    map-was f y (x ∷ xs) (inr m) = let z = map-was f y xs m in (z.0, inr z.1, z.2)
+
+    map-in : (f : X → X) (x : X) (xs : List X) → IsIn x xs → IsIn (f x) (map f xs)
+    map-in f x [] m = absurd m
+    map-in f x (y ∷ ys) (inl is) = inl (ap f is)
+    map-in f x (y ∷ ys) (inr m) = inr (map-in f x ys m)
+
+    stayed : (z : X) → IsIn z xs → p z ≡ true → (f z ≡ z) ⊎ ((p z ≡ false) × (q (f z) ≡ false)) → IsIn z (map f xs)
+    stayed z m kept (inl same) = subst (λ w. IsIn w (map f xs)) same (map-in f z xs m)
+    stayed z m kept (inr unseen) = let not_kept : p z ≡ false = unseen.0 in absurd (cc)
+
+    stood_by : (z x : X) → IsIn x xs → z ≡ f x → q z ≡ true → (f x ≡ x) ⊎ ((p x ≡ false) × (q (f x) ≡ false))
+        → Contains xs z
+    stood_by z x m is kept (inl same) = Contains-IsIn z xs (subst (λ w. IsIn w xs) (sym (is ∙ same)) m)
+    stood_by z x m is kept (inr unseen) = let not_kept : q z ≡ false = ap q is ∙ unseen.1 in absurd (cc)
 
 -- ---- roles
 
@@ -171,10 +225,14 @@ view_of-hidden caller s t in_s in_t hidden =
     let datasets : filter (sees_in s.people caller) s.datasets ≡ filter (sees_in t.people caller) t.datasets =
     filter-hidden dataset_cmp dataset_cmp_total (sees_in s.people caller) (sees_in t.people caller) s.datasets
     t.datasets (sees_in-standing caller s.people t.people same) in_s.datasets in_t.datasets hidden.datasets in
+    let tables : filter (is_table_seen caller s) s.tables ≡ filter (is_table_seen caller t) t.tables =
+    filter-hidden table_cmp table_cmp_total (is_table_seen caller s) (is_table_seen caller t) s.tables t.tables
+    (λ u. ap (λ (ds : List Package). is_table_among ds u) datasets) in_s.tables.ascending in_t.tables.ascending
+    hidden.tables in
     let spent : filter (is_spent_of caller) s.spent ≡ filter (is_spent_of caller) t.spent =
     filter-hidden spent_cmp spent_cmp_total (is_spent_of caller) (is_spent_of caller) s.spent t.spent (λ e. refl)
     in_s.spent in_t.spent hidden.spent in
-    rw (people_seen-hidden caller s t in_s.people in_t.people hidden, datasets, spent) refl
+    same_state (people_seen-hidden caller s t in_s.people in_t.people hidden) datasets tables spent
 
 -- ---- what is charged
 
@@ -202,6 +260,10 @@ datasets-charged : (caller : Caller) (size : ℕ) (state : State)
 datasets-charged Anonymous size state = refl
 datasets-charged (Named user) size state = refl
 
+tables-charged : (caller : Caller) (size : ℕ) (state : State) → (charged caller size state).tables ≡ state.tables
+tables-charged Anonymous size state = refl
+tables-charged (Named user) size state = refl
+
 spent-charged : (other : Caller) (size : ℕ) (s t : State) → s.spent ≡ t.spent
     → (charged other size s).spent ≡ (charged other size t).spent
 spent-charged Anonymous size s t same = same
@@ -216,6 +278,7 @@ unchanged-hidden caller state = record {
   orgs = hidden-none is_kept is_kept state.people.orgs;
   roles = hidden-none (is_role_seen state.people caller) (is_role_seen state.people caller) state.people.roles;
   datasets = hidden-none (sees_in state.people caller) (sees_in state.people caller) state.datasets;
+  tables = hidden-none (is_table_seen caller state) (is_table_seen caller state) state.tables;
   spent = hidden-none (is_spent_of caller) (is_spent_of caller) state.spent;
 }
 
@@ -225,25 +288,28 @@ made-hidden : (caller : Caller) (call : Call) (change : Change) (state : State) 
     → IsHiddenBetween caller state (made call change state)
 made-hidden caller call change state others left hidden =
     let now : State = changed change state in
-    let Between : Peopled → List Package → List Spent → Type 0 =
-    λ people datasets spent. IsHiddenBetween caller state
-    (record { people = people; datasets = datasets; spent = spent }) in
+    let Between : Peopled → List Package → List ResourceTable → List Spent → Type 0 =
+    λ people datasets tables spent. IsHiddenBetween caller state (stated people datasets tables spent) in
     let spent : IsHiddenChange (is_spent_of caller) (is_spent_of caller) state.spent
     (charged call.caller call.size now).spent =
     subst (IsHiddenChange (is_spent_of caller) (is_spent_of caller) state.spent)
     (spent-charged call.caller call.size state now (sym left))
     (charged-hidden caller call.caller call.size state others) in
-    let there : Between now.people now.datasets (charged call.caller call.size now).spent = record {
+    let there : Between now.people now.datasets now.tables (charged call.caller call.size now).spent = record {
       users = hidden.users;
       orgs = hidden.orgs;
       roles = hidden.roles;
       datasets = hidden.datasets;
+      tables = hidden.tables;
       spent = spent;
     } in
-    subst (λ (people : Peopled). Between people (made call change state).datasets (made call change state).spent)
+    let after : State = made call change state in
+    subst (λ (people : Peopled). Between people after.datasets after.tables after.spent)
     (sym (people-charged call.caller call.size now))
-    (subst (λ (datasets : List Package). Between now.people datasets (made call change state).spent)
-    (sym (datasets-charged call.caller call.size now)) there)
+    (subst (λ (datasets : List Package). Between now.people datasets after.tables after.spent)
+    (sym (datasets-charged call.caller call.size now))
+    (subst (λ (tables : List ResourceTable). Between now.people now.datasets tables after.spent)
+    (sym (tables-charged call.caller call.size now)) there))
 
 -- a call of another caller that accepts a hidden change is hidden
 accepted-hidden : (caller : Caller) (call : Call) (json : Json) (change : Change) (state : State)
@@ -262,18 +328,54 @@ accepted-hidden caller call json change state others answers hidden = record {
 
 -- ---- datasets
 
-placed-hidden : (caller : Caller) (state : State) (d : Package) → sees_in state.people caller d ≡ false
-    → IsIdUnseen caller state d.id
-    → IsHiddenBetween caller state (record state { datasets = placed dataset_cmp d state.datasets })
-placed-hidden caller state d unseen before = record {
+-- a table of a dataset of that id isn't seen
+tables-unseen : (caller : Caller) (state : State) (id : List ℕ) → IsIdUnseen caller state id → (t : ResourceTable)
+    → bytes_eq t.address.dataset id ≡ true → is_table_seen caller state t ≡ false
+tables-unseen caller state id unseen t own = by (is_table_seen caller state t) refl
+  where
+    by : (b : Bool) → is_table_seen caller state t ≡ b → b ≡ false
+    by false is = refl
+    by true is =
+        let d = any-is (λ (d : Package). bytes_eq t.address.dataset d.id)
+        (filter (sees_in state.people caller) state.datasets) is in
+        let stood = IsIn-filter (sees_in state.people caller) d.0 state.datasets d.1 in
+        let same : d.0.id ≡ id = sym ((bytes_eq-Decides t.address.dataset d.0.id).0 d.2)
+        ∙ (bytes_eq-Decides t.address.dataset id).0 own in
+        let not_seen : sees_in state.people caller d.0 ≡ false =
+        unseen d.0 (Contains-IsIn d.0 state.datasets stood.0) same in
+        let seen : sees_in state.people caller d.0 ≡ true = stood.1 in
+        absurd (cc)
+
+placed-hidden : (caller : Caller) (state : State) (d : Package) (tables : List ResourceTable)
+    → sees_in state.people caller d ≡ false → IsIdUnseen caller state d.id
+    → IsHiddenChange (is_table_seen caller state)
+    (is_table_seen caller (record state { datasets = placed dataset_cmp d state.datasets; tables = tables }))
+    state.tables tables
+    → IsHiddenBetween caller state (record state { datasets = placed dataset_cmp d state.datasets; tables = tables })
+placed-hidden caller state d tables unseen before hidden = record {
   users = hidden-none is_kept is_kept state.people.users;
   orgs = hidden-none is_kept is_kept state.people.orgs;
   roles = hidden-none (is_role_seen state.people caller) (is_role_seen state.people caller) state.people.roles;
   datasets = hidden-placed dataset_cmp (sees_in state.people caller) (sees_in state.people caller) d state.datasets
       unseen
       (λ z m like. before z m ((bytes_eq-Decides z.id d.id).0 (sym (is_eq-slice_cmp z.id d.id) ∙ like)));
+  tables = hidden;
   spent = hidden-none (is_spent_of caller) (is_spent_of caller) state.spent;
 }
+
+-- the tables that go with resources of an unseen dataset
+left-hidden : (caller : Caller) (state : State) (q : ResourceTable → Bool) (id : List ℕ) (resources : List Resource)
+    → IsIdUnseen caller state id
+    → IsHiddenChange (is_table_seen caller state) q state.tables (tables_kept id resources state.tables)
+left-hidden caller state q id resources unseen =
+    hidden-filtered (λ t. not (bytes_eq t.address.dataset id) || is_among resources t.address.number)
+    (is_table_seen caller state) q state.tables
+    (λ t m goes. tables-unseen caller state id unseen t
+    (own (bytes_eq t.address.dataset id) (is_among resources t.address.number) goes))
+  where
+    own : (a b : Bool) → (not a || b) ≡ false → a ≡ true
+    own true b goes = refl
+    own false b goes = absurd (cc)
 
 pub creation-hidden : (caller : Caller) (state : State) (call : Call) (json : Json) (d : Package)
     → is_caller caller call.caller ≡ false
@@ -282,7 +384,10 @@ pub creation-hidden : (caller : Caller) (state : State) (call : Call) (json : Js
 creation-hidden caller state call json d others answers unseen before =
     accepted-hidden caller call json (Datasets (dataset.Create d)) state others answers
     (made-hidden caller call (Datasets (dataset.Create d)) state others refl
-    (placed-hidden caller state d unseen before))
+    (placed-hidden caller state d state.tables unseen before
+    (hidden-none (is_table_seen caller state)
+    (is_table_seen caller (record state { datasets = placed dataset_cmp d state.datasets; tables = state.tables }))
+    state.tables)))
 
 pub replacement-hidden : (caller : Caller) (state : State) (call : Call) (json : Json) (d : Package)
     → is_caller caller call.caller ≡ false
@@ -291,7 +396,8 @@ pub replacement-hidden : (caller : Caller) (state : State) (call : Call) (json :
 replacement-hidden caller state call json d others answers unseen before =
     accepted-hidden caller call json (Datasets (dataset.Replace d)) state others answers
     (made-hidden caller call (Datasets (dataset.Replace d)) state others refl
-    (placed-hidden caller state d unseen before))
+    (placed-hidden caller state d (tables_kept d.id d.resources state.tables) unseen before
+    (left-hidden caller state _ d.id d.resources before)))
 
 pub removal-hidden : (caller : Caller) (state : State) (call : Call) (json : Json) (id : List ℕ)
     → is_caller caller call.caller ≡ false
@@ -307,6 +413,70 @@ removal-hidden caller state call json id others answers before =
       datasets = hidden-dropped (dataset_at_id id) (sees_in state.people caller) (sees_in state.people caller)
           state.datasets
           (λ z m like. before z m ((bytes_eq-Decides z.id id).0 (sym (is_eq-slice_cmp z.id id) ∙ like)));
+      tables = left-hidden caller state _ id [] before;
+      spent = hidden-none (is_spent_of caller) (is_spent_of caller) state.spent;
+    }))
+
+-- ---- tables
+
+-- a table is as it was, or is one of an unseen dataset before and after
+made-unseen : (caller : Caller) (state : State) (a : Address) (make : ResourceTable → ResourceTable)
+    → ((t : ResourceTable) → (make t).address ≡ t.address) → IsIdUnseen caller state a.dataset → (t : ResourceTable)
+    → ((if is_at a t then make t else t) ≡ t)
+    ⊎ ((is_table_seen caller state t ≡ false)
+    × (is_table_seen caller state (if is_at a t then make t else t) ≡ false))
+made-unseen caller state a make same unseen t = by (is_at a t) refl
+  where
+    at : is_at a t ≡ true → (u : ResourceTable) → u.address ≡ t.address → is_table_seen caller state u ≡ false
+    at is u there =
+        tables-unseen caller state a.dataset unseen u
+        ((bytes_eq-Decides u.address.dataset a.dataset).1
+        (ap (λ (b : Address). b.dataset) (there ∙ at-is a t is)))
+
+    by : (b : Bool) → is_at a t ≡ b
+        → ((if b then make t else t) ≡ t)
+        ⊎ ((is_table_seen caller state t ≡ false) × (is_table_seen caller state (if b then make t else t) ≡ false))
+    by true is = inr (at is t refl, at is (make t) (same t))
+    by false is = inl refl
+
+-- of the tables of an unseen dataset none is seen before or after a change of one of them
+changed-hidden : (change : TableChange) (caller : Caller) (state : State)
+    → IsIdUnseen caller state (address_in change).dataset
+    → IsHiddenChange (is_table_seen caller state) (is_table_seen caller state) state.tables
+    (changed_tables change state.tables)
+changed-hidden (table.Create t) caller state unseen =
+    hidden-placed table_cmp (is_table_seen caller state) (is_table_seen caller state) t state.tables
+    (tables-unseen caller state t.address.dataset unseen t
+    ((bytes_eq-Decides t.address.dataset t.address.dataset).1 refl))
+    (λ u m like. tables-unseen caller state t.address.dataset unseen u
+    ((bytes_eq-Decides u.address.dataset t.address.dataset).1
+    (ap (λ (a : Address). a.dataset) (at-is t.address u like))))
+changed-hidden (table.Remove a) caller state unseen =
+    hidden-dropped (at_address a) (is_table_seen caller state) (is_table_seen caller state) state.tables
+    (λ u m like. tables-unseen caller state a.dataset unseen u
+    ((bytes_eq-Decides u.address.dataset a.dataset).1 (ap (λ (b : Address). b.dataset) (at-is a u like))))
+changed-hidden (table.Put a how records) caller state unseen =
+    hidden-made (is_table_seen caller state) (is_table_seen caller state)
+    (λ t. if is_at a t then put_into how records t else t) state.tables
+    (λ t m. made-unseen caller state a (put_into how records) (put_into-address how records) unseen t)
+changed-hidden (table.Cut a ids) caller state unseen =
+    hidden-made (is_table_seen caller state) (is_table_seen caller state)
+    (λ t. if is_at a t then cut_from ids t else t) state.tables
+    (λ t m. made-unseen caller state a (cut_from ids) (λ u. refl) unseen t)
+
+pub tables-hidden : (caller : Caller) (state : State) (call : Call) (json : Json) (change : TableChange)
+    → is_caller caller call.caller ≡ false
+    → answer_to call (view_of call.caller state) ≡ Accepted json (Tables change)
+    → IsIdUnseen caller state (address_in change).dataset → IsHidden caller state (a_call call)
+tables-hidden caller state call json change others answers unseen =
+    accepted-hidden caller call json (Tables change) state others answers
+    (made-hidden caller call (Tables change) state others refl
+    (record {
+      users = hidden-none is_kept is_kept state.people.users;
+      orgs = hidden-none is_kept is_kept state.people.orgs;
+      roles = hidden-none (is_role_seen state.people caller) (is_role_seen state.people caller) state.people.roles;
+      datasets = hidden-none (sees_in state.people caller) (sees_in state.people caller) state.datasets;
+      tables = changed-hidden change caller state unseen;
       spent = hidden-none (is_spent_of caller) (is_spent_of caller) state.spent;
     }))
 
@@ -361,6 +531,7 @@ roles-hidden caller state change users orgs same roles =
         stood = λ m after kept. roles.stood m after (sym (is_role_seen-standing caller now state.people same m) ∙ kept);
       };
       datasets = record { stays = λ d m k. m; stood = λ d m k. m };
+      tables = record { stays = λ t m k. m; stood = λ t m k. m };
       spent = hidden-none (is_spent_of caller) (is_spent_of caller) state.spent;
     }
 

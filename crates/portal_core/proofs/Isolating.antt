@@ -11,29 +11,37 @@ use Rattle.portal_base.proofs.Filtered.{list_all-IsIn}
 use Rattle.portal_base.proofs.Placed.{filter-placed}
 use Rattle.org_roles.specs.declared.change.OrgChange.{OrgChange}
 use Rattle.org_roles.specs.declared.change.OrgChange.TheVariants.{Create, Patch, Remove, SetRole, DropRole}
+use Rattle.dataset_answers.specs.Fit.{IsFitDataset}
+use Rattle.dataset_answers.specs.declared.change.DatasetChange.{DatasetChange}
+use Rattle.dataset_answers.specs.declared.change.DatasetChange.TheVariants as dataset
+use Rattle.datastore_answers.specs.Holdings.{holdings_of}
 use Rattle.organization_answers.specs.Fit.{IsFitOrg}
+use Rattle.packages.specs.declared.package.Package.{Package}
+use Rattle.portal_base.proofs.Unique.{IsIn-Contains}
+use Rattle.std.specs.List.{list_any}
 use Rattle.portal_calls.specs.Answer.{AcceptsOnly}
 use Rattle.portal_calls.specs.declared.answer.Answer.{Answer}
 use Rattle.portal_calls.specs.declared.answer.Answer.TheVariants.{Shown, Refused, Accepted}
 use Rattle.portal_calls.specs.declared.call.Call.{Call}
+use Rattle.visibility.specs.View.{datasets_seen}
 use Rattle.visibility.specs.Visibility.{is_open_if_harvested}
 use Rattle.visibility.proofs.Viewing.{find-kept, called_by_name}
 use Rattle.portal_core.specs.Answer.{asked_of, answer_to, quota_of, quota_if}
-use Rattle.portal_core.specs.Changed.{changed, charged, made}
+use Rattle.portal_core.specs.Changed.{changed, charged, made, IsUnused}
 use Rattle.portal_core.specs.Fit.{IsFit}
 use Rattle.portal_core.specs.Isolation.{tells_of_use}
 use Rattle.portal_core.specs.State.{State, spent_cmp, spent_cmp_total, bytes_of, bytes_of_user}
 use Rattle.portal_core.specs.Step.{Outcome, settled, call_step}
 use Rattle.portal_core.specs.Valid.{IsValid}
 use Rattle.portal_core.specs.View.{view_of, is_spent_of}
-use Rattle.portal_core.specs.declared.change.Change.{Change}
-use Rattle.portal_core.specs.declared.change.Change.TheVariants.{People, Datasets}
+use Rattle.portal_core.specs.Change.{Change, People, Datasets, Tables}
 use Rattle.portal_core.specs.declared.spent.Spent.{Spent}
 use Rattle.portal_core.specs.declared.spent.TheConstants.{QUOTA}
 use Rattle.portal_core.proofs.Answering.{answer_fit}
-use Rattle.portal_core.proofs.Changing.{IsOwn, IsOwnChange, changed-seen}
+use Rattle.portal_core.proofs.Changing.{IsOwn, IsOwnChange, IsOwnDatasets, changed-seen, same_state}
 use Rattle.portal_core.proofs.Fitting.{fit_in_state}
-use Rattle.portal_core.proofs.Keeping.{harvested_open}
+use Rattle.portal_core.proofs.Keeping.{harvested_open, no-tables}
+use Rattle.portal_core.proofs.TableViewing.{own-id}
 use Rattle.portal_core.proofs.Settling.{quiet-unused, accepted-unused, settled_unused}
 
 -- ---- replies
@@ -113,7 +121,7 @@ charged_alike (Named user) size s t up_s up_t same =
     charged-seen user size s.spent up_s
     ∙ ap (λ (own : List Spent). placed spent_cmp (entry user size own) own) spent
     ∙ sym (charged-seen user size t.spent up_t) in
-    rw (people, datasets, now) refl
+    same_state people datasets (ap (λ (v : State). v.tables) same) now
 
 -- ---- what is changed
 
@@ -126,44 +134,59 @@ own-people (Remove name) call state fit = fit.own.administered
 own-people (SetRole org user role) call state fit = fit.own.administered
 own-people (DropRole org user) call state fit = fit.fit.own.administered
 
-own : (change : Change) (call : Call) (state : State) → IsFit (asked_of call state) change
-    → IsOwn call.caller state change
-own (People change) call state fit = own-people change call state fit
-own (Datasets change) call state fit = tt
+own-datasets : (change : DatasetChange) (call : Call) (state : State) → IsValid state
+    → IsFitDataset (asked_of call (view_of call.caller state)) (holdings_of (view_of call.caller state).tables) change
+    → IsUnused state (Datasets change) → IsOwnDatasets call.caller state change
+own-datasets (dataset.Create d) call state valid fit unused = no-tables d state valid unused
+own-datasets (dataset.Replace d) call state valid fit unused =
+    let seen : List Package = datasets_seen call.caller state.people state.datasets in
+    subst (λ (id : List ℕ). list_any (λ (e : Package). bytes_eq id e.id) seen ≡ true) fit.id
+    (own-id fit.old seen (IsIn-Contains fit.old seen fit.stood))
+own-datasets (dataset.Remove id) call state valid fit unused = tt
+
+own : (change : Change) (call : Call) (state : State) → IsValid state
+    → IsFit call (view_of call.caller state) change → IsUnused state change → IsOwn call.caller state change
+own (People change) call state valid fit unused =
+    own-people change call state
+    (fit_in_state (People change) call state (harvested_open state valid) fit)
+own (Datasets change) call state valid fit unused = own-datasets change call state valid fit unused
+own (Tables change) call state valid fit unused = tt
 
 -- a change leaves what was charged
 spent-left : (change : Change) (state : State) → (changed change state).spent ≡ state.spent
 spent-left (People change) state = refl
 spent-left (Datasets change) state = refl
+spent-left (Tables change) state = refl
 
 -- the caller sees of the changed state what it sees of its view with the change made in it
 changed-there : (change : Change) (call : Call) (state : State) → IsValid state
-    → IsFit (asked_of call (view_of call.caller state)) change
+    → IsFit call (view_of call.caller state) change → IsUnused state change
     → view_of call.caller (changed change (view_of call.caller state)) ≡ view_of call.caller (changed change state)
-changed-there change call state valid fit =
-    changed-seen change call.caller state valid.people.roles valid.datasets
+changed-there change call state valid fit unused =
+    changed-seen change call.caller state valid.people.roles valid.datasets valid.tables.ascending
     (λ d within. list_all-IsIn is_open_if_harvested state.datasets (harvested_open state valid) d within)
-    (own change call state (fit_in_state change call state (harvested_open state valid) fit))
+    (own change call state valid fit unused)
 
 made_alike : (change : Change) (call : Call) (s t : State) → IsValid s → IsValid t
-    → view_of call.caller s ≡ view_of call.caller t → IsFit (asked_of call (view_of call.caller t)) change
+    → view_of call.caller s ≡ view_of call.caller t → IsFit call (view_of call.caller t) change
+    → IsUnused s change → IsUnused t change
     → view_of call.caller (made call change s) ≡ view_of call.caller (made call change t)
-made_alike change call s t in_s in_t same fit =
-    let fit_s : IsFit (asked_of call (view_of call.caller s)) change =
-    subst (λ (v : State). IsFit (asked_of call v) change) (sym same) fit in
+made_alike change call s t in_s in_t same fit unused_s unused_t =
+    let fit_s : IsFit call (view_of call.caller s) change =
+    subst (λ (v : State). IsFit call v change) (sym same) fit in
     charged_alike call.caller call.size (changed change s) (changed change t)
     (subst (IsAscending spent_cmp) (sym (spent-left change s)) in_s.spent)
     (subst (IsAscending spent_cmp) (sym (spent-left change t)) in_t.spent)
-    (sym (changed-there change call s in_s fit_s)
+    (sym (changed-there change call s in_s fit_s unused_s)
     ∙ ap (λ (v : State). view_of call.caller (changed change v)) same
-    ∙ changed-there change call t in_t fit)
+    ∙ changed-there change call t in_t fit unused_t)
 
 -- ---- views
 
 -- what one answer leaves in states of which the caller sees the same, where neither tells of a name or an id in use
 quiet_views : (answer : Answer Change) (call : Call) (s t : State) → IsValid s → IsValid t
     → view_of call.caller s ≡ view_of call.caller t
-    → AcceptsOnly (IsFit (asked_of call (view_of call.caller t))) answer
+    → AcceptsOnly (IsFit call (view_of call.caller t)) answer
     → tells_of_use (settled answer call s).reply ≡ false → tells_of_use (settled answer call t).reply ≡ false
     → view_of call.caller (settled answer call s).state ≡ view_of call.caller (settled answer call t).state
 quiet_views (Shown json) call s t in_s in_t same fit first second = same
@@ -171,7 +194,8 @@ quiet_views (Refused denial) call s t in_s in_t same fit first second = same
 quiet_views (Accepted json change) call s t in_s in_t same fit first second =
     ap (λ (o : Outcome). view_of call.caller o.state)
     (settled_unused json change call s (quiet-unused json change call s first))
-    ∙ made_alike change call s t in_s in_t same fit
+    ∙ made_alike change call s t in_s in_t same fit (quiet-unused json change call s first)
+    (quiet-unused json change call t second)
     ∙ sym (ap (λ (o : Outcome). view_of call.caller o.state)
     (settled_unused json change call t (quiet-unused json change call t second)))
 

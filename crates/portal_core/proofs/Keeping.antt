@@ -1,7 +1,7 @@
 -- What a portal is opened with is valid, and a change that is fit keeps it so.
 use Rattle.std.proofs.Common.{◌≡◌, ◌≢◌, ℕ, Bool, true, false, cond, not, ◌&&◌, List, [], ◌∷◌, length, Option, Some}
 use Rattle.std.proofs.Common.{None}
-use Rattle.std.proofs.Common.{is_some, refl, sym, ap, ◌∙◌, subst, inl, inr, ◌⊎◌, nat_lt, ◌||◌, ◌+◌}
+use Rattle.std.proofs.Common.{is_some, refl, sym, ap, ◌∙◌, subst, inl, inr, ◌⊎◌, nat_lt, ◌||◌, ◌+◌, ◌==◌, slice_get}
 use Rattle.std.specs.declared.cmp.Ordering.{Ordering}
 use Rattle.std.specs.Prelude.{find, is_none, if◌then◌else◌}
 use Rattle.std.specs.List.{All, Contains, list_any, list_all}
@@ -13,11 +13,12 @@ use Rattle.std.proofs.lemmas.List.Sums.{AllPass-from_list_all}
 use Rattle.std.proofs.lemmas.Map.Text.{is_eq-slice_cmp}
 use Rattle.portal_base.specs.declared.caller.Caller.{Caller}
 use Rattle.portal_base.specs.declared.caller.Caller.TheVariants.{Anonymous, Named}
-use Rattle.portal_base.specs.Ordered.{ascending, placed}
-use Rattle.portal_base.proofs.Filtered.{IsIn-list_all, is_some-find_any}
+use Rattle.portal_base.specs.Ordered.{IsAscending, ascending, placed, dropped}
+use Rattle.portal_base.proofs.Filtered.{IsIn-filter, IsIn-list_all, filter-all, is_some-find_any}
 use Rattle.portal_base.proofs.Inserted.{list_any-ascending, both_false}
 use Rattle.portal_base.proofs.Placed.{All-each, All-IsIn, All-dropped, All-placed}
 use Rattle.portal_base.proofs.Placed.{IsAscending-placed, IsAscending-dropped, Contains-placed, Contains-dropped}
+use Rattle.portal_base.proofs.Placed.{dropped-Contains, placed-Contains, placed-Contains_other}
 use Rattle.portal_base.proofs.Unique.{IsIn, IsIn-Contains, ascending-IsIn}
 use Rattle.org_roles.specs.Changed.{changed_people, org_fault}
 use Rattle.org_roles.specs.Order.{org_cmp, membership_cmp, org_at}
@@ -34,12 +35,28 @@ use Rattle.org_roles.proofs.ChangeLemmas.{stands-with_org}
 use Rattle.org_roles.proofs.PeopleLemmas.{IsPeopled-ascending}
 use Rattle.packages.specs.Order.{dataset_cmp, dataset_cmp_total}
 use Rattle.packages.specs.declared.package.Package.{Package}
-use Rattle.dataset_answers.specs.Changed.{dataset_at_id, has_name}
-use Rattle.dataset_answers.specs.Fit.{IsFitDataset}
+use Rattle.dataset_answers.specs.Changed.{dataset_at_id, has_id, has_name}
+use Rattle.dataset_answers.specs.Fit.{IsFitDataset, KeepsResources}
 use Rattle.dataset_answers.specs.Sound.{IsSound, Stands}
 use Rattle.dataset_answers.specs.declared.change.DatasetChange.{DatasetChange}
 use Rattle.dataset_answers.specs.declared.change.DatasetChange.TheVariants as dataset
+use Rattle.datastore_answers.proofs.ChangeLemmas.{fit-kept}
+use Rattle.datastore_answers.proofs.DropLemmas.{drops-kept, none-loses}
+use Rattle.datastore_answers.proofs.FitLemmas.{put_into-address}
+use Rattle.datastore_answers.proofs.HoldLemmas.{each-kept}
+use Rattle.datastore_answers.proofs.KeepLemmas.{number_itself}
+use Rattle.datastore_answers.specs.Changed.{TableChange, changed_tables, cut_from, put_into, with_table_at}
+use Rattle.datastore_answers.specs.Changed as table
+use Rattle.datastore_answers.specs.Fit.{IsFitTable}
+use Rattle.datastore_answers.specs.Holdings.{holdings_of}
+use Rattle.datastore_answers.specs.Kept.{AreKept}
+use Rattle.datastore_answers.specs.Order.{at_address, is_at, table_cmp}
+use Rattle.datastore_answers.specs.Tables.{tables_kept}
+use Rattle.datastore_answers.specs.declared.address.Address.{Address}
+use Rattle.datastore_answers.specs.declared.resource_table.ResourceTable.{ResourceTable}
 use Rattle.organization_answers.specs.Fit.{IsFitOrg}
+use Rattle.packages.specs.declared.package.Resource.{Resource}
+use Rattle.visibility.specs.Held.{is_among, loses_referred}
 use Rattle.portal_calls.specs.declared.call.Call.{Call}
 use Rattle.visibility.specs.Visibility.{is_harvested, is_open_if_harvested, is_open}
 use Rattle.portal_core.specs.Answer.{asked_of}
@@ -47,9 +64,10 @@ use Rattle.portal_core.specs.Changed.{changed, charged, is_in_use, IsUnused}
 use Rattle.portal_core.specs.Fit.{IsFit}
 use Rattle.portal_core.specs.Opened.{opened, is_opening}
 use Rattle.portal_core.specs.State.{State, spent_cmp, spent_cmp_total, bytes_of_user}
-use Rattle.portal_core.specs.Valid.{IsValid}
-use Rattle.portal_core.specs.declared.change.Change.{Change}
-use Rattle.portal_core.specs.declared.change.Change.TheVariants.{People, Datasets}
+use Rattle.portal_core.proofs.Kept.{All-mapped, IsIn-slice_get, unique-at}
+use Rattle.portal_core.proofs.TableViewing.{any-among, made-address}
+use Rattle.portal_core.specs.Valid.{HasHome, IsValid}
+use Rattle.portal_core.specs.Change.{Change, People, Datasets, Tables}
 use Rattle.portal_core.specs.declared.change.Claim.TheVariants.{OrgName, DatasetName, DatasetId}
 use Rattle.portal_core.specs.declared.portal.Opening.{Opening}
 
@@ -97,6 +115,8 @@ opened_valid opening fit =
       datasets = tt;
       names = λ d e in_d in_e same. absurd (IsIn-Contains d [] in_d);
       sound = All-nil (IsSound (opened opening).people);
+      tables = each-kept [] tt (λ t m. absurd m);
+      homes = All-nil (HasHome []);
       spent = tt;
     }
 
@@ -232,6 +252,8 @@ people-valid change call state valid fit unused = record {
       All-IsIn (IsSound state.people) state.datasets valid.sound d within in
       at-home (changed_people change state.people) d state.people was
       (home-left change call state d within fit was.org));
+  tables = valid.tables;
+  homes = valid.homes;
   spent = valid.spent;
 }
 
@@ -265,37 +287,157 @@ names-placed d datasets distinct free e f in_e in_f same =
         absurd (cc)
     by (inr was_e) (inr was_f) = distinct e f was_e.0 was_f.0 same
 
-placed-valid : (d : Package) (state : State) → IsValid state → IsSound state.people d
+placed-valid : (d : Package) (tables : List ResourceTable) (state : State) → IsValid state → IsSound state.people d
     → ((e : Package) → Contains state.datasets e → e.name ≡ d.name → is_eq (dataset_cmp e d) ≡ true)
-    → IsValid (record state { datasets = placed dataset_cmp d state.datasets })
-placed-valid d state valid sound free = record {
+    → AreKept tables → All (HasHome (placed dataset_cmp d state.datasets)) tables
+    → IsValid (record state { datasets = placed dataset_cmp d state.datasets; tables = tables })
+placed-valid d tables state valid sound free kept homes = record {
   people = valid.people;
   orgs = valid.orgs;
   roles = valid.roles;
   datasets = IsAscending-placed dataset_cmp dataset_cmp_total d state.datasets valid.datasets;
   names = names-placed d state.datasets valid.names free;
   sound = All-placed (IsSound state.people) dataset_cmp d state.datasets sound valid.sound;
+  tables = kept;
+  homes = homes;
   spent = valid.spent;
 }
 
+-- ---- the tables of datasets
+
+-- no table is of a dataset whose id isn't in use
+pub no-tables : (d : Package) (state : State) → IsValid state → IsUnused state (Datasets (dataset.Create d))
+    → (t : ResourceTable) → IsIn t state.tables → bytes_eq t.address.dataset d.id ≡ false
+no-tables d state valid unused t within =
+    let unnamed = first_unused (is_in_use state) (DatasetName d.name) (DatasetId d.id ∷ []) unused in
+    let unknown : has_id d.id state.datasets ≡ false =
+    (first_unused (is_in_use state) (DatasetId d.id) [] unnamed.1).0 in
+    let home = All-IsIn (HasHome state.datasets) state.tables valid.homes t within in
+    ap (λ (id : List ℕ). bytes_eq id d.id) (sym home.id)
+    ∙ none_passes (λ (e : Package). bytes_eq e.id d.id) home.dataset state.datasets unknown
+    (IsIn-Contains home.dataset state.datasets home.stands)
+
+-- a table of another dataset keeps its home where one is placed, and one of that dataset has its home there
+home-placed : (d : Package) (datasets : List Package) (t : ResourceTable) → HasHome datasets t
+    → (bytes_eq t.address.dataset d.id ≡ false) ⊎ (is_among d.resources t.address.number ≡ true)
+    → HasHome (placed dataset_cmp d datasets) t
+home-placed d datasets t home known = by (bytes_eq t.address.dataset d.id) refl known
+  where
+    other : bytes_eq t.address.dataset d.id ≡ false → HasHome (placed dataset_cmp d datasets) t
+    other is = record {
+      dataset = home.dataset;
+      stands = placed-Contains_other dataset_cmp d home.dataset datasets home.stands
+          (is_eq-slice_cmp home.dataset.id d.id ∙ ap (λ (id : List ℕ). bytes_eq id d.id) home.id ∙ is);
+      id = home.id;
+      resource = home.resource;
+    }
+
+    by : (b : Bool) → bytes_eq t.address.dataset d.id ≡ b
+        → (bytes_eq t.address.dataset d.id ≡ false) ⊎ (is_among d.resources t.address.number ≡ true)
+        → HasHome (placed dataset_cmp d datasets) t
+    by b is (inl apart) = other apart
+    by false is (inr among) = other is
+    by true is (inr among) = record {
+      dataset = d;
+      stands = placed-Contains dataset_cmp d datasets;
+      id = sym ((bytes_eq-Decides t.address.dataset d.id).0 is);
+      resource = among;
+    }
+
+-- two datasets of one id are one
+same-dataset : (datasets : List Package) → IsAscending dataset_cmp datasets → (d e : Package) → Contains datasets d
+    → Contains datasets e → d.id ≡ e.id → d ≡ e
+same-dataset datasets up d e in_d in_e same =
+    unique-at dataset_cmp dataset_cmp_total datasets up d e (IsIn-Contains d datasets in_d)
+    (IsIn-Contains e datasets in_e) (is_eq-slice_cmp d.id e.id ∙ same_text d.id e.id same)
+
+-- where no resource goes all tables stay
+all-stay : (old d : Package) (state : State) → IsValid state → Contains state.datasets old → old.id ≡ d.id
+    → KeepsResources old d → tables_kept d.id d.resources state.tables ≡ state.tables
+all-stay old d state valid stood is keeps =
+    filter-all (λ t. not (bytes_eq t.address.dataset d.id) || is_among d.resources t.address.number) state.tables
+    (λ t within. by t (All-IsIn (HasHome state.datasets) state.tables valid.homes t within)
+    (bytes_eq t.address.dataset d.id) refl)
+  where
+    by : (t : ResourceTable) → HasHome state.datasets t → (b : Bool) → bytes_eq t.address.dataset d.id ≡ b
+        → (not (bytes_eq t.address.dataset d.id) || is_among d.resources t.address.number) ≡ true
+    by t home false other = ap (λ b. not b || is_among d.resources t.address.number) other
+    by t home true own =
+        let here : home.dataset ≡ old = same-dataset state.datasets valid.datasets home.dataset old home.stands stood
+        (home.id ∙ (bytes_eq-Decides t.address.dataset d.id).0 own ∙ sym is) in
+        ap (λ b. not b || is_among d.resources t.address.number) own
+        ∙ keeps t.address.number
+        (subst (λ (e : Package). is_among e.resources t.address.number ≡ true) here home.resource)
+
+-- the tables that stay where a dataset takes the place of another are kept
+replaced-kept : (d : Package) (call : Call) (state : State) → IsValid state
+    → IsFitDataset (asked_of call state) (holdings_of state.tables) (dataset.Replace d)
+    → AreKept (tables_kept d.id d.resources state.tables)
+replaced-kept d call state valid fit = by fit.spared
+  where
+    by : KeepsResources fit.old d ⊎ (loses_referred (holdings_of state.tables) d.id d.resources ≡ false)
+        → AreKept (tables_kept d.id d.resources state.tables)
+    by (inl keeps) = subst AreKept (sym (all-stay fit.old d state valid fit.stood fit.id keeps)) valid.tables
+    by (inr none) = drops-kept state.tables d.id d.resources valid.tables none
+
+-- each of those has its home
+replaced-homes : (d : Package) (state : State) → IsValid state
+    → All (HasHome (placed dataset_cmp d state.datasets)) (tables_kept d.id d.resources state.tables)
+replaced-homes d state valid =
+    All-each (HasHome (placed dataset_cmp d state.datasets)) (tables_kept d.id d.resources state.tables)
+    (λ t m. let was = IsIn-filter
+    (λ t. not (bytes_eq t.address.dataset d.id) || is_among d.resources t.address.number) t state.tables m in
+    home-placed d state.datasets t (All-IsIn (HasHome state.datasets) state.tables valid.homes t was.0)
+    (either (bytes_eq t.address.dataset d.id) (is_among d.resources t.address.number) was.1))
+  where
+    either : (a b : Bool) → (not a || b) ≡ true → (a ≡ false) ⊎ (b ≡ true)
+    either true b is = inr is
+    either false b is = inl refl
+
+-- where a dataset goes the tables of others keep their homes
+left-homes : (id : List ℕ) (state : State) → IsValid state
+    → All (HasHome (dropped (dataset_at_id id) state.datasets)) (tables_kept id [] state.tables)
+left-homes id state valid =
+    All-each (HasHome (dropped (dataset_at_id id) state.datasets)) (tables_kept id [] state.tables)
+    (λ t m. let was = IsIn-filter (λ t. not (bytes_eq t.address.dataset id) || is_among [] t.address.number) t
+    state.tables m in
+    let home = All-IsIn (HasHome state.datasets) state.tables valid.homes t was.0 in record {
+      dataset = home.dataset;
+      stands = dropped-Contains (dataset_at_id id) home.dataset state.datasets home.stands
+          (is_eq-slice_cmp home.dataset.id id ∙ ap (λ (i : List ℕ). bytes_eq i id) home.id
+          ∙ apart (bytes_eq t.address.dataset id) was.1);
+      id = home.id;
+      resource = home.resource;
+    })
+  where
+    apart : (a : Bool) → (not a || false) ≡ true → a ≡ false
+    apart true is = absurd (cc)
+    apart false is = refl
+
 datasets-valid : (change : DatasetChange) (call : Call) (state : State) → IsValid state
-    → IsFitDataset (asked_of call state) change → IsUnused state (Datasets change)
+    → IsFitDataset (asked_of call state) (holdings_of state.tables) change → IsUnused state (Datasets change)
     → IsValid (changed (Datasets change) state)
 datasets-valid (dataset.Create d) call state valid fit unused =
     let unnamed : has_name d.name state.datasets ≡ false =
     (first_unused (is_in_use state) (DatasetName d.name) (DatasetId d.id ∷ []) unused).0 in
-    placed-valid d state valid fit
+    placed-valid d state.tables state valid fit
     (λ e within named. let taken : bytes_eq e.name d.name ≡ true = same_text e.name d.name named in
     let free : bytes_eq e.name d.name ≡ false =
     none_passes (λ (x : Package). bytes_eq x.name d.name) e state.datasets unnamed
     (IsIn-Contains e state.datasets within) in
     absurd (cc))
+    valid.tables
+    (All-each (HasHome (placed dataset_cmp d state.datasets)) state.tables
+    (λ t within. home-placed d state.datasets t
+    (All-IsIn (HasHome state.datasets) state.tables valid.homes t within)
+    (inl (no-tables d state valid unused t within))))
 datasets-valid (dataset.Replace d) call state valid fit unused =
-    placed-valid d state valid
+    placed-valid d (tables_kept d.id d.resources state.tables) state valid
     (fit.sound (All-IsIn (IsSound state.people) state.datasets valid.sound fit.old
     (IsIn-Contains fit.old state.datasets fit.stood)))
     (λ e within named. let is : e ≡ fit.old = valid.names e fit.old within fit.stood (named ∙ sym fit.name) in
     is_eq-slice_cmp e.id d.id ∙ same_text e.id d.id (ap (λ (x : Package). x.id) is ∙ fit.id))
+    (replaced-kept d call state valid fit) (replaced-homes d state valid)
 datasets-valid (dataset.Remove id) call state valid fit unused = record {
   people = valid.people;
   orgs = valid.orgs;
@@ -304,15 +446,75 @@ datasets-valid (dataset.Remove id) call state valid fit unused = record {
   names = λ e f in_e in_f same. valid.names e f (Contains-dropped (dataset_at_id id) e state.datasets in_e).0
       (Contains-dropped (dataset_at_id id) f state.datasets in_f).0 same;
   sound = All-dropped (IsSound state.people) (dataset_at_id id) state.datasets valid.sound;
+  tables = drops-kept state.tables id [] valid.tables (none-loses state.tables id);
+  homes = left-homes id state valid;
+  spent = valid.spent;
+}
+
+-- ---- tables that change
+
+-- a resource that stands at a place is among them
+among-at : (resources : List Resource) (place : ℕ) (r : Resource) → slice_get resources place ≡ Some r
+    → is_among resources r.number ≡ true
+among-at resources place r there =
+    any-among (λ (s : Resource). s.number == r.number) r resources (IsIn-slice_get resources place r there)
+    (number_itself r.number)
+
+-- what is made over keeps its home with its address
+home-made : (datasets : List Package) (a : Address) (make : ResourceTable → ResourceTable)
+    → ((t : ResourceTable) → (make t).address ≡ t.address) → (tables : List ResourceTable)
+    → All (HasHome datasets) tables → All (HasHome datasets) (with_table_at a make tables)
+home-made datasets a make same tables homes =
+    All-mapped (HasHome datasets) (λ t. if is_at a t then make t else t) tables
+    (λ t home. let there = made-address a make same t in record {
+      dataset = home.dataset;
+      stands = home.stands;
+      id = home.id ∙ sym (ap (λ (b : Address). b.dataset) there);
+      resource = subst (λ (b : Address). is_among home.dataset.resources b.number ≡ true) (sym there) home.resource;
+    }) homes
+
+tables-homes : (change : TableChange) (call : Call) (state : State) → IsValid state
+    → IsFitTable (asked_of call state) state.tables change
+    → All (HasHome state.datasets) (changed_tables change state.tables)
+tables-homes (table.Create t) call state valid fit =
+    All-placed (HasHome state.datasets) table_cmp t state.tables
+    (record {
+      dataset = fit.own.placed.dataset;
+      stands = fit.own.stood;
+      id = sym (ap (λ (a : Address). a.dataset) fit.own.here);
+      resource = subst (λ (a : Address). is_among fit.own.placed.dataset.resources a.number ≡ true)
+          (sym fit.own.here)
+          (among-at fit.own.placed.dataset.resources fit.own.placed.place fit.own.placed.resource fit.own.named);
+    })
+    valid.homes
+tables-homes (table.Remove a) call state valid fit =
+    All-dropped (HasHome state.datasets) (at_address a) state.tables valid.homes
+tables-homes (table.Put a how records) call state valid fit =
+    home-made state.datasets a (put_into how records) (put_into-address how records) state.tables valid.homes
+tables-homes (table.Cut a ids) call state valid fit =
+    home-made state.datasets a (cut_from ids) (λ t. refl) state.tables valid.homes
+
+tables-valid : (change : TableChange) (call : Call) (state : State) → IsValid state
+    → IsFitTable (asked_of call state) state.tables change → IsValid (changed (Tables change) state)
+tables-valid change call state valid fit = record {
+  people = valid.people;
+  orgs = valid.orgs;
+  roles = valid.roles;
+  datasets = valid.datasets;
+  names = valid.names;
+  sound = valid.sound;
+  tables = fit-kept (asked_of call state) state.tables change valid.tables fit;
+  homes = tables-homes change call state valid fit;
   spent = valid.spent;
 }
 
 -- ---- a change, and what is charged for it
 
 pub changed_valid : (change : Change) (call : Call) (state : State) → IsValid state
-    → IsFit (asked_of call state) change → IsUnused state change → IsValid (changed change state)
+    → IsFit call state change → IsUnused state change → IsValid (changed change state)
 changed_valid (People change) call state valid fit unused = people-valid change call state valid fit unused
 changed_valid (Datasets change) call state valid fit unused = datasets-valid change call state valid fit unused
+changed_valid (Tables change) call state valid fit unused = tables-valid change call state valid fit
 
 pub charged_valid : (caller : Caller) (size : ℕ) (state : State) → IsValid state → IsValid (charged caller size state)
 charged_valid Anonymous size state valid = valid
@@ -323,6 +525,8 @@ charged_valid (Named user) size state valid = record {
   datasets = valid.datasets;
   names = valid.names;
   sound = valid.sound;
+  tables = valid.tables;
+  homes = valid.homes;
   spent = IsAscending-placed spent_cmp spent_cmp_total
       (record { user = user; bytes = bytes_of_user user state.spent + size }) state.spent valid.spent;
 }

@@ -1,10 +1,14 @@
 pub mod Answering
 pub mod Changing
+pub mod Deciding
 pub mod Fitting
 pub mod Hiding
 pub mod Histories
 pub mod Isolating
 pub mod Keeping
+pub mod Kept
+pub mod QueryLemmas
 pub mod Settling
 pub mod Shelving
+pub mod TableViewing
 pub mod Viewing

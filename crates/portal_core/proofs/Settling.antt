@@ -1,5 +1,5 @@
 -- What an answer comes to in a state.
-use Rattle.std.proofs.Common.{◌≡◌, ◌≢◌, true, false, List, [], ◌∷◌, ◌++◌, Option, Some, None, refl, ap, ◌∙◌}
+use Rattle.std.proofs.Common.{◌≡◌, ◌≢◌, true, false, List, [], ◌∷◌, ◌++◌, Option, Some, None, refl, sym, ap, ◌∙◌, subst}
 use Rattle.std.specs.Prelude.{find, IsSome}
 use Rattle.portal_base.specs.declared.json_value.Json.{Json}
 use Rattle.portal_calls.specs.Answer.{AcceptsOnly}
@@ -8,20 +8,23 @@ use Rattle.portal_calls.specs.declared.answer.Answer.TheVariants.{Shown, Refused
 use Rattle.portal_calls.specs.declared.answer.Denial.{Denial}
 use Rattle.portal_calls.specs.declared.answer.Denial.TheVariants.{NotFound, NotAuthorized, Validation}
 use Rattle.portal_calls.specs.declared.call.Call.{Call}
+use Rattle.packages.specs.Shelf.{IsShelved}
 use Rattle.portal_core.specs.Answer.{asked_of, answer_to}
 use Rattle.portal_core.specs.Changed.{changed, made, claims_of, is_in_use, IsUnused}
 use Rattle.portal_core.specs.Fit.{IsFit}
 use Rattle.portal_core.specs.Isolation.{tells_of_use}
+use Rattle.portal_core.specs.Parts.{IsWhole, state_of}
 use Rattle.portal_core.specs.State.{State}
 use Rattle.portal_core.specs.Step.{settled, settled_unless, refusal_of, call_step, step_of, replay}
 use Rattle.portal_core.specs.Valid.{IsValid}
 use Rattle.portal_core.specs.View.{view_of}
-use Rattle.portal_core.specs.declared.change.Change.{Change}
+use Rattle.portal_core.specs.Change.{Change}
 use Rattle.portal_core.specs.declared.change.Claim.{Claim}
 use Rattle.portal_core.specs.declared.event.Event.{Event}
 use Rattle.portal_core.specs.declared.event.Event.TheVariants.{Call as a_call}
 use Rattle.portal_core.specs.declared.event.Refusal.TheVariants.{OutOfMemory}
 use Rattle.portal_core.specs.declared.event.Reply.TheVariants as reply
+use Rattle.portal_core.specs.declared.parts.Parts.{Parts}
 use Rattle.portal_core.proofs.Answering.{answer_fit}
 use Rattle.portal_core.proofs.Fitting.{fit_in_state}
 use Rattle.portal_core.proofs.Keeping.{changed_valid, charged_valid, harvested_open}
@@ -117,18 +120,38 @@ refused-same state (a_call call) not_made =
 
 -- in a valid state what is fit where the caller sees things is fit to be made
 pub fit_in_valid : (change : Change) (call : Call) (state : State) → IsValid state
-    → IsFit (asked_of call (view_of call.caller state)) change → IsFit (asked_of call state) change
+    → IsFit call (view_of call.caller state) change → IsFit call state change
 fit_in_valid change call state valid fit = fit_in_state change call state (harvested_open state valid) fit
 
 pub made_valid : (change : Change) (call : Call) (state : State) → IsValid state
-    → IsFit (asked_of call (view_of call.caller state)) change → IsUnused state change
+    → IsFit call (view_of call.caller state) change → IsUnused state change
     → IsValid (made call change state)
 made_valid change call state valid fit unused =
     charged_valid call.caller call.size (changed change state)
     (changed_valid change call state valid (fit_in_valid change call state valid fit) unused)
 
+-- ---- the parts
+
+-- Parts that make up the state that others made up are whole where these were.
+pub kept_whole : (old new : Parts) → IsWhole old → state_of new ≡ state_of old → IsShelved new.shelf → IsWhole new
+kept_whole old new whole same shelved = record {
+  valid = subst IsValid (sym same) whole.valid;
+  shelved = shelved;
+}
+
+-- So are parts in which a change was made.
+pub made_whole : (change : Change) (call : Call) (old new : Parts) → IsWhole old
+    → IsFit call (view_of call.caller (state_of old)) change → IsUnused (state_of old) change
+    → state_of new ≡ made call change (state_of old) → IsShelved new.shelf → IsWhole new
+made_whole change call old new whole fit unused is shelved = record {
+  valid = subst IsValid (sym is) (made_valid change call (state_of old) whole.valid fit unused);
+  shelved = shelved;
+}
+
+-- ---- steps
+
 settled-valid : (answer : Answer Change) (call : Call) (state : State) → IsValid state
-    → AcceptsOnly (IsFit (asked_of call (view_of call.caller state))) answer
+    → AcceptsOnly (IsFit call (view_of call.caller state)) answer
     → IsValid (settled answer call state).state
 settled-valid (Shown json) call state valid fit = valid
 settled-valid (Refused denial) call state valid fit = valid

@@ -22,6 +22,8 @@ use Rattle.packages.proofs.FindLemmas.{IsIn-find, find-none, list_any-map}
 use Rattle.packages.proofs.NumberLemmas.{IsIn-standing, standing-IsIn}
 use Rattle.packages.proofs.ShelfLemmas.{among_is_standing}
 use Rattle.portal_calls.specs.declared.call.Call.{Call}
+use Rattle.datastore_answers.specs.Holdings.{holdings_of}
+use Rattle.datastore_answers.specs.Tables.{bare, tables_of}
 use Rattle.dataset_answers.specs.Changed.{has_name, has_id}
 use Rattle.dataset_answers.specs.Fit.{IsFitDataset}
 use Rattle.dataset_answers.specs.Sound.{IsSound, IsId}
@@ -33,8 +35,7 @@ use Rattle.portal_core.specs.Fit.{IsFit}
 use Rattle.portal_core.specs.Opened.{opened, is_opening}
 use Rattle.portal_core.specs.Parts.{state_of, IsWhole, IsFree, IsHeld, IsTakenBy, IsUnrefused, MakesSound}
 use Rattle.portal_core.specs.Valid.{IsValid}
-use Rattle.portal_core.specs.declared.change.Change.{Change}
-use Rattle.portal_core.specs.declared.change.Change.TheVariants.{People, Datasets}
+use Rattle.portal_core.specs.Change.{Change, People, Datasets, Tables}
 use Rattle.portal_core.specs.declared.change.Claim.TheVariants.{DatasetName, DatasetId}
 use Rattle.portal_core.specs.declared.parts.Parts.{Parts}
 use Rattle.portal_core.specs.declared.portal.Opening.{Opening}
@@ -164,7 +165,8 @@ held shelf shelved d id within is =
 -- ---- changes
 
 taken : (change : DatasetChange) (parts : Parts) (call : Call) → IsWhole parts
-    → IsFitDataset (asked_of call (state_of parts)) change → IsUnused (state_of parts) (Datasets change)
+    → IsFitDataset (asked_of call (state_of parts)) (holdings_of (state_of parts).tables) change
+    → IsUnused (state_of parts) (Datasets change)
     → IsTakenBy change parts.shelf
 unfolding held led
 taken (dataset.Create d) parts call whole fit unused = free parts call d whole fit unused
@@ -180,17 +182,19 @@ taken (dataset.Remove id) parts call whole fit unused =
 
 -- What is fit, and claims nothing that is in use, is refused for nothing.
 pub unrefused : (change : Change) (parts : Parts) (call : Call) → IsWhole parts
-    → IsFit (asked_of call (state_of parts)) change → IsUnused (state_of parts) change → IsUnrefused change parts
+    → IsFit call (state_of parts) change → IsUnused (state_of parts) change → IsUnrefused change parts
 unrefused (People change) parts call whole fit unused = unfaulted change call (state_of parts) fit unused
 unrefused (Datasets change) parts call whole fit unused = taken change parts call whole fit unused
+unrefused (Tables change) parts call whole fit unused = tt
 
 -- a new dataset that is fit is sound
-pub makes_sound : (change : Change) (parts : Parts) (call : Call) → IsFit (asked_of call (state_of parts)) change
+pub makes_sound : (change : Change) (parts : Parts) (call : Call) → IsFit call (state_of parts) change
     → MakesSound change parts
 makes_sound (People change) parts call fit = tt
 makes_sound (Datasets (dataset.Create d)) parts call fit = fit
 makes_sound (Datasets (dataset.Replace d)) parts call fit = tt
 makes_sound (Datasets (dataset.Remove id)) parts call fit = tt
+makes_sound (Tables change) parts call fit = tt
 
 -- ---- an opening
 
@@ -214,11 +218,13 @@ pub opened_whole : (parts : Parts) (opening : Opening) → is_opening opening �
     → parts.people.people.users ≡ ascending user_cmp opening.users
     → parts.people.people.orgs ≡ ascending org_cmp opening.orgs
     → parts.people.people.roles ≡ ascending membership_cmp opening.roles
-    → parts.shelf.entries ≡ [] → parts.shelf.room ≡ None → parts.spent.items ≡ [] → IsWhole parts
-opened_whole parts opening fit users orgs roles none no_room no_charge =
+    → parts.shelf.entries ≡ [] → parts.shelf.room ≡ None → parts.tables.tables ≡ [] → parts.spent.items ≡ []
+    → IsWhole parts
+opened_whole parts opening fit users orgs roles none no_room no_table no_charge =
     let datasets : datasets_of parts.shelf ≡ [] =
     ap (λ (es : List (ℕ × Package)). ascending dataset_cmp (map (λ (e : ℕ × Package). e.1) es)) none in
-    let same : opened opening ≡ state_of parts = rw (users, orgs, roles, datasets, no_charge) refl in
+    let tables : tables_of parts.tables ≡ [] = ap (map bare) no_table in
+    let same : opened opening ≡ state_of parts = rw (users, orgs, roles, datasets, tables, no_charge) refl in
     record {
       valid = subst IsValid same (opened_valid opening fit);
       shelved = empty_shelved parts.shelf none no_room;

@@ -1,6 +1,8 @@
 -- What a caller sees of what it sees.
 use Rattle.std.proofs.Common.{◌≡◌, refl}
 use Rattle.portal_base.specs.declared.caller.Caller.{Caller}
+use Rattle.datastore_answers.specs.Tables.{is_table_among}
+use Rattle.visibility.specs.View.{datasets_seen}
 use Rattle.visibility.proofs.Viewing.{filter_twice, people_seen_twice, datasets_seen_twice}
 use Rattle.portal_core.specs.State.{State}
 use Rattle.portal_core.specs.View.{view_of, is_spent_of}
@@ -10,5 +12,6 @@ view_of-twice caller state =
     rw (
       people_seen_twice caller state.people,
       datasets_seen_twice caller state.people state.datasets,
+      filter_twice (is_table_among (datasets_seen caller state.people state.datasets)) state.tables,
       filter_twice (is_spent_of caller) state.spent,
     ) refl

@@ -11,20 +11,32 @@ use Rattle.org_roles.specs.declared.change.OrgChange.TheVariants as org
 use Rattle.dataset_answers.specs.Changed.{changed_datasets, has_name, has_id}
 use Rattle.dataset_answers.specs.declared.change.DatasetChange.{DatasetChange}
 use Rattle.dataset_answers.specs.declared.change.DatasetChange.TheVariants as dataset
+use Rattle.datastore_answers.specs.Changed.{changed_tables}
+use Rattle.datastore_answers.specs.Tables.{tables_kept}
+use Rattle.datastore_answers.specs.declared.resource_table.ResourceTable.{ResourceTable}
 use Rattle.portal_calls.specs.declared.call.Call.{Call}
 use Rattle.portal_core.specs.State.{State, spent_cmp, bytes_of_user}
-use Rattle.portal_core.specs.declared.change.Change.{Change}
-use Rattle.portal_core.specs.declared.change.Change.TheVariants.{People, Datasets}
+use Rattle.portal_core.specs.Change.{Change, People, Datasets, Tables}
 use Rattle.portal_core.specs.declared.change.Claim.{Claim}
 use Rattle.portal_core.specs.declared.change.Claim.TheVariants.{OrgName, DatasetName, DatasetId}
 use Rattle.portal_core.specs.declared.spent.Spent.{Spent}
 
 -- ---- the change
 
+-- The tables behind a change of a dataset: those of its resources stay, and those of resources that went are gone.
+abbrev pub tables_left : DatasetChange → List ResourceTable → List ResourceTable
+tables_left (dataset.Create d) tables = tables
+tables_left (dataset.Replace d) tables = tables_kept d.id d.resources tables
+tables_left (dataset.Remove id) tables = tables_kept id [] tables
+
 -- the state with the change made
 abbrev pub changed : Change → State → State
 changed (People change) state = record state { people = changed_people change state.people }
-changed (Datasets change) state = record state { datasets = changed_datasets change state.datasets }
+changed (Datasets change) state = record state {
+  datasets = changed_datasets change state.datasets;
+  tables = tables_left change state.tables;
+}
+changed (Tables change) state = record state { tables = changed_tables change state.tables }
 
 -- what is charged to the caller: its entry with so many bytes more; nobody has none
 abbrev pub charge_of : Caller → ℕ → List Spent → Option Spent
@@ -61,6 +73,7 @@ claims_of_datasets (dataset.Remove id) = []
 abbrev pub claims_of : Change → List Claim
 claims_of (People change) = claims_of_people change
 claims_of (Datasets change) = claims_of_datasets change
+claims_of (Tables change) = []
 
 -- something of that kind in the state has the name or the id
 abbrev pub is_in_use : State → Claim → Bool

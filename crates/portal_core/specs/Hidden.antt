@@ -6,11 +6,14 @@ use Rattle.portal_base.specs.declared.caller.Caller.{Caller}
 use Rattle.portal_base.specs.declared.caller.Caller.TheVariants.{Anonymous, Named}
 use Rattle.org_roles.specs.Peopled.{Peopled}
 use Rattle.packages.specs.declared.package.Package.{Package}
+use Rattle.datastore_answers.specs.Changed.{TableChange}
+use Rattle.datastore_answers.specs.Changed as table
+use Rattle.datastore_answers.specs.declared.address.Address.{Address}
 use Rattle.visibility.specs.View.{administers, is_called, is_role_seen}
 use Rattle.visibility.specs.Visibility.{sees_in}
 use Rattle.portal_core.specs.State.{State}
 use Rattle.portal_core.specs.Step.{step_of}
-use Rattle.portal_core.specs.View.{is_spent_of}
+use Rattle.portal_core.specs.View.{is_spent_of, is_table_seen}
 use Rattle.portal_core.specs.declared.event.Event.{Event}
 use Rattle.portal_core.specs.declared.event.Event.TheVariants.{Call as a_call}
 
@@ -44,6 +47,7 @@ pub record IsHiddenBetween (caller : Caller) (before after : State) : Type 0 whe
       before.people.roles after.people.roles
   pub datasets : IsHiddenChange (sees_in before.people caller) (sees_in after.people caller) before.datasets
       after.datasets
+  pub tables : IsHiddenChange (is_table_seen caller before) (is_table_seen caller after) before.tables after.tables
   pub spent : IsHiddenChange (is_spent_of caller) (is_spent_of caller) before.spent after.spent
 
 -- The event is hidden from the caller: it is no call of the caller's, and changes only what the caller's view doesn't
@@ -58,6 +62,13 @@ pub record IsHidden (caller : Caller) (state : State) (event : Event) : Type 0 w
 abbrev pub IsIdUnseen : Caller → State → List ℕ → Type 0
 IsIdUnseen caller state id =
     (d : Package) → Contains state.datasets d → d.id ≡ id → sees_in state.people caller d ≡ false
+
+-- where the table stands that changes
+abbrev pub address_in : TableChange → Address
+address_in (table.Create t) = t.address
+address_in (table.Remove address) = address
+address_in (table.Put address how records) = address
+address_in (table.Cut address ids) = address
 
 -- the caller neither administers the organization nor is the user
 pub record IsRoleUnseen (caller : Caller) (people : Peopled) (org user : List ℕ) : Type 0 where

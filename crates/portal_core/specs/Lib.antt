@@ -1,11 +1,15 @@
 pub mod Answer
+pub mod Change
 pub mod Changed
 pub mod Fit
 pub mod Hidden
 pub mod History
 pub mod Isolation
 pub mod Opened
+pub mod Page
 pub mod Parts
+pub mod Queries
+pub mod SearchBody
 pub mod State
 pub mod Step
 pub mod Valid

@@ -28,7 +28,7 @@ is_opening opening =
     have_distinct_names opening.users && have_distinct_org_names opening.orgs && have_distinct_pairs opening.roles
     && are_named opening.orgs && have_orgs opening.orgs opening.roles
 
--- the users, organizations and roles of the opening, each list in its order, no dataset, and nothing accepted
+-- the users, organizations and roles of the opening, each list in its order, no dataset, no table, and nothing accepted
 abbrev pub opened : Opening → State
 opened opening = record {
   people = record {
@@ -37,6 +37,7 @@ opened opening = record {
     roles = ascending membership_cmp opening.roles;
   };
   datasets = [];
+  tables = [];
   spent = [];
 }
 

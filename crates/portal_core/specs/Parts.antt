@@ -10,12 +10,16 @@ use Rattle.dataset_answers.specs.declared.change.DatasetChange.TheVariants as da
 use Rattle.portal_core.specs.Changed.{changed, with_charge}
 use Rattle.portal_core.specs.State.{State}
 use Rattle.portal_core.specs.Valid.{IsValid}
-use Rattle.portal_core.specs.declared.change.Change.{Change}
-use Rattle.portal_core.specs.declared.change.Change.TheVariants as made
+use Rattle.datastore_answers.specs.Plan as table
+use Rattle.datastore_answers.specs.Tables.{Stored, tables_of}
+use Rattle.portal_core.specs.Change.{Change}
+use Rattle.portal_core.specs.Change as made
+use Rattle.portal_core.specs.declared.change.Plan.{Plan}
+use Rattle.portal_core.specs.declared.change.Plan.TheVariants as plan
 use Rattle.portal_core.specs.declared.parts.Parts.{Parts}
 use Rattle.portal_core.specs.declared.parts.Prepared.{Prepared}
 use Rattle.portal_core.specs.declared.parts.PreparedChange.{PreparedChange}
-use Rattle.portal_core.specs.declared.parts.PreparedChange.TheVariants.{People, Put, Replace, Remove}
+use Rattle.portal_core.specs.declared.parts.PreparedChange.TheVariants.{People, Put, Replace, Remove, Tables}
 use Rattle.portal_core.specs.declared.spent.Spent.{Spent}
 
 -- the state that the parts make up
@@ -23,6 +27,7 @@ abbrev pub state_of : Parts → State
 state_of parts = record {
   people = parts.people.people;
   datasets = datasets_of parts.shelf;
+  tables = tables_of parts.tables;
   spent = parts.spent.items;
 }
 
@@ -37,6 +42,7 @@ MakesSound (made.People change) parts = ⊤
 MakesSound (made.Datasets (dataset.Create d)) parts = IsSound parts.people.people d
 MakesSound (made.Datasets (dataset.Replace d)) parts = ⊤
 MakesSound (made.Datasets (dataset.Remove id)) parts = ⊤
+MakesSound (made.Tables change) parts = ⊤
 
 -- ---- what can be prepared
 
@@ -66,6 +72,16 @@ IsTakenBy (dataset.Remove id) shelf = IsHeld shelf id
 abbrev pub IsUnrefused : Change → Parts → Type 0
 IsUnrefused (made.People change) parts = IsTrue (is_none (org_fault change parts.people.people))
 IsUnrefused (made.Datasets change) parts = IsTakenBy change parts.shelf
+IsUnrefused (made.Tables change) parts = ⊤
+
+-- what a table prepared for the plan is ready
+abbrev pub IsPlannedOn : Plan → Stored → Type 0
+IsPlannedOn (plan.People change) stored = ⊤
+IsPlannedOn (plan.Datasets change) stored = ⊤
+IsPlannedOn (plan.Tables change) stored = table.IsPlanned change stored
+
+abbrev pub IsPlanned : Plan → Parts → Type 0
+IsPlanned p parts = IsPlannedOn p parts.tables
 
 -- ---- what is prepared
 
@@ -75,6 +91,7 @@ change_in (People change) = made.People change
 change_in (Put d) = made.Datasets (dataset.Create d)
 change_in (Replace number d) = made.Datasets (dataset.Replace d)
 change_in (Remove number id) = made.Datasets (dataset.Remove id)
+change_in (Tables change) = made.Tables (table.change_of change)
 
 -- the state with the prepared change made and charged
 abbrev pub with_prepared : Prepared → State → State
@@ -96,6 +113,7 @@ IsChangeReady (People change) parts = IsReady change parts.people
 IsChangeReady (Put dataset) parts = IsPutReady parts.shelf dataset
 IsChangeReady (Replace number dataset) parts = IsReplaceReady parts.shelf number dataset
 IsChangeReady (Remove number id) parts = option_map (λ d. d.id) (standing_at number parts.shelf) ≡ Some id
+IsChangeReady (Tables change) parts = table.IsReadyPlan change parts.tables
 
 -- there is room for what is charged
 abbrev pub IsChargeReady : Option Spent → Parts → Type 0

@@ -10,13 +10,15 @@ use Rattle.portal_base.specs.declared.caller.Caller.{Caller}
 use Rattle.portal_base.specs.declared.caller.Caller.TheVariants.{Anonymous, Named}
 use Rattle.org_roles.specs.Peopled.{Peopled}
 use Rattle.packages.specs.declared.package.Package.{Package}
+use Rattle.datastore_answers.specs.declared.resource_table.ResourceTable.{ResourceTable}
 use Rattle.portal_core.specs.declared.spent.Spent.{Spent}
 
--- Users ascend by name, organizations by name, roles by organization and user, datasets by id, and by user what each
--- has had accepted.
+-- Users ascend by name, organizations by name, roles by organization and user, datasets by id, tables by their
+-- dataset's id and their resource's number, and by user what each has had accepted.
 pub record State : Type 0 where
   pub people : Peopled
   pub datasets : List Package
+  pub tables : List ResourceTable
   pub spent : List Spent
 
 -- the order by user

@@ -10,7 +10,7 @@ use Rattle.portal_core.specs.Answer.{answer_to}
 use Rattle.portal_core.specs.Changed.{made, claims_of, is_in_use, key_of}
 use Rattle.portal_core.specs.State.{State}
 use Rattle.portal_core.specs.View.{view_of}
-use Rattle.portal_core.specs.declared.change.Change.{Change}
+use Rattle.portal_core.specs.Change.{Change}
 use Rattle.portal_core.specs.declared.change.Claim.{Claim}
 use Rattle.portal_core.specs.declared.event.Event.{Event}
 use Rattle.portal_core.specs.declared.event.Event.TheVariants.{Call as a_call}

@@ -11,7 +11,8 @@ ghost use Rattle.portal_calls.specs.declared.answer.Answer.TheVariants.{Accepted
 ghost use Rattle.portal_calls.specs.declared.call.Call.{Call};
 ghost use Rattle.portal_core.specs.Answer.{answer_to};
 ghost use Rattle.portal_core.specs.Changed.{IsUnused, claims_of, is_in_use, made};
-ghost use Rattle.portal_core.specs.Hidden.{IsHidden, IsIdUnseen, IsRoleUnseen, is_caller};
+ghost use Rattle.datastore_answers.specs.Changed.{TableChange};
+ghost use Rattle.portal_core.specs.Hidden.{IsHidden, IsIdUnseen, IsRoleUnseen, address_in, is_caller};
 ghost use Rattle.portal_core.specs.History.{AreAlike, AreOthersHidden, calls_of, tell_of_no_use, exchanges_of};
 ghost use Rattle.portal_core.specs.Isolation.{tells_of_use};
 ghost use Rattle.portal_core.specs.Opened.{opened, is_opening};
@@ -19,8 +20,7 @@ ghost use Rattle.portal_core.specs.State.{State};
 ghost use Rattle.portal_core.specs.Step.{call_step, step_of, replay};
 ghost use Rattle.portal_core.specs.Valid.{IsValid};
 ghost use Rattle.portal_core.specs.View.{view_of};
-ghost use Rattle.portal_core.specs.declared.change.Change.{Change};
-ghost use Rattle.portal_core.specs.declared.change.Change.TheVariants.{People, Datasets};
+ghost use Rattle.portal_core.specs.Change.{Change, People, Datasets, Tables};
 ghost use Rattle.portal_core.specs.declared.event.Event.{Event};
 ghost use Rattle.portal_core.specs.declared.event.Reply.{Reply};
 ghost use Rattle.portal_core.specs.declared.portal.Opening.{Opening};
@@ -117,6 +117,14 @@ pub fn an_unseen_change_of_datasets_is_hidden()
         is_caller caller call.caller ≡ false →
         answer_to call (view_of call.caller state) ≡ Accepted json (Datasets (Remove id)) →
         IsIdUnseen caller state id → IsHidden caller state (Event.Call call) }
+{}
+
+/// A change of a table is hidden from another caller who doesn't see its dataset.
+pub fn an_unseen_change_of_tables_is_hidden()
+    ensures { (caller : Caller) (state : State) (call : Call) (json : Json) (change : TableChange) →
+        is_caller caller call.caller ≡ false →
+        answer_to call (view_of call.caller state) ≡ Accepted json (Tables change) →
+        IsIdUnseen caller state (address_in change).dataset → IsHidden caller state (Event.Call call) }
 {}
 
 /// A role that another user is given or loses is hidden from a caller who doesn't administer the organization.

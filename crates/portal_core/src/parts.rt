@@ -6,18 +6,20 @@ ghost use Rattle.portal_base.specs.Ordered.{IsAscending};
 ghost use Rattle.org_roles.specs.Changed.{org_fault, IsReady};
 ghost use Rattle.packages.specs.Shelf.{IsShelved};
 ghost use Rattle.dataset_answers.specs.Sound.{IsSound};
-ghost use Rattle.portal_core.specs.Answer.{asked_of};
+ghost use Rattle.portal_core.specs.Change.{change_of, Datasets};
 ghost use Rattle.portal_core.specs.Changed.{changed, made, charge_of, with_charge, claims_of, is_in_use, key_of};
 ghost use Rattle.portal_core.specs.Changed.{IsUnused};
 ghost use Rattle.portal_core.specs.Fit.{IsFit};
 ghost use Rattle.portal_core.specs.Parts.{state_of, change_in, with_prepared, IsWhole, MakesSound, IsTakenBy};
 ghost use Rattle.portal_core.specs.Parts.{IsUnrefused};
-ghost use Rattle.portal_core.specs.Parts.{IsPrepared, IsChangeReady, IsChargeReady};
+ghost use Rattle.portal_core.specs.Parts.{IsPlanned, IsPrepared, IsChangeReady, IsChargeReady};
 ghost use Rattle.portal_core.specs.State.{bytes_of, bytes_of_user, spent_cmp};
 
-use crate::change::Change;
+use crate::change::Plan;
 use crate::spent::Spent;
 use dataset_answers::change::DatasetChange;
+use datastore_answers::plan::TablePlan;
+use datastore_answers::tables::Tables;
 use org_roles::change::{OrgChange, OrgFault};
 use org_roles::people::People;
 use org_roles::people::prepared::PreparedOrg;
@@ -35,6 +37,7 @@ use std::alloc::{AllocError, Global};
 pub struct Parts {
     pub people: People,
     pub shelf: Shelf,
+    pub tables: Tables,
     pub spent: Vec<Spent>,
 }
 
@@ -48,6 +51,8 @@ pub enum PreparedChange {
     Replace(u32, Package),
     /// No dataset at the number, where the one of this id stands.
     Remove(u32, Text),
+    /// A change of a table.
+    Tables(TablePlan),
 }
 
 /// A change for which there is room, with the entry of what is charged for it.
@@ -69,20 +74,20 @@ impl Parts {
     }
 
     /// The key on which it is told that a name or an id that the change claims is in use, if one is.
-    pub fn key_in_use(&self, change: &Change) -> Option<&'static str>
+    pub fn key_in_use(&self, plan: &Plan) -> Option<&'static str>
         requires whole { IsWhole self.now }
-        requires sound { MakesSound change.now self.now }
+        requires sound { MakesSound (change_of plan.now) self.now }
         ensures key { option_copied result
-            ≡ option_map key_of (find (is_in_use (state_of self.now)) (claims_of change.now)) }
-        ensures unused { IfNone result (IsUnused (state_of self.now) change.now) }
+            ≡ option_map key_of (find (is_in_use (state_of self.now)) (claims_of (change_of plan.now))) }
+        ensures unused { IfNone result (IsUnused (state_of self.now) (change_of plan.now)) }
     {
-        match change {
-            Change::People(OrgChange::Create(org)) => self
+        match plan {
+            Plan::People(OrgChange::Create(org)) => self
                 .people
                 .org(&org.name)
                 .is_some()
                 .then_some("name"),
-            Change::Datasets(DatasetChange::Create(dataset)) => self.dataset_key_in_use(dataset),
+            Plan::Datasets(DatasetChange::Create(dataset)) => self.dataset_key_in_use(dataset),
             _ => None,
         }
     }
@@ -93,9 +98,9 @@ impl Parts {
         requires whole { IsWhole self.now }
         requires sound { IsSound self.now.people.people dataset.now }
         ensures key { option_copied result ≡ option_map key_of
-            (find (is_in_use (state_of self.now)) (claims_of (Change.Datasets (DatasetChange.Create dataset.now)))) }
+            (find (is_in_use (state_of self.now)) (claims_of (Datasets (DatasetChange.Create dataset.now)))) }
         ensures unused { IfNone result
-            (IsUnused (state_of self.now) (Change.Datasets (DatasetChange.Create dataset.now))) }
+            (IsUnused (state_of self.now) (Datasets (DatasetChange.Create dataset.now))) }
     {
         if self.shelf.is_in_use(dataset.name.as_str()) {
             Some("name")
@@ -108,58 +113,60 @@ impl Parts {
 
     /// Makes a change that is fit and claims nothing that is in use, and charges it. For want of memory nothing
     /// changes.
-    pub fn make(&mut self, alloc: Global, call: &Call, change: Change) -> Result<(), AllocError>
+    pub fn make(&mut self, alloc: Global, call: &Call, plan: Plan) -> Result<(), AllocError>
         requires whole { IsWhole self.old }
-        requires fit { IsFit (asked_of call.now (state_of self.old)) change }
-        requires unused { IsUnused (state_of self.old) change }
-        ensures made { OnOk result (state_of self.new ≡ made call.now change (state_of self.old)) }
+        requires fit { IsFit call.now (state_of self.old) (change_of plan) }
+        requires planned { IsPlanned plan self.old }
+        requires unused { IsUnused (state_of self.old) (change_of plan) }
+        ensures made { OnOk result (state_of self.new ≡ made call.now (change_of plan) (state_of self.old)) }
         ensures kept { OnErr result (state_of self.new ≡ state_of self.old) }
         ensures shelved { IsShelved self.new.shelf }
     {
-        let prepared = self.prepare(alloc, call, change)?;
+        let prepared = self.prepare(alloc, call, plan)?;
         self.commit(prepared);
         Ok(())
     }
 
     /// Prepares a change that is fit and claims nothing that is in use, and what is charged for it. The state stays.
     #[tactic(auto, using(crate::proofs::Shelving::unrefused))]
-    fn prepare(
-        &mut self,
-        alloc: Global,
-        call: &Call,
-        change: Change,
-    ) -> Result<Prepared, AllocError>
+    fn prepare(&mut self, alloc: Global, call: &Call, plan: Plan) -> Result<Prepared, AllocError>
         requires whole { IsWhole self.old }
-        requires fit { IsFit (asked_of call.now (state_of self.old)) change }
-        requires unused { IsUnused (state_of self.old) change }
+        requires fit { IsFit call.now (state_of self.old) (change_of plan) }
+        requires planned { IsPlanned plan self.old }
+        requires unused { IsUnused (state_of self.old) (change_of plan) }
         ensures same { state_of self.new ≡ state_of self.old }
         ensures shelved { IsShelved self.new.shelf }
         ensures ready { IfOk result (λ prepared. IsPrepared prepared self.new) }
-        ensures change { IfOk result (λ prepared. change_in prepared.change ≡ change) }
+        ensures change { IfOk result (λ prepared. change_in prepared.change ≡ change_of plan) }
         ensures charge { IfOk result (λ prepared.
             prepared.charge ≡ charge_of call.now.caller call.now.size self.old.spent.items) }
     {
         let charge = self.prepare_charge(alloc, call)?;
-        let change = self.prepare_change(change)?;
+        let change = self.prepare_change(plan)?;
         Ok(Prepared { change, charge })
     }
 
     /// Makes room for a change that is refused for nothing.
-    fn prepare_change(&mut self, change: Change) -> Result<PreparedChange, AllocError>
+    fn prepare_change(&mut self, plan: Plan) -> Result<PreparedChange, AllocError>
         requires shelved { IsShelved self.old.shelf }
-        requires unrefused { IsUnrefused change self.old }
+        requires unrefused { IsUnrefused (change_of plan) self.old }
+        requires planned { IsPlanned plan self.old }
         ensures same { state_of self.new ≡ state_of self.old }
         ensures shelved { IsShelved self.new.shelf }
         ensures spent { self.new.spent ≡ self.old.spent }
-        ensures change { IfOk result (λ prepared. change_in prepared ≡ change) }
+        ensures change { IfOk result (λ prepared. change_in prepared ≡ change_of plan) }
         ensures ready { IfOk result (λ prepared. IsChangeReady prepared self.new) }
     {
-        match change {
-            Change::People(change) => Ok(PreparedChange::People(prepare_people(
+        match plan {
+            Plan::People(change) => Ok(PreparedChange::People(prepare_people(
                 &mut self.people,
                 change,
             )?)),
-            Change::Datasets(change) => self.prepare_dataset(change),
+            Plan::Datasets(change) => self.prepare_dataset(change),
+            Plan::Tables(plan) => {
+                self.tables.reserve()?;
+                Ok(PreparedChange::Tables(plan))
+            }
         }
     }
 
@@ -170,7 +177,7 @@ impl Parts {
         ensures same { state_of self.new ≡ state_of self.old }
         ensures shelved { IsShelved self.new.shelf }
         ensures spent { self.new.spent ≡ self.old.spent }
-        ensures change { IfOk result (λ prepared. change_in prepared ≡ Change.Datasets change) }
+        ensures change { IfOk result (λ prepared. change_in prepared ≡ Datasets change) }
         ensures ready { IfOk result (λ prepared. IsChangeReady prepared self.new) }
     {
         match change {
@@ -194,6 +201,7 @@ impl Parts {
         ensures same { state_of self.new ≡ state_of self.old }
         ensures people { self.new.people ≡ self.old.people }
         ensures shelf { self.new.shelf ≡ self.old.shelf }
+        ensures tables { self.new.tables ≡ self.old.tables }
         ensures charge { IfOk result (λ charge.
             charge ≡ charge_of call.now.caller call.now.size self.old.spent.items) }
         ensures ready { IfOk result (λ charge. IsChargeReady charge self.new) }
@@ -238,11 +246,14 @@ impl Parts {
                 self.shelf.put(dataset);
             }
             PreparedChange::Replace(number, dataset) => {
+                self.tables.keep(&dataset.id, dataset.resources.as_slice());
                 self.shelf.replace(number, dataset);
             }
-            PreparedChange::Remove(number, _) => {
+            PreparedChange::Remove(number, id) => {
+                self.tables.keep(&id, &[]);
                 self.shelf.remove(number);
             }
+            PreparedChange::Tables(plan) => self.tables.commit(plan),
         }
     }
 

@@ -3,12 +3,18 @@
 //! A call is decided on what its caller sees, then all growth is prepared, and then the change is made by a commit
 //! that takes no memory and can't fail.
 ghost use Rattle.std.specs.Prelude.{◌≡◌, ◌≢◌, IsTrue, IfOk, OnOk, OnErr};
-ghost use Rattle.portal_core.specs.Step.{refusal_of};
+ghost use Rattle.portal_calls.specs.declared.answer.Answer.TheVariants.{Accepted};
+ghost use Rattle.portal_core.specs.Change.{change_of};
+ghost use Rattle.portal_core.specs.Fit.{IsFit};
+ghost use Rattle.portal_core.specs.Parts.{state_of, IsPlanned, IsWhole};
+ghost use Rattle.portal_core.specs.Step.{refusal_of, settled};
+ghost use Rattle.portal_core.specs.View.{view_of};
 
-use crate::change::Change;
+use crate::change::Plan;
 use crate::decide::decide;
 use crate::event::{Event, Refusal, Reply};
 use crate::parts::Parts;
+use datastore_answers::tables::Tables;
 use org_roles::entry::{Membership, Org, User};
 use org_roles::people::People;
 use packages::shelf::Shelf;
@@ -58,12 +64,8 @@ impl Model for Portal {
 }
 
 impl Portal {
-    ghost use Rattle.portal_calls.specs.declared.answer.Answer.TheVariants.{Accepted};
-    ghost use Rattle.portal_core.specs.Answer.{asked_of};
-    ghost use Rattle.portal_core.specs.Fit.{IsFit};
     ghost use Rattle.portal_core.specs.Opened.{opened, is_opening, known_caller};
-    ghost use Rattle.portal_core.specs.Step.{step_of, call_step, settled};
-    ghost use Rattle.portal_core.specs.View.{view_of};
+    ghost use Rattle.portal_core.specs.Step.{step_of, call_step};
 
     /// A portal with these users, organizations and roles, and no dataset.
     pub fn open(alloc: Global, opening: &Opening) -> Result<Portal, OpenFault>
@@ -89,6 +91,7 @@ impl Portal {
             parts: Parts {
                 people: People::of_lists(users, orgs, roles),
                 shelf: Shelf::new(alloc),
+                tables: Tables::new(alloc),
                 spent: Vec::new(alloc),
             },
         })
@@ -131,27 +134,38 @@ impl Portal {
         ensures state { OnOk result (self.new ≡ (call_step self.old call.now).state) }
         ensures kept { OnErr result (self.new ≡ self.old) }
     {
-        match decide(self.alloc, &self.parts, call)? {
+        match decide(self.alloc, &mut self.parts, call)? {
             Answer::Shown(json) => Ok(Reply::Shown(json)),
             Answer::Refused(denial) => Ok(Reply::Refused(refusal_of(denial))),
-            Answer::Accepted(json, change) => self.settle(call, json, change),
+            Answer::Accepted(json, plan) => settle(self.alloc, &mut self.parts, call, json, plan),
         }
     }
+}
 
-    /// Makes a change that was accepted, where nothing that it claims is in use.
-    #[tactic(auto, using(crate::proofs::Settling::settled_unused))]
-    fn settle(&mut self, call: &Call, json: Json, change: Change) -> Result<Reply, AllocError>
-        requires { IsFit (asked_of call.now (view_of call.now.caller self.old)) change }
-        ensures reply { IfOk result (λ reply. reply ≡ (settled (Accepted json change) call.now self.old).reply) }
-        ensures state { OnOk result (self.new ≡ (settled (Accepted json change) call.now self.old).state) }
-        ensures kept { OnErr result (self.new ≡ self.old) }
-    {
-        if let Some(key) = self.parts.key_in_use(&change) {
-            return Ok(Reply::Refused(Refusal::NameInUse(Text::from_static(key))));
-        }
-        self.parts.make(self.alloc, call, change)?;
-        Ok(Reply::Accepted(json))
+/// Makes a change that was accepted, where nothing that it claims is in use.
+#[tactic(auto, using(crate::proofs::Settling::settled_unused, crate::proofs::Settling::kept_whole))]
+fn settle(
+    alloc: Global,
+    parts: &mut Parts,
+    call: &Call,
+    json: Json,
+    plan: Plan,
+) -> Result<Reply, AllocError>
+    requires whole { IsWhole parts.old }
+    requires fit { IsFit call.now (view_of call.now.caller (state_of parts.old)) (change_of plan) }
+    requires planned { IsPlanned plan parts.old }
+    ensures whole { IsWhole parts.new }
+    ensures reply { IfOk result (λ reply.
+        reply ≡ (settled (Accepted json (change_of plan)) call.now (state_of parts.old)).reply) }
+    ensures state { OnOk result
+        (state_of parts.new ≡ (settled (Accepted json (change_of plan)) call.now (state_of parts.old)).state) }
+    ensures kept { OnErr result (state_of parts.new ≡ state_of parts.old) }
+{
+    if let Some(key) = parts.key_in_use(&plan) {
+        return Ok(Reply::Refused(Refusal::NameInUse(Text::from_static(key))));
     }
+    parts.make(alloc, call, plan)?;
+    Ok(Reply::Accepted(json))
 }
 
 /// The refusal that is replied.

@@ -1,5 +1,5 @@
 -- Each pair of the query is set among the members in turn.
-use Rattle.std.proofs.Common.{◌≡◌, IfOk, string_bytes, ap, sym, subst, ◌∙◌}
+use Rattle.std.proofs.Common.{IfOk, string_bytes, ap, sym, subst, ◌∙◌}
 use Rattle.std.specs.Prelude.{fold}
 use Rattle.form_urlencoded.specs.Form.{DecodesTo}
 use Rattle.portal_base.specs.declared.json_value.Json.{Map}

@@ -6,8 +6,9 @@ use Rattle.portal_core.proofs.portal.Portal.assembled.Goals as goal
 
 pub invariant_of-result : goal.invariant_of-result
 invariant_of-result c =
-    opened_whole (record { people = c.of_lists.result; shelf = c.new.result; spent = c.new-2.result })
+    opened_whole
+    (record { people = c.of_lists.result; shelf = c.new.result; tables = c.new-2.result; spent = c.new-3.result })
     c.args.opening.now c.requires (c.of_lists.ensures.users ∙ ap (ascending user_cmp) c.in_ok-users.ensures)
     (c.of_lists.ensures.orgs ∙ ap (ascending org_cmp) c.in_ok-orgs.ensures)
     (c.of_lists.ensures.roles ∙ ap (ascending membership_cmp) c.in_ok-roles.ensures) c.new.ensures.none
-    c.new.ensures.room c.new-2.ensures.items
+    c.new.ensures.room c.new-2.ensures c.new-3.ensures.items

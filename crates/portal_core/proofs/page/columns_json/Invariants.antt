@@ -1,0 +1,6 @@
+use Rattle.std.proofs.Common.{◌≡◌, map, take}
+use Rattle.portal_core.specs.Page.{column_dictionary}
+use Rattle.portal_core.proofs.page.columns_json.Given as goal
+
+abbrev pub invariant-loop-name : goal.invariant-loop-name
+invariant-loop-name l = l.list.items ≡ map (column_dictionary l.fields) (take l.name-index l.names)

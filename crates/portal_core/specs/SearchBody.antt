@@ -1,0 +1,73 @@
+-- What the body of a `datastore_search` asks for (CKAN 2.10), and what is told of it. Bounds and messages are the
+-- portal's own.
+use Rattle.std.specs.Prelude.{ℕ, ◌-◌, ◌^◌, min, Bool, true, false, List, [], codes, Option, Some, None, Result, Ok, Err}
+use Rattle.portal_base.specs.Faults.{Fault, found_value, kind_message, noted_if}
+use Rattle.portal_base.specs.Kinds.{count_at, dictionary_at, text_at, texts_at, truth_at}
+use Rattle.portal_base.specs.declared.json_value.Json.{Json}
+use Rattle.portal_base.specs.declared.json_value.Json as json
+use Rattle.portal_base.specs.declared.kinds.KindFault.{KindFault}
+use Rattle.datastore_query.specs.declared.parts.Parts.{Parts}
+use Rattle.portal_core.specs.declared.search_body.Search.{Search}
+
+-- ---- values, or their defaults
+
+-- what stands at a key, where it is there and of its kind
+abbrev pub value_or : {A : Type 0} → A → Result (Option A) KindFault → A
+value_or usual (Ok (Some value)) = value
+value_or usual (Ok None) = usual
+value_or usual (Err fault) = usual
+
+-- No body that is read as JSON has a larger count than the last of a u64.
+abbrev pub count_or : ℕ → List ℕ → Json → ℕ
+count_or usual key body = min (value_or usual (count_at key body)) (2 ^ 64 - 1)
+
+abbrev pub truth_or : Bool → List ℕ → Json → Bool
+truth_or usual key body = value_or usual (truth_at key body)
+
+abbrev pub text_or : List ℕ → Json → List ℕ
+text_or key body = value_or [] (text_at key body)
+
+abbrev pub texts_or : List ℕ → Json → Option (List (List ℕ))
+texts_or key body = found_value (texts_at key body)
+
+abbrev pub dictionary_or : List ℕ → Json → Json
+dictionary_or key body = json.Map (value_or [] (dictionary_at key body))
+
+-- ---- a search
+
+-- A page has 100 rows by default, and 32,000 at most.
+abbrev pub page_limit : Json → ℕ
+page_limit body = min (count_or 100 (codes "limit") body) 32000
+
+-- the parts of its query
+abbrev pub parts_in : Json → Parts
+parts_in body = record {
+  filters = dictionary_or (codes "filters") body;
+  q = text_or (codes "q") body;
+  distinct = truth_or false (codes "distinct") body;
+  fields = texts_or (codes "fields") body;
+  sort = text_or (codes "sort") body;
+  limit = page_limit body;
+  offset = count_or 0 (codes "offset") body;
+}
+
+-- By default the number of rows on all pages is told.
+abbrev pub search_in : Json → Search
+search_in body = record { parts = parts_in body; total = truth_or true (codes "include_total") body }
+
+-- ---- what is told
+
+-- each key of the query that is of another kind, beside these faults
+abbrev pub noted_in : Json → List Fault → List Fault
+noted_in body faults =
+    noted_if (codes "offset") (kind_message (count_at (codes "offset") body))
+    (noted_if (codes "limit") (kind_message (count_at (codes "limit") body))
+    (noted_if (codes "sort") (kind_message (text_at (codes "sort") body))
+    (noted_if (codes "fields") (kind_message (texts_at (codes "fields") body))
+    (noted_if (codes "distinct") (kind_message (truth_at (codes "distinct") body))
+    (noted_if (codes "q") (kind_message (text_at (codes "q") body))
+    (noted_if (codes "filters") (kind_message (dictionary_at (codes "filters") body)) faults))))))
+
+abbrev pub told_in : Json → List Fault
+told_in body =
+    noted_if (codes "include_total") (kind_message (truth_at (codes "include_total") body)) (noted_in body [])
