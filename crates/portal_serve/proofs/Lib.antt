@@ -1,5 +1,6 @@
 pub mod Desking
 mod Examples
+pub mod Making
 pub mod Playing
 pub mod Serving
 pub mod Staging

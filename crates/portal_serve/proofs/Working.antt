@@ -256,6 +256,14 @@ left_in state after said size m n request who (Ok reply) value fault is left kno
     left
 left_in state after said size m n request who (Err e) value fault is left known = tt
 
+-- what is replied to a call whose action was read
+pub replied_as : (state : State) (said : ScriptCall) (size : ℕ) (m : ℤ) (n : ℕ) (action : List ℕ)
+    → action ≡ said.action
+    → replied_to state (record { caller = said.caller; action = action; body = said.body }) size m n
+    ≡ replied_to state said size m n
+replied_as state said size m n action is =
+    ap (λ a. replied_to state (record { caller = said.caller; action = a; body = said.body }) size m n) is
+
 -- the line of what is replied to a call whose action was read twice
 pub line_written : (state : State) (said : ScriptCall) (size : ℕ) (m : ℤ) (n : ℕ) (first second : List ℕ)
     (reply : Result Reply Early) (line : List ℕ)
@@ -267,8 +275,7 @@ pub line_written : (state : State) (said : ScriptCall) (size : ℕ) (m : ℤ) (n
 line_written state said size m n first second reply line one two replied wrote =
     wrote ∙ ap (λ a. reply_line (Some a) reply) two
     ∙ ap (λ r. reply_line (Some said.action) r)
-    (replied
-    ∙ ap (λ a. (replied_to state (record { caller = said.caller; action = a; body = said.body }) size m n).reply) one)
+    (replied ∙ ap (λ (r : Replied). r.reply) (replied_as state said size m n first one))
 
 -- what the call of a line writes and leaves
 pub call_written : (state after : State) (line : List ℕ) (said : ScriptCall) (m : ℤ) (n : ℕ) (text : List ℕ)
@@ -324,43 +331,12 @@ begins_no_line state old new same = subst (λ o. BeginsLines state [] state old 
 pub stops_before : (state : State) (script : List (List ℕ)) (old : Outlet) → StopsLines state script state old old
 stops_before state script old = inl (begins_no_line state old old refl)
 
--- the state is as before, or the one that a call leaves
-left_by_call : (state after left last : State) → last ≡ left → (after ≡ state) ⊎ (after ≡ left)
-    → (after ≡ state) ⊎ (after ≡ last)
-left_by_call state after left last is (inl kept) = inl kept
-left_by_call state after left last is (inr made) = inr (made ∙ sym is)
-
--- A call's line was begun, and work stopped before it wrote.
-pub stops_before_writing : (state after : State) (line : List ℕ) (said : ScriptCall) (m : ℤ) (n : ℕ)
-    (old new : Outlet) → call_of_line line ≡ Ok said
-    → (after ≡ state) ⊎ (after ≡ (replied_to state said (length line) m n).state)
-    → new.taken ≡ old.taken → DrawsAll old.moments (m ∷ []) new.moments → DrawsAll old.nonces (n ∷ []) new.nonces
-    → StopsLines state (line ∷ []) after old new
-stops_before_writing state after line said m n old new is leaves same clock numbers =
-    let w = works_call state line said m n is in
-    inr (record {
-      written = [];
-      moments = m ∷ [];
-      nonces = n ∷ [];
-      moments_drawn = w.moments_drawn;
-      nonces_drawn = w.nonces_drawn;
-      begins = begins_nothing _;
-      leaves = left_by_call state after _ _ w.leaves leaves;
-      output = same ∙ Takes-none old.taken;
-      clock = clock;
-      numbers = numbers;
-    })
-
 -- work on a line stops after the line was begun
 pub begun_in_line : (why : Stop) → IsOfLine why → 1 ≤ begun_at why
 begun_in_line stop.ReadFault of_line = absurd of_line
 begun_in_line stop.WriteFault of_line = omega arith
 begun_in_line stop.TooLong of_line = absurd of_line
 begun_in_line stop.OutOfMemory of_line = omega arith
-
-pub on_ok_always : {T E P : Type 0} (r : Result T E) → P → OnOk r P
-on_ok_always (Ok x) p = p
-on_ok_always (Err e) p = tt
 
 pub on_err_always : {T E P : Type 0} (r : Result T E) → P → OnErr r P
 on_err_always (Ok x) p = tt

@@ -28,11 +28,12 @@ stated_org = record { name = codes "city"; title = codes "City"; description = [
 abbrev pub stated_roles : List Membership
 stated_roles = city_role (codes "ann") Editor ∷ city_role (codes "bob") Member ∷ city_role (codes "cyn") Admin ∷ []
 
--- The state before the first line of a script: these people, no dataset, and nothing accepted.
+-- The state before the first line of a script: these people, no dataset, no table, and nothing accepted.
 abbrev pub stated_state : State
 stated_state = record {
   people = record { users = stated_users; orgs = stated_org ∷ []; roles = stated_roles };
   datasets = [];
+  tables = [];
   spent = [];
 }
 

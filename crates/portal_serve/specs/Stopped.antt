@@ -3,6 +3,8 @@ use Rattle.portal_lines.specs.declared.lines.LineFault.{LineFault}
 use Rattle.portal_lines.specs.declared.lines.LineFault.TheVariants.{Failed as source_failed, TooMuch as too_much}
 use Rattle.portal_lines.specs.declared.lines.LineFault.TheVariants.{OutOfMemory as no_memory}
 use Rattle.std.specs.Prelude.{ℕ, Result, Ok, Err}
+use Rattle.portal_serve.specs.declared.calls.CallStop.{CallStop}
+use Rattle.portal_serve.specs.declared.calls.CallStop.TheVariants as call_stop
 use Rattle.portal_serve.specs.declared.play.PlayEnd.{PlayEnd}
 use Rattle.portal_serve.specs.declared.play.PlayEnd.TheVariants as end
 use Rattle.portal_serve.specs.declared.play.Stop.{Stop}
@@ -14,6 +16,11 @@ IsOfLine ReadFault = ⊥
 IsOfLine WriteFault = Unit {0}
 IsOfLine TooLong = ⊥
 IsOfLine OutOfMemory = Unit {0}
+
+-- what a call that stops stops a run with
+abbrev pub stop_of_call : CallStop → Stop
+stop_of_call call_stop.WriteFault = WriteFault
+stop_of_call call_stop.OutOfMemory = OutOfMemory
 
 -- what a fault of the reader of lines stops a run with
 abbrev pub stop_for : LineFault → Stop

@@ -2,12 +2,13 @@
 #![tactic(auto)]
 
 mod calling;
+pub mod calls;
 pub mod desk;
 pub mod laws;
 mod line;
 pub mod play;
-mod script;
+pub mod script;
 pub mod serve;
-mod stage;
+pub mod stage;
 pub mod stated;
 pub mod tokens;

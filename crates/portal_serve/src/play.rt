@@ -8,22 +8,17 @@ ghost use Rattle.portal_serve.specs.Stopped.{IsOfLine, end_of, stop_for, begun_a
 ghost use Rattle.portal_serve.specs.Run.{devices, with_input};
 ghost use Rattle.portal_serve.specs.Stage.{AreSameLoans, told_on};
 ghost use Rattle.portal_lines.specs.Lines.{bytes_left};
-ghost use Rattle.portal_serve.specs.Transcript.{early_line, replied_to, reply_line};
+ghost use Rattle.portal_serve.specs.Transcript.{early_line};
 ghost use Rattle.portal_serve.specs.Run.{PlaysAll, PlaysPart, PlaysRead, GaveTooMuch};
 ghost use Rattle.portal_serve.specs.Script.{call_of_line};
 ghost use Rattle.portal_serve.specs.Seen.{asked};
 
-use crate::calling::{Drawn, replied};
+use crate::calls::{CallStop, make_call, write_line};
 use crate::line::line_of_reply;
 use crate::script::{LONGEST_LINE, ScriptCall, read_call};
 use crate::stage::Stage;
 use action_api::early::Early;
-use action_api::request::request_on;
-use portal_base::caller::Caller;
-use portal_base::json_value::Json;
 use portal_base::outside::{Clock, Nonces, Sink, Source};
-use portal_base::seq::Seq;
-use portal_core::event::Reply;
 use portal_core::portal::Portal;
 use portal_lines::lines::{LineFault, LineReader, NextLine};
 use std::alloc::{AllocError, Global};
@@ -66,67 +61,18 @@ impl From<AllocError> for Stop {
     }
 }
 
-/// Writes a line of the transcript.
-fn write_line<O: Sink, C: Clock, N: Nonces>(
-    stage: &mut Stage<'_, '_, '_, O, C, N>,
-    line: &[u8],
-) -> Result<(), Stop>
-    ensures ok { OnOk result (Takes (O.taken stage.old.output.now) line.now (O.taken stage.new.output.now)) }
-    ensures failed { OnErr result (TakesPrefix (O.taken stage.old.output.now) line.now (O.taken stage.new.output.now)) }
-    ensures fault { OnErr result (Rose (O.faults stage.old.output.now) (O.faults stage.new.output.now)) }
-    ensures stop { OnErr result (result ≡ Err Stop.WriteFault) }
-    ensures counts { O.faults stage.old.output.now ≤ O.faults stage.new.output.now }
-    ensures clock { stage.new.clock.now ≡ stage.old.clock.now }
-    ensures nonces { stage.new.nonces.now ≡ stage.old.nonces.now }
-    ensures loans { AreSameLoans stage.old stage.new }
-{
-    match stage.write(line) {
-        Ok(()) => Ok(()),
-        Err(_failed) => Err(Stop::WriteFault),
+impl From<CallStop> for Stop {
+    ghost use Rattle.std.specs.Prelude.{◌≡◌};
+    ghost use Rattle.portal_serve.specs.Stopped.{stop_of_call};
+
+    ghost from_gives = { λ why stop. stop ≡ stop_of_call why };
+
+    fn from(why: CallStop) -> Stop {
+        match why {
+            CallStop::WriteFault => Stop::WriteFault,
+            CallStop::OutOfMemory => Stop::OutOfMemory,
+        }
     }
-}
-
-/// What is replied to the call of a caller for an action with a body.
-fn replied_to(
-    alloc: Global,
-    portal: &mut Portal,
-    caller: Caller,
-    action: &str,
-    body: Json,
-    drawn: Drawn,
-) -> Result<Result<Reply, Early>, AllocError>
-    ensures reply { IfOk result (λ reply. reply ≡ (replied_to portal.old
-        (record { caller = caller; action = action.now; body = body }) drawn.size drawn.moment drawn.nonce.0).reply) }
-    ensures state { OnOk result (portal.new ≡ (replied_to portal.old
-        (record { caller = caller; action = action.now; body = body }) drawn.size drawn.moment drawn.nonce.0).state) }
-    ensures kept { OnErr result (portal.new ≡ portal.old) }
-{
-    let caller = portal.known(caller);
-    let request = request_on(alloc, action, body);
-    replied(portal, caller, request, drawn)
-}
-
-/// Works the call that a line asks for, and makes the line that is written for it.
-fn work_call(
-    alloc: Global,
-    portal: &mut Portal,
-    said: ScriptCall,
-    drawn: Drawn,
-) -> Result<Seq<u8>, AllocError>
-    ensures line { IfOk result (λ line. line ≡ reply_line (Some said.action)
-        (replied_to portal.old (asked said) drawn.size drawn.moment drawn.nonce.0).reply) }
-    ensures state { OnOk result (portal.new
-        ≡ (replied_to portal.old (asked said) drawn.size drawn.moment drawn.nonce.0).state) }
-    ensures stopped { OnErr result ((portal.new ≡ portal.old) ⊎ (portal.new
-        ≡ (replied_to portal.old (asked said) drawn.size drawn.moment drawn.nonce.0).state)) }
-{
-    let ScriptCall {
-        caller,
-        action,
-        body,
-    } = said;
-    let reply = replied_to(alloc, portal, caller, action.as_str(), body, drawn)?;
-    line_of_reply(alloc, Some(action.as_str()), &reply)
 }
 
 /// Plays the call that a line asks for.
@@ -148,15 +94,8 @@ fn play_call<O: Sink, C: Clock, N: Nonces>(
     ensures counts { O.faults stage.old.output.now ≤ O.faults stage.new.output.now }
     ensures loans { AreSameLoans stage.old stage.new }
 {
-    let (moment, nonce) = stage.draw();
-    let size = line.len() as u64;
-    let drawn = Drawn {
-        size,
-        moment,
-        nonce,
-    };
-    let text = work_call(alloc, portal, said, drawn)?;
-    write_line(stage, text.as_slice())
+    let _status = make_call(alloc, portal, said, line.len() as u64, stage)?;
+    Ok(())
 }
 
 /// Writes the line for a line that asks for no call.
@@ -177,7 +116,7 @@ fn write_early<O: Sink, C: Clock, N: Nonces>(
     ensures loans { AreSameLoans stage.old stage.new }
 {
     let text = line_of_reply(alloc, None, &Err(early))?;
-    write_line(stage, text.as_slice())
+    Ok(write_line(stage, text.as_slice())?)
 }
 
 /// Works a line that isn't empty.

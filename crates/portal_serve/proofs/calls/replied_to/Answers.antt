@@ -1,6 +1,6 @@
 -- The reply and the state are those of the line's call.
 use Rattle.portal_serve.proofs.Working.{replied_in, left_in}
-use Rattle.portal_serve.proofs.play.replied_to.Goals as goal
+use Rattle.portal_serve.proofs.calls.replied_to.Goals as goal
 
 pub returns-clause-reply : goal.returns-clause-reply
 returns-clause-reply c =
