@@ -1,7 +1,7 @@
 -- Worked examples, by computation.
 use Rattle.std.specs.Prelude.{◌≡◌, codes, [], ◌∷◌, Some, None}
 use Rattle.std.proofs.Common.{refl}
-use Rattle.portal_words.specs.declared.command.Command.TheVariants.{Play, Serve}
+use Rattle.portal_words.specs.declared.command.Command.TheVariants.{Play, Load, Serve}
 use Rattle.portal_words.specs.Commands.{command_of}
 
 -- `play` alone
@@ -31,3 +31,11 @@ serves_none = refl
 
 serves_too_many : command_of (codes "serve" ∷ codes "--links=1000000001" ∷ []) ≡ None
 serves_too_many = refl
+
+-- options of which three have to be there
+loads : command_of (codes "load" ∷ codes "--schema" ∷ codes "s" ∷ codes "--as=ann" ∷ codes "--resource=air.1" ∷ [])
+    ≡ Some (Load (record { portal = None; caller = codes "ann"; resource = codes "air.1"; schema = codes "s" }))
+loads = refl
+
+loads_by_nobody : command_of (codes "load" ∷ codes "--schema=s" ∷ codes "--resource=air.1" ∷ []) ≡ None
+loads_by_nobody = refl

@@ -1,5 +1,6 @@
 mod AllowedLemmas
 mod Examples
+mod LoadLemmas
 mod ReadLemmas
 mod RuleLemmas
 mod TurnLemmas

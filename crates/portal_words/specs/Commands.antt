@@ -11,7 +11,7 @@ use Rattle.std.specs.Str.Parse.{digits_value}
 use Rattle.std.specs.declared.cmp.Ordering.{Ordering}
 use Rattle.portal_base.specs.Ordered.{are_apart}
 use Rattle.portal_words.specs.declared.command.Command.{Command}
-use Rattle.portal_words.specs.declared.command.Command.TheVariants.{Play, Serve}
+use Rattle.portal_words.specs.declared.command.Command.TheVariants.{Play, Load, Serve}
 use Rattle.portal_words.specs.Grammar.{Setting, options_in}
 
 -- ---- which options are given
@@ -50,6 +50,13 @@ text_for (Some value) = if is_text value then Some (Some value) else None
 abbrev pub text_of : List ℕ → List Setting → Option (Option (List ℕ))
 text_of name given = text_for (value_of name given)
 
+-- the text of an option that has to be there
+abbrev pub needed_text_for : Option (List ℕ) → Option (List ℕ)
+needed_text_for value = option_and_then (λ text. text) (text_for value)
+
+abbrev pub needed_text_of : List ℕ → List Setting → Option (List ℕ)
+needed_text_of name given = needed_text_for (value_of name given)
+
 -- A number is 1 to 10 decimal digits of ASCII, and may begin with zeros.
 abbrev pub is_number : List ℕ → Bool
 is_number value = nat_lt 0 (length value) && nat_le (length value) 10 && list_all is_ascii_digit value
@@ -81,6 +88,16 @@ play_with given =
     then option_map (λ portal. Play (record { portal = portal })) (text_of (codes "portal") given)
     else None
 
+-- `load`: `--portal`, and `--as`, `--resource` and `--schema`, which have to be there
+abbrev pub load_with : List Setting → Option Command
+load_with given =
+    if are_allowed (codes "portal" ∷ codes "as" ∷ codes "resource" ∷ codes "schema" ∷ []) given
+    then option_and_then (λ portal. option_and_then (λ caller. option_and_then (λ resource. option_map
+    (λ schema. Load (record { portal = portal; caller = caller; resource = resource; schema = schema }))
+    (needed_text_of (codes "schema") given)) (needed_text_of (codes "resource") given))
+    (needed_text_of (codes "as") given)) (text_of (codes "portal") given)
+    else None
+
 -- the most links, and how many are served where none is said
 abbrev pub most_links : ℕ
 most_links = 1000000000
@@ -99,6 +116,7 @@ serve_with given =
 abbrev pub command_with : List ℕ → List Setting → Option Command
 command_with name given =
     if bytes_eq name (codes "play") then play_with given
+    else if bytes_eq name (codes "load") then load_with given
     else if bytes_eq name (codes "serve") then serve_with given
     else None
 

@@ -1,10 +1,10 @@
 //! Commands, and the words that say them.
 ghost use Rattle.std.specs.Prelude.{◌≡◌, map, string_bytes, option_and_then, Some, None, IfOk, IsErrOf};
-ghost use Rattle.portal_words.specs.Commands.{command_of, play_with, serve_with};
+ghost use Rattle.portal_words.specs.Commands.{command_of, load_with, play_with, serve_with};
 ghost use Rattle.portal_words.specs.Grammar.{options_in};
 
 use crate::options::options_in;
-use crate::values::{number_of, text_of};
+use crate::values::{needed_text_of, number_of, text_of};
 use clap::error::ErrorKind;
 use portal_base::text::Text;
 use std::alloc::{AllocError, Global};
@@ -15,6 +15,8 @@ use thiserror::Error;
 pub enum Command {
     /// To play the script on input.
     Play(PlayOptions),
+    /// To load the CSV on input into a new table.
+    Load(LoadOptions),
     /// To serve links.
     Serve(ServeOptions),
 }
@@ -24,6 +26,19 @@ pub enum Command {
 pub struct PlayOptions {
     /// Where the portal file is.
     pub portal: Option<Text>,
+}
+
+/// The options of `load`, of which the last three have to be there.
+#[derive(Drop)]
+pub struct LoadOptions {
+    /// Where the portal file is.
+    pub portal: Option<Text>,
+    /// The name of the user who calls, known or not.
+    pub caller: Text,
+    /// What names the resource.
+    pub resource: Text,
+    /// Where the table's schema is.
+    pub schema: Text,
 }
 
 /// The options of `serve`.
@@ -72,6 +87,8 @@ impl From<clap::Error> for WordsFault {
 
 static OPTIONS_OF_PLAY: [&str; 1] = ["portal"];
 
+static OPTIONS_OF_LOAD: [&str; 4] = ["portal", "as", "resource", "schema"];
+
 static OPTIONS_OF_SERVE: [&str; 2] = ["portal", "links"];
 
 /// The most links, and how many are served where none is said.
@@ -87,6 +104,26 @@ fn play(alloc: Global, words: &[String]) -> Result<Command, WordsFault>
     let given = options_in(alloc, OPTIONS_OF_PLAY.as_slice(), words)?;
     let portal = text_of(alloc, given.get_str("portal"))?;
     Ok(Command::Play(PlayOptions { portal }))
+}
+
+/// The command `load` with the options that the words say.
+fn load(alloc: Global, words: &[String]) -> Result<Command, WordsFault>
+    ensures ok { IfOk result (λ command. option_and_then load_with (options_in (map string_bytes words.now))
+        ≡ Some command) }
+    ensures bad { IsErrOf result WordsFault.BadWords
+        → option_and_then load_with (options_in (map string_bytes words.now)) ≡ None }
+{
+    let given = options_in(alloc, OPTIONS_OF_LOAD.as_slice(), words)?;
+    let portal = text_of(alloc, given.get_str("portal"))?;
+    let caller = needed_text_of(alloc, given.get_str("as"))?;
+    let resource = needed_text_of(alloc, given.get_str("resource"))?;
+    let schema = needed_text_of(alloc, given.get_str("schema"))?;
+    Ok(Command::Load(LoadOptions {
+        portal,
+        caller,
+        resource,
+        schema,
+    }))
 }
 
 /// The command `serve` with the options that the words say.
@@ -116,6 +153,7 @@ impl Command {
         };
         match name.as_str() {
             "play" => play(alloc, words),
+            "load" => load(alloc, words),
             "serve" => serve(alloc, words),
             _ => Err(WordsFault::BadWords),
         }

@@ -5,4 +5,4 @@ pub mod command;
 mod options;
 mod values;
 
-pub use command::{Command, PlayOptions, ServeOptions, WordsFault};
+pub use command::{Command, LoadOptions, PlayOptions, ServeOptions, WordsFault};

@@ -3,7 +3,8 @@ ghost use Rattle.std.specs.Prelude.{◌≡◌, ◌≤◌, ◌&&◌, ◌<◌, nat
 ghost use Rattle.std.specs.Prelude.{IsErrOf};
 ghost use Rattle.std.specs.Char.{is_ascii_digit};
 ghost use Rattle.std.specs.List.{list_all};
-ghost use Rattle.portal_words.specs.Commands.{is_number, is_text, number_for, number_in, number_spelled, text_for};
+ghost use Rattle.portal_words.specs.Commands.{is_number, is_text, needed_text_for, number_for, number_in};
+ghost use Rattle.portal_words.specs.Commands.{number_spelled, text_for};
 
 use crate::command::WordsFault;
 use portal_base::text::Text;
@@ -28,6 +29,18 @@ pub fn text_of(alloc: Global, value: Option<&str>) -> Result<Option<Text>, Words
         return Err(WordsFault::BadWords);
     }
     Ok(Some(Text::from_str(alloc, value)?))
+}
+
+/// The text of an option that has to be there.
+pub fn needed_text_of(alloc: Global, value: Option<&str>) -> Result<Text, WordsFault>
+    ensures ok { IfOk result (λ text. needed_text_for (option_map (λ v. v.now) value.entry) ≡ Some text) }
+    ensures bad { IsErrOf result WordsFault.BadWords
+        → needed_text_for (option_map (λ v. v.now) value.entry) ≡ None }
+{
+    match text_of(alloc, value)? {
+        Some(text) => Ok(text),
+        None => Err(WordsFault::BadWords),
+    }
 }
 
 fn has_digits_alone(bytes: &[u8]) -> bool
