@@ -1,14 +1,14 @@
 -- How a run ends, by what its parts did.
 use Rattle.std.proofs.Common.{◌≡◌, ◌≢◌, ℕ, List, [], ◌∷◌, Some, Result, Ok, Err, OnErr, length, get_or, slice_set}
-use Rattle.std.proofs.Common.{refl, subst, arith}
-use Rattle.std.specs.Prelude.{◌↔◌}
+use Rattle.std.proofs.Common.{refl, subst}
+use Rattle.std.specs.Prelude.{◌↔◌, codes}
 use Rattle.portal_base.specs.Outside.{Rose}
 use Rattle.portal_base.specs.declared.outside.Failed.{Failed}
 use Rattle.portal_core.specs.State.{State}
 use Rattle.portal_cli.specs.Run.{OfOne, Plays, Serves}
 use Rattle.portal_cli.specs.Start.{Beginning}
-use Rattle.portal_cli.specs.Status.{status_code, status_for, status_for_desk}
-use Rattle.portal_cli.specs.declared.status.Status.TheVariants.{ListenFault}
+use Rattle.portal_cli.specs.Status.{status_for, status_for_desk}
+use Rattle.portal_cli.specs.declared.status.Status.TheVariants.{DataFault, ListenFault}
 use Rattle.portal_serve.proofs.Playing.{all_from, part_from, read_from}
 use Rattle.portal_serve.specs.Desk.{DeskSight, ServesDesk}
 use Rattle.portal_serve.specs.Run.{Devices, PlaysAll, PlaysPart, PlaysRead}
@@ -35,17 +35,18 @@ plays_by first state after old new playing.TooLong is all part read =
 plays_by first state after old new playing.OutOfMemory is all part read =
     λ whole told. (after, part_from _ _ _ _ _ _ _ is (part (λ e. cc) whole told))
 
--- Status 9 tells that playing ended for too much input, and nothing else does.
-pub code_by : (end : PlayEnd) (P : Type 0) → ((end ≡ playing.TooLong) ↔ P) → ((status_code (status_for end) ≡ 9) ↔ P)
-code_by playing.Done P same =
-    (λ nine. absurd (omega arith), λ p. let e : playing.Done ≡ playing.TooLong = same.1 p in absurd (cc))
-code_by playing.ReadFault P same =
-    (λ nine. absurd (omega arith), λ p. let e : playing.ReadFault ≡ playing.TooLong = same.1 p in absurd (cc))
-code_by playing.WriteFault P same =
-    (λ nine. absurd (omega arith), λ p. let e : playing.WriteFault ≡ playing.TooLong = same.1 p in absurd (cc))
-code_by playing.TooLong P same = (λ nine. same.0 refl, λ p. refl)
-code_by playing.OutOfMemory P same =
-    (λ nine. absurd (omega arith), λ p. let e : playing.OutOfMemory ≡ playing.TooLong = same.1 p in absurd (cc))
+-- That input is too long tells that playing ended for too much input, and nothing else does.
+pub told_by : (end : PlayEnd) (P : Type 0) → ((end ≡ playing.TooLong) ↔ P)
+    → ((status_for end ≡ DataFault (codes "input too long")) ↔ P)
+told_by playing.Done P same =
+    (λ told. absurd (cc), λ p. let e : playing.Done ≡ playing.TooLong = same.1 p in absurd (cc))
+told_by playing.ReadFault P same =
+    (λ told. absurd (cc), λ p. let e : playing.ReadFault ≡ playing.TooLong = same.1 p in absurd (cc))
+told_by playing.WriteFault P same =
+    (λ told. absurd (cc), λ p. let e : playing.WriteFault ≡ playing.TooLong = same.1 p in absurd (cc))
+told_by playing.TooLong P same = (λ told. same.0 refl, λ p. refl)
+told_by playing.OutOfMemory P same =
+    (λ told. absurd (cc), λ p. let e : playing.OutOfMemory ≡ playing.TooLong = same.1 p in absurd (cc))
 
 -- a desk that was served from the portal that the run began with
 pub serves_by : {Peer : Type 0} (sight : Peer → LinkSight) (begun : Beginning) (links : ℕ) (old new : DeskSight Peer)

@@ -1,5 +1,5 @@
 -- What the program reads of its words and of the environment around a run, and what its words must bring about.
-use Rattle.std.specs.Prelude.{◌≡◌, ◌≢◌, ◌⊎◌, ℕ, nat_le, nat_lt, Bool, false, ◌&&◌, if◌then◌else◌, List, [], ◌∷◌}
+use Rattle.std.specs.Prelude.{◌≡◌, ◌≢◌, ◌⊎◌, ℕ, nat_le, nat_lt, Bool, false, ◌&&◌, ◌||◌, if◌then◌else◌, List, [], ◌∷◌}
 use Rattle.std.specs.Prelude.{length, codes, Option, Some, None, option_and_then}
 use Rattle.std.specs.Char.{is_ascii_digit}
 use Rattle.std.specs.List.{list_all}
@@ -13,6 +13,11 @@ use Rattle.portal_cli.specs.declared.status.Status.TheVariants.{Words, OutOfMemo
 abbrev pub is_serve : List (List ℕ) → Bool
 is_serve [] = false
 is_serve (word ∷ words) = bytes_eq word (codes "serve")
+
+-- the first word is that of a command that works in real time alone: `load` or `serve`
+abbrev pub is_timed : List (List ℕ) → Bool
+is_timed [] = false
+is_timed (word ∷ words) = bytes_eq word (codes "load") || bytes_eq word (codes "serve")
 
 -- ---- the port
 

@@ -1,6 +1,8 @@
 pub mod Door
 pub mod Host
+pub mod Load
 pub mod Location
+pub mod Progress
 pub mod Run
 pub mod Start
 pub mod Status

@@ -1,16 +1,19 @@
 -- What a run does, by the command that its words say and by its status.
 use Rattle.std.specs.Prelude.{◌≡◌, ◌⊎◌, ℕ, List, [], ◌∷◌, Option, Some, None, Ok, Err, codes}
+use Rattle.portal_base.specs.declared.caller.Caller.TheVariants.{Named}
 use Rattle.portal_base.specs.declared.outside.Failed.{Failed}
 use Rattle.portal_core.specs.State.{State}
-use Rattle.portal_cli.specs.Start.{Beginning, BeginsAnd, Fetching}
+use Rattle.portal_cli.specs.Load.{EndsLoad, Loads, TellsSchema, load_task}
+use Rattle.portal_cli.specs.Start.{Beginning, BeginsAnd, FetchesNot, Fetching, HoldsFile}
 use Rattle.portal_cli.specs.declared.status.Status.{Status}
 use Rattle.portal_cli.specs.declared.status.Status.TheVariants.{Done, Words, ReadFault, WriteFault, OutOfMemory}
-use Rattle.portal_cli.specs.declared.status.Status.TheVariants.{PortalFile, FetchFault, DataFault, ListenFault}
+use Rattle.portal_cli.specs.declared.status.Status.TheVariants.{PortalFile, FetchFault, DataFault, Refused, ListenFault}
 use Rattle.portal_serve.specs.Desk.{DeskSight, ServesDesk}
 use Rattle.portal_serve.specs.Run.{Devices, PlaysAll, PlaysPart, PlaysRead}
 use Rattle.portal_serve.specs.Served.{LinkSight}
 use Rattle.portal_words.specs.declared.command.Command.{Command}
-use Rattle.portal_words.specs.declared.command.Command.TheVariants.{Play, Serve}
+use Rattle.portal_words.specs.declared.command.Command.TheVariants.{Play, Load, Serve}
+use Rattle.portal_words.specs.declared.command.LoadOptions.{LoadOptions}
 
 -- The one item of a list, before and after a call, of which P holds.
 abbrev pub OfOne : {X : Type 0} → List X → List X → (X → X → Type 0) → Type 0
@@ -49,7 +52,25 @@ Plays state old new OutOfMemory = PlaysToPlace 1 state old new
 Plays state old new (PortalFile text) = ⊥
 Plays state old new (FetchFault text) = ⊥
 Plays state old new (DataFault text) = PlaysToPlace 0 state old new × (text ≡ codes "input too long")
+Plays state old new Refused = ⊥
 Plays state old new ListenFault = ⊥
+
+-- ---- load
+
+-- The CSV on input was loaded by the schema that the bytes are, as far as the status says. Where input tells, it is
+-- told what was played.
+abbrev pub LoadsBy : LoadOptions → State → Devices → Devices → Status → List ℕ → Type 0
+LoadsBy options state old new status schema =
+    EndsLoad status × TellsSchema schema old new status
+    × ((whole : List ℕ) → old.to_come ≡ Some whole → (after : State)
+    × Loads (load_task (Named options.caller) schema options.resource) state whole after old new status)
+
+-- What a run of `load` did from a state, by its status: no schema is fetched from its location, and nothing passed the
+-- devices of a script; or the CSV was loaded by the schema that is held there.
+abbrev pub LoadsFrom : Fetching → LoadOptions → State → Devices → Devices → Status → Type 0
+LoadsFrom fetching options state old new status =
+    (FetchesNot fetching options.schema status × (new ≡ old))
+    ⊎ HoldsFile fetching options.schema (LoadsBy options state old new status)
 
 -- ---- serve
 
@@ -65,6 +86,7 @@ Serves sight begun links old new OutOfMemory = new ≡ old
 Serves sight begun links old new (PortalFile text) = ⊥
 Serves sight begun links old new (FetchFault text) = ⊥
 Serves sight begun links old new (DataFault text) = ⊥
+Serves sight begun links old new Refused = ⊥
 Serves sight begun links old new ListenFault =
     (failed : Failed) × (after : State) × ServesDesk sight begun.digests begun.state links old new after (Err failed)
 
@@ -85,6 +107,9 @@ Runs sight None fetching old new status = (status ≡ Words) ⊎ (status ≡ Out
 Runs sight (Some (Play options)) fetching old new status =
     BeginsAnd fetching options.portal status (λ begun. Plays begun.state old.script new.script status)
     (new.script ≡ old.script)
+Runs sight (Some (Load options)) fetching old new status =
+    BeginsAnd fetching options.portal status
+    (λ begun. LoadsFrom fetching options begun.state old.script new.script status) (new.script ≡ old.script)
 Runs sight (Some (Serve options)) fetching old new status =
     BeginsAnd fetching options.portal status (λ begun. Serves sight begun options.links old.desk new.desk status)
     (new.desk ≡ old.desk)
@@ -93,16 +118,26 @@ Runs sight (Some (Serve options)) fetching old new status =
 abbrev pub portal_of : Option Command → Option (List ℕ)
 portal_of None = None
 portal_of (Some (Play options)) = options.portal
+portal_of (Some (Load options)) = options.portal
 portal_of (Some (Serve options)) = options.portal
 
--- The words say no script to play. Then nothing of a script's devices is touched.
+-- The words name no file. Then the fetcher isn't touched.
+abbrev pub NamesNoFile : Option Command → Type 0
+NamesNoFile None = Unit {0}
+NamesNoFile (Some (Play options)) = options.portal ≡ None
+NamesNoFile (Some (Load options)) = ⊥
+NamesNoFile (Some (Serve options)) = options.portal ≡ None
+
+-- The words say neither a script to play nor a CSV to load. Then nothing of a script's devices is touched.
 abbrev pub PlaysNone : Option Command → Type 0
 PlaysNone None = Unit {0}
 PlaysNone (Some (Play options)) = ⊥
+PlaysNone (Some (Load options)) = ⊥
 PlaysNone (Some (Serve options)) = Unit {0}
 
 -- The words say no link to serve.
 abbrev pub ServesNone : Option Command → Type 0
 ServesNone None = Unit {0}
 ServesNone (Some (Play options)) = Unit {0}
+ServesNone (Some (Load options)) = Unit {0}
 ServesNone (Some (Serve options)) = ⊥

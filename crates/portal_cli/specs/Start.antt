@@ -53,6 +53,7 @@ NoFile bytes status.OutOfMemory = Unit {0}
 NoFile bytes (status.PortalFile text) = IsBrokenBy text bytes
 NoFile bytes (status.FetchFault text) = ⊥
 NoFile bytes (status.DataFault text) = ⊥
+NoFile bytes status.Refused = ⊥
 NoFile bytes status.ListenFault = ⊥
 
 -- ---- over a fetcher
@@ -82,6 +83,12 @@ IsNotFetched fetching location =
     Rose fetching.before fetching.after
     ⊎ (HoldsNothingAt fetching.held location ⊎ HoldsMoreAt fetching.held location LONGEST_FILE)
 
+-- Nothing is fetched from the location, as the status tells, or there is no memory for it.
+abbrev pub FetchesNot : Fetching → List ℕ → Status → Type 0
+FetchesNot fetching location ended =
+    (ended ≡ status.OutOfMemory)
+    ⊎ ((ended ≡ status.FetchFault (codes "cannot fetch " ++ location)) × IsNotFetched fetching location)
+
 -- Why a run begins with no portal, by its status: a file that breaks a rule, a file that isn't fetched, or want of
 -- memory.
 abbrev pub BeginsNot : Fetching → Option (List ℕ) → Status → Type 0
@@ -95,6 +102,7 @@ BeginsNot fetching portal (status.PortalFile text) =
 BeginsNot fetching portal (status.FetchFault text) =
     IsSomeAnd portal (λ location. IsNotFetched fetching location × (text ≡ codes "cannot fetch " ++ location))
 BeginsNot fetching portal (status.DataFault text) = ⊥
+BeginsNot fetching portal status.Refused = ⊥
 BeginsNot fetching portal status.ListenFault = ⊥
 
 -- A run began with a portal, and then did what P says; or it began with none, why its status tells, and then it left

@@ -4,7 +4,9 @@ use Rattle.portal_base.specs.Outside.{Rose, Takes, TakesPrefix}
 use Rattle.portal_base.specs.declared.outside.Failed.{Failed}
 use Rattle.portal_cli.specs.declared.status.Status.{Status}
 use Rattle.portal_cli.specs.declared.status.Status.TheVariants.{Done, Words, ReadFault, WriteFault, OutOfMemory}
-use Rattle.portal_cli.specs.declared.status.Status.TheVariants.{PortalFile, FetchFault, DataFault, ListenFault}
+use Rattle.portal_cli.specs.declared.status.Status.TheVariants.{PortalFile, FetchFault, DataFault, Refused, ListenFault}
+use Rattle.portal_serve.specs.declared.calls.CallStop.{CallStop}
+use Rattle.portal_serve.specs.declared.calls.CallStop.TheVariants as call_stop
 use Rattle.portal_serve.specs.declared.play.PlayEnd.{PlayEnd}
 use Rattle.portal_serve.specs.declared.play.PlayEnd.TheVariants as end
 
@@ -18,6 +20,7 @@ status_code OutOfMemory = 6
 status_code (PortalFile text) = 7
 status_code (FetchFault text) = 8
 status_code (DataFault text) = 9
+status_code Refused = 10
 status_code ListenFault = 11
 
 -- the status that tells how playing ended
@@ -27,6 +30,11 @@ status_for end.ReadFault = ReadFault
 status_for end.WriteFault = WriteFault
 status_for end.TooLong = DataFault (codes "input too long")
 status_for end.OutOfMemory = OutOfMemory
+
+-- the status that tells why a call came to no whole line
+abbrev pub status_for_call : CallStop → Status
+status_for_call call_stop.WriteFault = WriteFault
+status_for_call call_stop.OutOfMemory = OutOfMemory
 
 -- the status that tells how a desk ended
 abbrev pub status_for_desk : Result Unit Failed → Status
@@ -43,6 +51,7 @@ status_text OutOfMemory = codes "out of memory"
 status_text (PortalFile text) = text
 status_text (FetchFault text) = text
 status_text (DataFault text) = text
+status_text Refused = codes "call refused"
 status_text ListenFault = codes "listener failed"
 
 -- a line that tells a fault
@@ -59,6 +68,7 @@ status_line OutOfMemory = fault_line (status_text OutOfMemory)
 status_line (PortalFile text) = fault_line text
 status_line (FetchFault text) = fault_line text
 status_line (DataFault text) = fault_line text
+status_line Refused = fault_line (status_text Refused)
 status_line ListenFault = fault_line (status_text ListenFault)
 
 -- What a sink took, of this count of faults before and after: the whole piece, or a beginning of it where the count

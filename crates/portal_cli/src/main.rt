@@ -1,6 +1,6 @@
 //! The portal's program: `portal play` plays the script on standard input and writes its transcript to standard
-//! output, and `portal serve` serves HTTP on this machine. On every status but 0 it tells why by a line on standard
-//! error.
+//! output, `portal load` loads the CSV on standard input, and `portal serve` serves HTTP on this machine. On every
+//! status but 0 it tells why by a line on standard error.
 #![tactic(auto)]
 
 ghost use Rattle.std.specs.Prelude.{◌≡◌, ◌≢◌, ◌⊎◌, [], ◌∷◌, false, map, string_bytes, All, Ok, None};
@@ -8,10 +8,11 @@ ghost use Rattle.std.specs.Prelude.{IfOk, IfErr, OnErr};
 ghost use Rattle.std.specs.Char.{is_ascii_digit};
 ghost use Rattle.std.specs.List.{list_all};
 ghost use Rattle.portal_words.specs.Commands.{command_of};
-ghost use Rattle.portal_cli.specs.Host.{is_port_number, is_serve, port_in, port_number, TellsWords};
+ghost use Rattle.portal_cli.specs.Host.{is_port_number, is_serve, is_timed, port_in, port_number, TellsWords};
 ghost use Rattle.portal_cli.specs.Status.{status_line, TakesOrFails};
 
 pub mod files;
+pub mod load;
 pub mod net;
 pub mod real;
 pub mod run;
@@ -122,7 +123,17 @@ fn port(rt: &(impl env::Env + Alloc<A = Global>)) -> Result<u16, Status>
     }
 }
 
-/// Whether the first word is `serve`, which listens and works in real time.
+/// Whether the first word is that of a command that works in real time alone.
+fn is_timed(words: &[String]) -> bool
+    ensures { result ≡ is_timed (map string_bytes words.now) }
+{
+    match words.first() {
+        Some(word) => word.as_str() == "load" || word.as_str() == "serve",
+        None => false,
+    }
+}
+
+/// Whether the first word is `serve`, which listens.
 fn is_serve(words: &[String]) -> bool
     ensures { result ≡ is_serve (map string_bytes words.now) }
 {
@@ -271,7 +282,7 @@ fn run_words<E: Sink>(rt: &HostRuntime, faults: &mut E) -> Result<Status, Status
     ensures untold { OnErr result (faults.new ≡ faults.old) }
 {
     let words = words(rt)?;
-    if is_serve(words.as_slice()) || is_real(rt)? {
+    if is_timed(words.as_slice()) || is_real(rt)? {
         return run_real(rt, words.as_slice(), faults);
     }
     Ok(run_counted(rt, words.as_slice(), faults))

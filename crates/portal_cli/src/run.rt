@@ -1,20 +1,21 @@
 //! The program's call: the words say a command, which is carried out over the devices. How the run ended is told by a
 //! line on `faults`.
-ghost use Rattle.std.specs.Prelude.{◌≡◌, ◌⊎◌, ◌↔◌, ℕ, List, Some, None, false, length, map, string_bytes, All};
+ghost use Rattle.std.specs.Prelude.{◌≡◌, ◌⊎◌, ◌↔◌, ℕ, List, Some, None, false, codes, length, map, string_bytes, All};
 ghost use Rattle.portal_base.specs.Outside.{Rose};
 ghost use Rattle.portal_words.specs.Commands.{command_of};
-ghost use Rattle.portal_cli.specs.Run.{OfOne, Plays, PlaysNone, Runs, Serves, ServesNone, portal_of, sight_of};
+ghost use Rattle.portal_cli.specs.Run.{LoadsFrom, NamesNoFile, OfOne, Plays, PlaysNone, Runs, Serves, ServesNone};
+ghost use Rattle.portal_cli.specs.Run.{portal_of, sight_of};
 ghost use Rattle.portal_cli.specs.Start.{BeginsAnd, TellsRule, fetching};
-ghost use Rattle.portal_cli.specs.Status.{status_code, status_line, TakesOrFails};
+ghost use Rattle.portal_cli.specs.Status.{status_line, TakesOrFails};
 ghost use Rattle.portal_serve.specs.Desk.{desk_sight};
 ghost use Rattle.portal_serve.specs.Run.{devices, GaveTooMuch};
 ghost use Rattle.portal_serve.specs.Served.{link_sight};
 
 use crate::start::start_of;
 use crate::status::{Status, told};
-use crate::work::{play_script, serve_links};
+use crate::work::{load_csv, play_script, serve_links};
 use portal_base::outside::{Clock, Desk, Fetcher, Listener, Nonces, Sink, Source};
-use portal_words::{Command, PlayOptions, ServeOptions, WordsFault};
+use portal_words::{Command, LoadOptions, PlayOptions, ServeOptions, WordsFault};
 use std::alloc::Global;
 
 /// Plays the script on input from the portal that the options name.
@@ -38,10 +39,41 @@ fn play_from<S: Source, O: Sink, F: Fetcher, C: Clock, N: Nonces>(
     ensures read_fault { result ≡ Status.ReadFault → Rose (S.faults input.old) (S.faults input.new) }
     ensures write_fault { result ≡ Status.WriteFault → Rose (O.faults output.old) (O.faults output.new) }
     ensures too_much { (whole : List ℕ) → S.to_come input.old ≡ Some whole →
-        ((status_code result ≡ 9) ↔ GaveTooMuch whole (S.to_come input.new)) }
+        ((result ≡ Status.DataFault (codes "input too long")) ↔ GaveTooMuch whole (S.to_come input.new)) }
 {
     match start_of(alloc, fetcher, &options.portal) {
         Ok(start) => play_script(alloc, &start, input, output, clock, nonces),
+        Err(status) => status,
+    }
+}
+
+/// Loads the CSV on input into a table of the portal that the options name.
+fn load_from<S: Source, O: Sink, F: Fetcher, C: Clock, N: Nonces>(
+    alloc: Global,
+    options: LoadOptions,
+    input: &mut S,
+    output: &mut O,
+    fetcher: &mut F,
+    clock: &mut C,
+    nonces: &mut N,
+) -> Status
+    ensures loads { BeginsAnd (fetching (F.held fetcher.old) (F.faults fetcher.old) (F.faults fetcher.new))
+        options.portal result
+        (λ begun. LoadsFrom (fetching (F.held fetcher.old) (F.faults fetcher.old) (F.faults fetcher.new)) options
+        begun.state
+        (devices (S.to_come input.old) (O.taken output.old) (C.given clock.old) (N.given nonces.old))
+        (devices (S.to_come input.new) (O.taken output.new) (C.given clock.new) (N.given nonces.new)) result)
+        ((devices (S.to_come input.new) (O.taken output.new) (C.given clock.new) (N.given nonces.new))
+        ≡ (devices (S.to_come input.old) (O.taken output.old) (C.given clock.old) (N.given nonces.old))) }
+    ensures read_fault { result ≡ Status.ReadFault → Rose (S.faults input.old) (S.faults input.new) }
+    ensures write_fault { result ≡ Status.WriteFault → Rose (O.faults output.old) (O.faults output.new) }
+    ensures too_much { (whole : List ℕ) → S.to_come input.old ≡ Some whole →
+        ((result ≡ Status.DataFault (codes "input too long")) ↔ GaveTooMuch whole (S.to_come input.new)) }
+{
+    match start_of(alloc, fetcher, &options.portal) {
+        Ok(start) => load_csv(
+            alloc, &start, options, input, output, fetcher, clock, nonces,
+        ),
         Err(status) => status,
     }
 }
@@ -112,17 +144,20 @@ fn carry_out<S: Source, O: Sink, F: Fetcher, L: Listener, C: Clock, N: Nonces>(
     ensures no_script { PlaysNone (command_of (map string_bytes words.now)) →
         (input.new ≡ input.old) × (output.new ≡ output.old) × (clock.new ≡ clock.old) × (nonces.new ≡ nonces.old) }
     ensures no_links { ServesNone (command_of (map string_bytes words.now)) → desk.new ≡ desk.old }
-    ensures no_file { portal_of (command_of (map string_bytes words.now)) ≡ None → fetcher.new ≡ fetcher.old }
+    ensures no_file { NamesNoFile (command_of (map string_bytes words.now)) → fetcher.new ≡ fetcher.old }
     ensures read_fault { result ≡ Status.ReadFault → Rose (S.faults input.old) (S.faults input.new) }
     ensures write_fault { result ≡ Status.WriteFault → Rose (O.faults output.old) (O.faults output.new) }
     ensures listen_fault { result ≡ Status.ListenFault →
         Rose (L.faults desk.old.listener) (L.faults desk.new.listener) }
     ensures too_much { (whole : List ℕ) → S.to_come input.old ≡ Some whole →
-        ((status_code result ≡ 9) ↔ GaveTooMuch whole (S.to_come input.new)) }
+        ((result ≡ Status.DataFault (codes "input too long")) ↔ GaveTooMuch whole (S.to_come input.new)) }
 {
     match Command::read(alloc, words) {
         Ok(Command::Play(options)) => {
             play_from(alloc, &options, input, output, fetcher, clock, nonces)
+        }
+        Ok(Command::Load(options)) => {
+            load_from(alloc, options, input, output, fetcher, clock, nonces)
         }
         Ok(Command::Serve(options)) => serve_from(alloc, &options, fetcher, desk),
         Err(WordsFault::BadWords) => Status::Words,
@@ -132,6 +167,7 @@ fn carry_out<S: Source, O: Sink, F: Fetcher, L: Listener, C: Clock, N: Nonces>(
 
 /// Carries out the command that the words, those after the program's name, say. `play` plays the script on `input` and
 /// writes its transcript to `output`; of the input it holds one line and what was read at once, 65,536 bytes at most.
+/// `load` loads the CSV on `input` into a table, by the schema that the fetcher has, and writes a line for each call.
 /// `serve` serves the links of the desk, one after another. Both work on the portal of the portal file that the words
 /// name, which the fetcher fetches, or on the stated one. Every status but 0 writes its line to `faults`.
 pub fn run<S: Source, O: Sink, E: Sink, F: Fetcher, L: Listener, C: Clock, N: Nonces>(
@@ -172,11 +208,11 @@ pub fn run<S: Source, O: Sink, E: Sink, F: Fetcher, L: Listener, C: Clock, N: No
     ensures rule { OfOne fetchers.old.items fetchers.new.items (λ before after.
         TellsRule (fetching (F.held before) (F.faults before) (F.faults after))
         (portal_of (command_of (map string_bytes words.now))) result) }
-    // What the words don't ask for stays as it was: the fetcher, where they name no portal file.
+    // What the words don't ask for stays as it was: the fetcher, where they name no file.
     ensures no_script { PlaysNone (command_of (map string_bytes words.now)) →
         (input.new ≡ input.old) × (output.new ≡ output.old) × (clock.new ≡ clock.old) × (nonces.new ≡ nonces.old) }
     ensures no_links { ServesNone (command_of (map string_bytes words.now)) → desks.new.items ≡ desks.old.items }
-    ensures no_file { portal_of (command_of (map string_bytes words.now)) ≡ None
+    ensures no_file { NamesNoFile (command_of (map string_bytes words.now))
         → fetchers.new.items ≡ fetchers.old.items }
 
     // Every status but 0 writes its one line, whole unless `faults` fails. Status 0 leaves `faults` alone.
@@ -188,9 +224,9 @@ pub fn run<S: Source, O: Sink, E: Sink, F: Fetcher, L: Listener, C: Clock, N: No
     ensures write_fault { result ≡ Status.WriteFault → Rose (O.faults output.old) (O.faults output.new) }
     ensures listen_fault { result ≡ Status.ListenFault → OfOne desks.old.items desks.new.items
         (λ desk left. Rose (L.faults desk.listener) (L.faults left.listener)) }
-    // Status 9 comes exactly where input gave more than 2^40 bytes.
+    // That input is too long is told exactly where it gave more than 2^40 bytes.
     ensures too_much { (whole : List ℕ) → S.to_come input.old ≡ Some whole →
-        ((status_code result ≡ 9) ↔ GaveTooMuch whole (S.to_come input.new)) }
+        ((result ≡ Status.DataFault (codes "input too long")) ↔ GaveTooMuch whole (S.to_come input.new)) }
 {
     let status = carry_out(
         alloc,

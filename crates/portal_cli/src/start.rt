@@ -1,10 +1,12 @@
 //! What a run begins with: the stated portal, or that of a portal file. Here a portal is what it is opened with.
-ghost use Rattle.std.specs.Prelude.{◌≡◌, ◌⊎◌, ◌++◌, ◌≤◌, codes, Some, None, Ok, IsTrue, IfOk, IfErr};
+ghost use Rattle.std.specs.Prelude.{◌≡◌, ◌⊎◌, ◌++◌, ◌≤◌, length, codes, Some, None, Ok, IsTrue, IfOk, IfErr};
+ghost use Rattle.portal_base.specs.Outside.{HoldsAt};
 ghost use Rattle.org_roles.specs.Distinct.{have_distinct_names, have_distinct_org_names, have_distinct_pairs};
 ghost use Rattle.portal_core.specs.Opened.{is_opening};
 ghost use Rattle.portal_file.specs.Opening.{are_housed, are_named};
 ghost use Rattle.portal_file.specs.Rules.{rule_name};
-ghost use Rattle.portal_cli.specs.Start.{Begins, BeginsNot, IsFileOf, NoFile, begun_with, fetching, filed, stated};
+ghost use Rattle.portal_cli.specs.Start.{Begins, BeginsNot, FetchesNot, IsFileOf, NoFile, begun_with, fetching, filed};
+ghost use Rattle.portal_cli.specs.Start.{stated};
 
 use crate::status::Status;
 use portal_base::outside::{FetchFault, Fetcher};
@@ -15,7 +17,7 @@ use portal_serve::stated::{stated_opening, stated_tokens};
 use portal_serve::tokens::Tokens;
 use std::alloc::{AllocError, Global};
 
-/// The most bytes of a portal file.
+/// The most bytes of a portal file, and of a schema.
 pub const LONGEST_FILE: usize = 16_777_216;
 
 /// What a portal is opened with, and the tokens of its users.
@@ -110,6 +112,28 @@ fn of_bytes(alloc: Global, bytes: &[u8]) -> Result<Start, Status>
     }
 }
 
+/// The bytes of the file at the location.
+pub fn fetched<F: Fetcher>(
+    alloc: Global,
+    fetcher: &mut F,
+    location: &str,
+) -> Result<Vec<u8>, Status>
+    ensures bytes { IfOk result (λ bytes. HoldsAt (F.held fetcher.old) location.now bytes.items) }
+    ensures within { IfOk result (λ bytes. length bytes.items ≤ LONGEST_FILE) }
+    ensures not { IfErr result (FetchesNot
+        (fetching (F.held fetcher.old) (F.faults fetcher.old) (F.faults fetcher.new)) location.now) }
+    ensures held { F.held fetcher.new ≡ F.held fetcher.old }
+    ensures counts { F.faults fetcher.old ≤ F.faults fetcher.new }
+{
+    match fetcher.fetch(alloc, location, LONGEST_FILE) {
+        Ok(bytes) => Ok(bytes),
+        Err(FetchFault::OutOfMemory) => Err(Status::OutOfMemory),
+        Err(FetchFault::Failed) => Err(not_fetched(alloc, location)),
+        Err(FetchFault::Missing) => Err(not_fetched(alloc, location)),
+        Err(FetchFault::TooLong) => Err(not_fetched(alloc, location)),
+    }
+}
+
 /// The portal of the portal file at the location.
 fn of_file<F: Fetcher>(alloc: Global, fetcher: &mut F, location: &str) -> Result<Start, Status>
     ensures begins { IfOk result (λ start.
@@ -118,14 +142,11 @@ fn of_file<F: Fetcher>(alloc: Global, fetcher: &mut F, location: &str) -> Result
     ensures opening { IfOk result (λ start. IsTrue (is_opening start.opening)) }
     ensures not { IfErr result (BeginsNot
         (fetching (F.held fetcher.old) (F.faults fetcher.old) (F.faults fetcher.new)) (Some location.now)) }
+    ensures held { F.held fetcher.new ≡ F.held fetcher.old }
+    ensures counts { F.faults fetcher.old ≤ F.faults fetcher.new }
 {
-    match fetcher.fetch(alloc, location, LONGEST_FILE) {
-        Ok(bytes) => of_bytes(alloc, bytes.as_slice()),
-        Err(FetchFault::OutOfMemory) => Err(Status::OutOfMemory),
-        Err(FetchFault::Failed) => Err(not_fetched(alloc, location)),
-        Err(FetchFault::Missing) => Err(not_fetched(alloc, location)),
-        Err(FetchFault::TooLong) => Err(not_fetched(alloc, location)),
-    }
+    let bytes = fetched(alloc, fetcher, location)?;
+    of_bytes(alloc, bytes.as_slice())
 }
 
 /// What a run begins with: the portal of the portal file at the location, or where none is named the stated one.
@@ -140,6 +161,8 @@ pub fn start_of<F: Fetcher>(
     ensures opening { IfOk result (λ start. IsTrue (is_opening start.opening)) }
     ensures not { IfErr result (BeginsNot
         (fetching (F.held fetcher.old) (F.faults fetcher.old) (F.faults fetcher.new)) portal.now) }
+    ensures held { F.held fetcher.new ≡ F.held fetcher.old }
+    ensures counts { F.faults fetcher.old ≤ F.faults fetcher.new }
     ensures no_file { portal.now ≡ None → fetcher.new ≡ fetcher.old }
 {
     match portal {

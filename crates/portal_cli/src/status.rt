@@ -24,8 +24,10 @@ pub enum Status {
     PortalFile(Text),
     /// 8: the portal file can't be fetched. The text names its location.
     FetchFault(Text),
-    /// 9: input gave more than 2^40 bytes. The text says so.
+    /// 9: input gave more than 2^40 bytes, or what is to be loaded has a fault. The text tells it.
     DataFault(Text),
+    /// 10: a call of a load wasn't answered 200.
+    Refused,
     /// 11: the listener failed.
     ListenFault,
 }
@@ -44,6 +46,7 @@ impl Status {
             Status::PortalFile(_) => 7,
             Status::FetchFault(_) => 8,
             Status::DataFault(_) => 9,
+            Status::Refused => 10,
             Status::ListenFault => 11,
         }
     }
@@ -96,6 +99,7 @@ pub fn told<E: Sink>(faults: &mut E, status: Status) -> Status
         Status::ReadFault => tell_fault(faults, "input failed"),
         Status::WriteFault => tell_fault(faults, "output failed"),
         Status::OutOfMemory => tell_fault(faults, "out of memory"),
+        Status::Refused => tell_fault(faults, "call refused"),
         Status::ListenFault => tell_fault(faults, "listener failed"),
         Status::PortalFile(text) => tell_fault(faults, text.as_str()),
         Status::FetchFault(text) => tell_fault(faults, text.as_str()),

@@ -1,21 +1,24 @@
 //! The commands' own work, on a portal that is opened for it and lent.
-ghost use Rattle.std.specs.Prelude.{◌≡◌, ◌↔◌, ◌≤◌, ℕ, List, Some, false, IsTrue};
+ghost use Rattle.std.specs.Prelude.{◌≡◌, ◌↔◌, ◌≤◌, ℕ, List, Some, false, codes, IsTrue};
 ghost use Rattle.portal_base.specs.Outside.{Rose};
 ghost use Rattle.portal_core.specs.Opened.{is_opening, opened};
-ghost use Rattle.portal_cli.specs.Run.{Plays, Serves};
-ghost use Rattle.portal_cli.specs.Start.{begun_with};
-ghost use Rattle.portal_cli.specs.Status.{status_code, status_for, status_for_desk};
+ghost use Rattle.portal_cli.specs.Run.{LoadsFrom, Plays, Serves};
+ghost use Rattle.portal_cli.specs.Start.{begun_with, fetching};
+ghost use Rattle.portal_cli.specs.Status.{status_for, status_for_desk};
 ghost use Rattle.portal_serve.specs.Desk.{desk_sight};
 ghost use Rattle.portal_serve.specs.Run.{devices, GaveTooMuch};
 ghost use Rattle.portal_serve.specs.Served.{link_sight};
 
-use crate::start::Start;
+use crate::load::load;
+use crate::start::{Start, fetched};
 use crate::status::Status;
-use portal_base::outside::{Clock, Desk, Failed, Listener, Nonces, Sink, Source};
+use portal_base::caller::Caller;
+use portal_base::outside::{Clock, Desk, Failed, Fetcher, Listener, Nonces, Sink, Source};
 use portal_base::text::Text;
 use portal_core::portal::Portal;
 use portal_serve::desk::serve_desk;
 use portal_serve::play::{PlayEnd, play};
+use portal_words::LoadOptions;
 use std::alloc::Global;
 
 fn status_of(end: PlayEnd) -> Status
@@ -46,11 +49,58 @@ pub fn play_script<S: Source, O: Sink, C: Clock, N: Nonces>(
     ensures read_fault { result ≡ Status.ReadFault → Rose (S.faults input.old) (S.faults input.new) }
     ensures write_fault { result ≡ Status.WriteFault → Rose (O.faults output.old) (O.faults output.new) }
     ensures too_much { (whole : List ℕ) → S.to_come input.old ≡ Some whole →
-        ((status_code result ≡ 9) ↔ GaveTooMuch whole (S.to_come input.new)) }
+        ((result ≡ Status.DataFault (codes "input too long")) ↔ GaveTooMuch whole (S.to_come input.new)) }
 {
     match Portal::open(alloc, &start.opening) {
         Ok(mut portal) => status_of(play(alloc, &mut portal, input, output, clock, nonces)),
         Err(_fault) => Status::OutOfMemory,
+    }
+}
+
+/// Loads the CSV on input into a table, by the schema that the fetcher has.
+pub fn load_csv<S: Source, O: Sink, F: Fetcher, C: Clock, N: Nonces>(
+    alloc: Global,
+    start: &Start,
+    options: LoadOptions,
+    input: &mut S,
+    output: &mut O,
+    fetcher: &mut F,
+    clock: &mut C,
+    nonces: &mut N,
+) -> Status
+    requires { IsTrue (is_opening start.now.opening) }
+    ensures loads { LoadsFrom (fetching (F.held fetcher.old) (F.faults fetcher.old) (F.faults fetcher.new)) options
+        (opened start.now.opening)
+        (devices (S.to_come input.old) (O.taken output.old) (C.given clock.old) (N.given nonces.old))
+        (devices (S.to_come input.new) (O.taken output.new) (C.given clock.new) (N.given nonces.new)) result }
+    ensures counts { F.faults fetcher.old ≤ F.faults fetcher.new }
+    ensures read_fault { result ≡ Status.ReadFault → Rose (S.faults input.old) (S.faults input.new) }
+    ensures write_fault { result ≡ Status.WriteFault → Rose (O.faults output.old) (O.faults output.new) }
+    ensures too_much { (whole : List ℕ) → S.to_come input.old ≡ Some whole →
+        ((result ≡ Status.DataFault (codes "input too long")) ↔ GaveTooMuch whole (S.to_come input.new)) }
+{
+    let LoadOptions {
+        caller,
+        resource,
+        schema,
+        ..
+    } = options;
+    let Ok(mut portal) = Portal::open(alloc, &start.opening) else {
+        return Status::OutOfMemory;
+    };
+    match fetched(alloc, fetcher, schema.as_str()) {
+        Ok(schema) => load(
+            alloc,
+            &mut portal,
+            &Caller::Named(caller),
+            resource.as_str(),
+            schema.as_slice(),
+            input,
+            output,
+            clock,
+            nonces,
+        ),
+        Err(status) => status,
     }
 }
 

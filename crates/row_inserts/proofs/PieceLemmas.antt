@@ -1,6 +1,8 @@
 -- How long the body of a piece's insert is with one more record.
-use Rattle.std.proofs.Common.{◌≡◌, ◌↔◌, ◌≤◌, ◌<◌, ◌^◌, ℕ, ◌+◌, Bool, true, false, List, [], ◌∷◌, ◌++◌, length, refl, sym}
-use Rattle.std.proofs.Common.{◌∙◌, subst, ap, arith, true≢false, Option, Some, None, IfSome, IsTrue, SomeIff, inl, inr, le_trans}
+use Rattle.std.proofs.Common.{◌≡◌, ◌↔◌, ◌≤◌, ◌<◌, ◌^◌, ℕ, ◌+◌, Bool, true, false, List, [], ◌∷◌, ◌++◌, length}
+use Rattle.std.proofs.Common.{refl, sym}
+use Rattle.std.proofs.Common.{◌∙◌, subst, ap, arith, true≢false, Option, Some, None, IfSome, IsTrue, SomeIff}
+use Rattle.std.proofs.Common.{inl, inr, le_trans}
 use Rattle.std.proofs.lemmas.Bool.{cases_lt}
 use Rattle.portal_base.specs.Json.{json_text}
 use Rattle.portal_base.specs.declared.json_value.Json.{Json}
@@ -20,7 +22,8 @@ empty_by (first ∷ records) false is = refl
 size_with_none : (resource : List ℕ) (records : List Json) (added : Json) (size : ℕ)
     → size ≡ insert_size resource records → is_empty records ≡ true
     → insert_size resource (records ++ added ∷ []) ≡ size + length (json_text added)
-size_with_none resource [] added size is none = size_alone resource added ∙ ap (λ n. n + length (json_text added)) (sym is)
+size_with_none resource [] added size is none = size_alone resource added
+    ∙ ap (λ n. n + length (json_text added)) (sym is)
 size_with_none resource (first ∷ records) added size is none = absurd (true≢false (sym none))
 
 -- A record that is the first.

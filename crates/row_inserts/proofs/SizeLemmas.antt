@@ -60,7 +60,8 @@ body_is : (resource : List ℕ) (records : List Json)
 unfolding serde_json_on_literals
 body_is resource records = ap compact_text (body_data resource records)
 
-around : (before list behind : List ℕ) → length (before ++ (list ++ behind)) ≡ length before + length list + length behind
+around : (before list behind : List ℕ) → length (before ++ (list ++ behind))
+    ≡ length before + length list + length behind
 around before list behind = omega (arith, length-append before (list ++ behind), length-append list behind)
 
 -- the lists alone make bodies longer
