@@ -68,6 +68,7 @@ fn kind_shown(kind: Kind) -> &'static str {
         Kind::Dataset => "dataset",
         Kind::Resource => "resource",
         Kind::Organization => "organization",
+        Kind::Table => "table",
     }
 }
 
