@@ -1,8 +1,10 @@
-//! Worked examples of Table Schema v1: cells of texts and of values, their order, descriptors, and rows of CSV.
+//! Worked examples of Table Schema v1: cells of texts and of values, their order, descriptors, and rows of CSV, one by one and as
+//! inserts.
 #![tactic(auto)]
 
 mod cell;
 mod descriptor;
+mod insert;
 mod one_by_one;
 mod row;
 
@@ -23,5 +25,7 @@ fn main(rt: HostRuntime) -> io::Result<ExitCode> {
     check(&rt, &mut tally, "records", 3, row::rows_of)?;
     check(&rt, &mut tally, "failing_reads", 4, row::rows_before)?;
     check(&rt, &mut tally, "long_files", 4, row::count_before)?;
+    check(&rt, &mut tally, "bodies", 4, insert::bodies_of)?;
+    check(&rt, &mut tally, "sizes", 3, insert::sizes_of)?;
     tally.end(&rt)
 }

@@ -10,6 +10,27 @@ use std::alloc::Global;
 use std::io;
 use table_schema::Cell;
 
+fn number_cell(number: i128) -> io::Result<Cell> {
+    match number.checked_mul(1_000_000_000) {
+        Some(billionths) => Ok(Cell::Number(billionths)),
+        None => Err(invalid()),
+    }
+}
+
+fn int_cell(number: i128) -> io::Result<Cell> {
+    match i64::try_from(number) {
+        Ok(number) => Ok(Cell::Int(number)),
+        Err(_) => Err(invalid()),
+    }
+}
+
+fn time_cell(second: i128) -> io::Result<Cell> {
+    match u32::try_from(second) {
+        Ok(second) => Ok(Cell::Time(second)),
+        Err(_) => Err(invalid()),
+    }
+}
+
 // The cell of a dictionary of one member, whose key is the cell's type; null is no value.
 fn cell_of(value: Json) -> io::Result<Cell> {
     let Json::Map(entries) = value else {
@@ -21,18 +42,9 @@ fn cell_of(value: Json) -> io::Result<Cell> {
     match (word.as_str(), value) {
         ("text", Json::Text(text)) => Ok(Cell::Text(text)),
         ("truth", Json::Truth(truth)) => Ok(Cell::Truth(truth)),
-        ("number", Json::Whole(number)) => match number.checked_mul(1_000_000_000) {
-            Some(billionths) => Ok(Cell::Number(billionths)),
-            None => Err(invalid()),
-        },
-        ("int", Json::Whole(number)) => match i64::try_from(number) {
-            Ok(number) => Ok(Cell::Int(number)),
-            Err(_) => Err(invalid()),
-        },
-        ("time", Json::Whole(second)) => match u32::try_from(second) {
-            Ok(second) => Ok(Cell::Time(second)),
-            Err(_) => Err(invalid()),
-        },
+        ("number", Json::Whole(number)) => number_cell(number),
+        ("int", Json::Whole(number)) => int_cell(number),
+        ("time", Json::Whole(second)) => time_cell(second),
         _ => Err(invalid()),
     }
 }

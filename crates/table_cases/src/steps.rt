@@ -64,6 +64,16 @@ fn step(alloc: Global, table: &mut Table, step: Json) -> io::Result<String> {
     }
 }
 
+/// A table of this descriptor with these records.
+pub(crate) fn filled(alloc: Global, descriptor: &str, records: &str) -> io::Result<Table> {
+    let mut table = table_of(alloc, descriptor)?;
+    let records = records_of(json_of(alloc, records)?)?;
+    match put(&mut table, Method::Insert, &records) {
+        Ok(()) => Ok(table),
+        Err(_) => Err(invalid()),
+    }
+}
+
 /// A descriptor, and steps: what each answers, and the table behind them.
 pub(crate) fn told(alloc: Global, case: &Case) -> io::Result<Vec<u8>> {
     let mut table = table_of(alloc, case.text(0)?)?;

@@ -1,10 +1,14 @@
-//! Worked examples of texts: names, moments, ids, JSON, lines, tokens and tags.
+//! Worked examples of texts: names, moments, ids, JSON, lines, tokens and tags; and of bodies of datasets.
 #![tactic(auto)]
 
+mod body;
 mod json;
 mod kinds;
 mod lines;
 mod moment;
+mod old;
+mod short;
+mod shown;
 mod words;
 
 use cases::{Case, Tally, check};
@@ -44,5 +48,10 @@ fn main(rt: HostRuntime) -> io::Result<ExitCode> {
     check(&rt, &mut tally, "lines", 5, lines::read)?;
     check(&rt, &mut tally, "tokens", 2, words::tokens_found)?;
     check(&rt, &mut tally, "tags", 2, words::tag_told)?;
+    check(&rt, &mut tally, "datasets", 3, body::dataset)?;
+    check(&rt, &mut tally, "texts", 3, body::dataset)?;
+    check(&rt, &mut tally, "tags_of_datasets", 3, body::dataset)?;
+    check(&rt, &mut tally, "resources", 3, body::dataset)?;
+    check(&rt, &mut tally, "resource", 3, body::resource)?;
     tally.end(&rt)
 }

@@ -39,6 +39,8 @@ fn trees(alloc: Global) -> io::Result<Package> {
     let (Some(created), Some(modified)) = (Moment::from_seconds(1), Moment::from_seconds(2)) else {
         return Err(io::Error::from(ErrorKind::InvalidData));
     };
+    let tags = tags(alloc)?;
+    let resources = resources(alloc)?;
     Ok(Package {
         id: Text::from_static("t"),
         name: Text::from_static("trees"),
@@ -52,8 +54,8 @@ fn trees(alloc: Global) -> io::Result<Package> {
         owner_org: Text::from_static("city"),
         private: true,
         state: State::Draft,
-        tags: tags(alloc)?,
-        resources: resources(alloc)?,
+        tags,
+        resources,
         next_resource: 5,
         creator: Text::from_static("ann"),
         created,

@@ -1,15 +1,13 @@
 //! A table of three fields, and batches of 500 records for it.
-ghost use Rattle.std.specs.Prelude.{◌≡◌};
-ghost use Rattle.std.specs.List.{list_all};
-ghost use Rattle.table_schema.specs.Values.{is_map};
 
+use crate::read::{invalid, records_of, table_of};
+use crate::steps::put;
 use datastore_table::{Method, Table};
 use portal_base::json_value::Json;
 use portal_base::seq::Seq;
 use portal_base::text::Text;
 use std::alloc::{AllocError, Global};
-use std::io::{self, ErrorKind};
-use table_schema::Schema;
+use std::io;
 
 const DESCRIPTOR: &str =
     "{\"fields\":[{\"name\":\"id\",\"type\":\"integer\"},{\"name\":\"place\"},{\"name\":\"value\",\
@@ -23,20 +21,6 @@ const STRIDE: u64 = 7919;
 
 /// Among how many of the first rows they are, so that they are the same ones in each larger table.
 const KNOWN: u64 = 100_000;
-
-fn invalid() -> io::Error {
-    io::Error::from(ErrorKind::InvalidData)
-}
-
-fn table(alloc: Global) -> io::Result<Table> {
-    let Ok(schema) = Schema::read(alloc, DESCRIPTOR.as_bytes()) else {
-        return Err(invalid());
-    };
-    match Table::create(alloc, schema) {
-        Ok(table) => Ok(table),
-        Err(_) => Err(io::Error::from(ErrorKind::OutOfMemory)),
-    }
-}
 
 /// The record of a key.
 fn record(alloc: Global, key: u64) -> Result<Json, AllocError> {
@@ -54,33 +38,15 @@ fn record(alloc: Global, key: u64) -> Result<Json, AllocError> {
     Ok(Json::Map(Seq::from(members)))
 }
 
-fn is_record(item: &Json) -> bool
-    ensures { result ≡ is_map item.now }
-{
-    matches!(item, Json::Map(_))
-}
-
-fn are_records(items: &[Json]) -> bool
-    ensures { result ≡ list_all is_map items.now }
-{
-    items.iter().all(is_record)
-}
-
 /// Puts the records of these keys into the table.
-fn put(alloc: Global, table: &mut Table, method: Method, keys: &[u64]) -> io::Result<()> {
+fn enter(alloc: Global, table: &mut Table, method: Method, keys: &[u64]) -> io::Result<()> {
     let mut records = Vec::with_capacity(alloc, keys.len())?;
     for key in keys {
         records.push(record(alloc, *key)?)?;
     }
-    let records = Seq::from(records);
-    if !are_records(records.as_slice()) {
-        return Err(invalid());
-    }
-    match table.prepare(method, &records) {
-        Ok(batch) => {
-            table.commit(batch);
-            Ok(())
-        }
+    let records = records_of(Json::List(Seq::from(records)))?;
+    match put(table, method, &records) {
+        Ok(()) => Ok(()),
         Err(_) => Err(invalid()),
     }
 }
@@ -104,14 +70,14 @@ fn key_at(at: u64, among: Option<u64>) -> u64 {
 
 /// A table of so many rows, with so many batches of known keys put behind them.
 pub fn loaded(alloc: Global, rows: u64, batches: u64) -> io::Result<Table> {
-    let mut table = table(alloc)?;
+    let mut table = table_of(alloc, DESCRIPTOR)?;
     for place in 0..rows / BATCH {
         let keys = keys_of(alloc, place, None)?;
-        put(alloc, &mut table, Method::Insert, keys.as_slice())?;
+        enter(alloc, &mut table, Method::Insert, keys.as_slice())?;
     }
     for place in 0..batches {
         let keys = keys_of(alloc, place, Some(table.len().min(KNOWN)))?;
-        put(alloc, &mut table, Method::Upsert, keys.as_slice())?;
+        enter(alloc, &mut table, Method::Upsert, keys.as_slice())?;
     }
     Ok(table)
 }

@@ -1,12 +1,9 @@
-//! Worked examples of the words of the command line: a command each, or `bad words`.
-#![tactic(auto)]
-
-use cases::{Case, Tally, check};
+//! The words of the command line: the command that they say, or `bad words`.
+use cases::Case;
 use portal_base::text::Text;
 use portal_words::{Command, WordsFault};
 use std::alloc::{AllocError, Global};
 use std::io;
-use std::process::ExitCode;
 
 /// The words between the spaces of the text; none where it is empty.
 fn words_in(alloc: Global, text: &str) -> Result<Vec<String>, AllocError> {
@@ -38,6 +35,15 @@ fn shown(alloc: Global, command: &Command) -> io::Result<String> {
             let portal = shown_portal(alloc, options.portal.as_ref())?;
             Ok(format!(in alloc; "play{portal}")?)
         }
+        Command::Load(options) => {
+            let portal = shown_portal(alloc, options.portal.as_ref())?;
+            let caller = options.caller.as_str();
+            let resource = options.resource.as_str();
+            let schema = options.schema.as_str();
+            Ok(format!(in alloc;
+                "load{portal} as [{caller}] resource [{resource}] schema [{schema}]"
+            )?)
+        }
         Command::Serve(options) => {
             let portal = shown_portal(alloc, options.portal.as_ref())?;
             let links = options.links;
@@ -47,7 +53,7 @@ fn shown(alloc: Global, command: &Command) -> io::Result<String> {
 }
 
 /// Words with a space between them: the command that they say.
-fn command_told(alloc: Global, case: &Case) -> io::Result<Vec<u8>> {
+pub fn command_told(alloc: Global, case: &Case) -> io::Result<Vec<u8>> {
     let words = words_in(alloc, case.text(0)?)?;
     let told = match Command::read(alloc, words.as_slice()) {
         Ok(command) => shown(alloc, &command)?,
@@ -55,10 +61,4 @@ fn command_told(alloc: Global, case: &Case) -> io::Result<Vec<u8>> {
         Err(WordsFault::OutOfMemory) => String::from_str(alloc, "out of memory")?,
     };
     Ok(told.as_bytes().to_vec(alloc)?)
-}
-
-fn main(rt: HostRuntime) -> io::Result<ExitCode> {
-    let mut tally = Tally::new();
-    check(&rt, &mut tally, "words", 2, command_told)?;
-    tally.end(&rt)
 }

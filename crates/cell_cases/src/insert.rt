@@ -1,7 +1,5 @@
-//! Worked examples of rows of CSV as inserts: their bodies, and where one ends and the next begins.
-#![tactic(auto)]
-
-use cases::{Case, Tally, check};
+//! Rows of CSV as inserts: their bodies, and where one ends and the next begins.
+use cases::Case;
 use portal_base::memory::MemorySource;
 use portal_base::outside::Source;
 use portal_base::seq::Seq;
@@ -9,7 +7,6 @@ use row_inserts::{Insert, Inserts};
 use std::alloc::{AllocError, Global};
 use std::fmt::Write;
 use std::io::{self, ErrorKind};
-use std::process::ExitCode;
 use table_schema::Schema;
 use typed_csv::LoadFault;
 
@@ -102,7 +99,7 @@ fn told_of(
 }
 
 /// A descriptor, what names the resource, and a text of CSV: the bodies of its inserts.
-fn bodies_of(alloc: Global, case: &Case) -> io::Result<Vec<u8>> {
+pub fn bodies_of(alloc: Global, case: &Case) -> io::Result<Vec<u8>> {
     let bytes = case.bytes(2).to_vec(alloc)?;
     told_of(alloc, case.bytes(0), case.text(1)?, bytes, Telling::Body)
 }
@@ -139,7 +136,7 @@ fn push_rows(bytes: &mut Vec<u8>, word: &str) -> io::Result<()> {
 }
 
 /// What names the resource, and words that say rows of one column: how many records and bytes each insert has.
-fn sizes_of(alloc: Global, case: &Case) -> io::Result<Vec<u8>> {
+pub fn sizes_of(alloc: Global, case: &Case) -> io::Result<Vec<u8>> {
     let mut bytes = Vec::new(alloc);
     bytes.extend_from_slice(b"v\n")?;
     for word in case.text(1)?.split(' ') {
@@ -152,11 +149,4 @@ fn sizes_of(alloc: Global, case: &Case) -> io::Result<Vec<u8>> {
         bytes,
         Telling::Sizes,
     )
-}
-
-fn main(rt: HostRuntime) -> io::Result<ExitCode> {
-    let mut tally = Tally::new();
-    check(&rt, &mut tally, "bodies", 4, bodies_of)?;
-    check(&rt, &mut tally, "sizes", 3, sizes_of)?;
-    tally.end(&rt)
 }

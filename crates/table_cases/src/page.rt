@@ -1,27 +1,13 @@
-//! What is shown of pages.
+//! What is shown of the answers to queries.
 ghost use Rattle.std.specs.Prelude.{All};
 ghost use Rattle.table_schema.specs.Printed.{IsValue};
 
+use crate::shown::{push_bracketed, push_cells};
 use datastore_query::Page;
 use portal_base::seq::Seq;
 use portal_base::text::Text;
 use std::alloc::{AllocError, Global};
-use table_schema::{Cell, cell_text};
-
-fn push_bracketed(shown: &mut String, text: &Text) -> Result<(), AllocError> {
-    shown.push('[')?;
-    shown.push_str(text.as_str())?;
-    shown.push(']')
-}
-
-fn push_cells(alloc: Global, shown: &mut String, cells: &[Cell]) -> Result<(), AllocError>
-    requires { All IsValue cells.now }
-{
-    for cell in cells {
-        push_bracketed(shown, &cell_text(alloc, cell)?)?;
-    }
-    Ok(())
-}
+use table_schema::Cell;
 
 fn push_rows(alloc: Global, shown: &mut String, rows: &[Seq<Cell>]) -> Result<(), AllocError>
     requires { All (All IsValue) rows.now }

@@ -1,7 +1,8 @@
 //! The answers to queries.
 
-use crate::read::{parts_of, table_of};
-use crate::shown::{push_faults, push_ids, push_page};
+use crate::page::{push_faults, push_ids, push_page};
+use crate::parts::parts_of;
+use crate::steps::filled;
 use cases::Case;
 use datastore_query::{Query, QueryFault};
 use datastore_table::Table;
@@ -23,7 +24,7 @@ fn push_answer(
 /// A descriptor, records and the parts of a query: the page and the `_id`s that pass the filters, or what is told of
 /// the parts that can't be read.
 pub(crate) fn told(alloc: Global, case: &Case) -> io::Result<Vec<u8>> {
-    let table = table_of(alloc, case.text(0)?, case.text(1)?)?;
+    let table = filled(alloc, case.text(0)?, case.text(1)?)?;
     let parts = parts_of(alloc, case.text(2)?)?;
     let mut shown = String::new(alloc);
     match Query::read(alloc, &table, &parts) {

@@ -1,12 +1,9 @@
-//! Worked examples of portal files: what each says, or the first rule that it breaks.
-#![tactic(auto)]
-
-use cases::{Case, Tally, check};
+//! Portal files: what each says, or the first rule that it breaks.
+use cases::Case;
 use org_roles::role::Role;
 use portal_file::{FileFault, PortalFile};
 use std::alloc::{AllocError, Global};
 use std::io;
-use std::process::ExitCode;
 
 fn role_name(role: Role) -> &'static str {
     match role {
@@ -52,7 +49,7 @@ fn push_orgs(alloc: Global, told: &mut String, file: &PortalFile) -> Result<(), 
 }
 
 /// A portal file: what it says, or the first rule that it breaks.
-fn file_told(alloc: Global, case: &Case) -> io::Result<Vec<u8>> {
+pub fn file_told(alloc: Global, case: &Case) -> io::Result<Vec<u8>> {
     let mut told = String::new(alloc);
     match PortalFile::read(alloc, case.bytes(0)) {
         Ok(file) => {
@@ -63,10 +60,4 @@ fn file_told(alloc: Global, case: &Case) -> io::Result<Vec<u8>> {
         Err(FileFault::OutOfMemory) => told.push_str("out of memory")?,
     }
     Ok(told.as_str().trim_matches(' ').as_bytes().to_vec(alloc)?)
-}
-
-fn main(rt: HostRuntime) -> io::Result<ExitCode> {
-    let mut tally = Tally::new();
-    check(&rt, &mut tally, "files", 2, file_told)?;
-    tally.end(&rt)
 }

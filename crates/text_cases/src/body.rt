@@ -1,23 +1,16 @@
-//! Worked examples of bodies: the dataset or the resource that each says, or what is told of it.
-#![tactic(auto)]
-
+//! Bodies: the dataset or the resource that each says, or what is told of it.
 ghost use Rattle.std.specs.Prelude.{IfNone, IsTrue};
 
-mod old;
-mod short;
-mod shown;
-
-use cases::{Case, Tally, check};
-use old::dataset_of;
+use crate::old::dataset_of;
+use crate::short::in_full;
+use crate::shown::{dataset_shown, faults_shown, resource_shown};
+use cases::Case;
 use packages::build::{BuildFault, build};
 use packages::package::Package;
 use packages::resources::resource_of;
 use portal_base::json_value::Json;
-use short::in_full;
-use shown::{dataset_shown, faults_shown, resource_shown};
 use std::alloc::{AllocError, Global};
 use std::io::{self, ErrorKind};
-use std::process::ExitCode;
 
 /// The body of a column, in which texts stand in short.
 fn body_of(alloc: Global, text: &str) -> io::Result<Json> {
@@ -52,7 +45,7 @@ fn built_shown(
 }
 
 /// How a body is taken, and the body: the dataset that is built, or what is told of each faulty key.
-fn dataset(alloc: Global, case: &Case) -> io::Result<Vec<u8>> {
+pub(crate) fn dataset(alloc: Global, case: &Case) -> io::Result<Vec<u8>> {
     let body = body_of(alloc, case.text(1)?)?;
     let shown = match case.text(0)?.split_once(' ') {
         None => built_shown(alloc, &body, None, true)?,
@@ -75,7 +68,7 @@ fn dataset(alloc: Global, case: &Case) -> io::Result<Vec<u8>> {
 }
 
 /// A resource's number, and its body: the resource, or what is told of each faulty key.
-fn resource(alloc: Global, case: &Case) -> io::Result<Vec<u8>> {
+pub(crate) fn resource(alloc: Global, case: &Case) -> io::Result<Vec<u8>> {
     let body = body_of(alloc, case.text(1)?)?;
     let shown = match resource_of(alloc, &body, case.parsed(0)?) {
         Ok(resource) => resource_shown(alloc, &resource)?,
@@ -88,14 +81,4 @@ fn resource(alloc: Global, case: &Case) -> io::Result<Vec<u8>> {
             .as_bytes()
             .to_vec(alloc)?,
     )
-}
-
-fn main(rt: HostRuntime) -> io::Result<ExitCode> {
-    let mut tally = Tally::new();
-    check(&rt, &mut tally, "datasets", 3, dataset)?;
-    check(&rt, &mut tally, "texts", 3, dataset)?;
-    check(&rt, &mut tally, "tags", 3, dataset)?;
-    check(&rt, &mut tally, "resources", 3, dataset)?;
-    check(&rt, &mut tally, "resource", 3, resource)?;
-    tally.end(&rt)
 }
