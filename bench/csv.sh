@@ -3,37 +3,8 @@
 # 100,000 and for 400,000 rows, so that growth is seen. Needs python3 to write the files and to measure.
 cd "$(dirname "$0")" || exit 1
 exec python3 -B - <<'PY'
-import datetime
-import json
-
 from measuring import built, measured
-
-START = datetime.date(1970, 1, 1)
-
-DESCRIPTOR = json.dumps({
-    "fields": [
-        {"name": "id", "type": "integer"},
-        {"name": "value", "type": "number"},
-        {"name": "day", "type": "date"},
-        {"name": "note", "constraints": {"maxLength": 40}},
-    ],
-    "primaryKey": "id",
-})
-
-
-def row(place):
-    day = (START + datetime.timedelta(days=place % 20000)).isoformat()
-    return f'{place},{place % 1000}.{place % 100:02d},{day},"Station {place % 40}, ""Nord"""\n'
-
-
-def rows_of(count):
-    def write(file):
-        file.write(b"id,value,day,note\n")
-        file.write("".join(row(place) for place in range(count)).encode())
-        return f"{count} rows"
-
-    return write
-
+from rows import DESCRIPTOR, rows_of
 
 program = built("row_count")
 print(f"{'rows':>9} {'MiB':>7} {'seconds':>9} {'k rows/s':>9} {'peak MiB':>9}")

@@ -10,12 +10,15 @@ from pathlib import Path
 CRATES = Path(__file__).resolve().parent.parent / "crates"
 
 
-def built(crate):
-    """The program of the crate, which `rt run` proves, compiles and links, and runs once."""
+def built(crate, *words):
+    """The program of the crate, which `rt run` proves, compiles and links, and runs once by these words or its own."""
     folder = CRATES / crate
-    words = folder / "args"
-    command = ["rt", "run", "--", *words.read_text().splitlines()] if words.exists() else ["rt", "run"]
-    with open(folder / "stdin", "rb") as given:
+    own = folder / "args"
+    if not words and own.exists():
+        words = own.read_text().splitlines()
+    stdin = folder / "stdin"
+    with open(stdin if stdin.exists() else os.devnull, "rb") as given:
+        command = ["rt", "run", "--", *words] if words else ["rt", "run"]
         run = subprocess.run(command, cwd=folder, stdin=given, stdout=subprocess.PIPE, stderr=subprocess.STDOUT)
     if run.returncode != 0:
         sys.stderr.buffer.write(run.stdout)

@@ -27,7 +27,7 @@ ROUNDS = 8
 # What is done behind the inserts: nothing, batches of known keys, filters, and sorted pages.
 BEHIND = {"inserts": (0, 0, 0), "batch": (BATCHES, 0, 0), "filter": (0, FILTERS, 0), "page": (0, 0, PAGES)}
 
-program = built("table_count")
+program = built("table_cases", "0", "0", "0", "0")
 
 
 def run_of(rows, behind):

@@ -128,8 +128,8 @@ impl Desk {
         }
     }
 
-    /// Works a call of `root`, and says whether it was accepted or shown.
-    fn work(&mut self, request: Request) -> bool {
+    /// Works a call of `root`.
+    pub fn reply(&mut self, request: Request) -> Reply {
         let call = Call {
             caller: Caller::Named(Text::from_static("root")),
             request,
@@ -137,7 +137,12 @@ impl Desk {
             moment: self.clock.now(),
             nonce: self.nonces.next(),
         };
-        match self.portal.act(&Event::Call(call)) {
+        self.portal.act(&Event::Call(call))
+    }
+
+    /// Works a call of `root`, and says whether it was accepted or shown.
+    fn work(&mut self, request: Request) -> bool {
+        match self.reply(request) {
             Reply::Accepted(_) => true,
             Reply::Shown(_) => true,
             Reply::Refused(_) => false,
