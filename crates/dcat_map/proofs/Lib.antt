@@ -1,5 +1,4 @@
 mod Examples
-pub mod DayLemmas
 pub mod DistributionLemmas
 pub mod InOrder
 pub mod LawLemmas

@@ -1,3 +1,4 @@
+pub mod CalendarLemmas
 pub mod CivilLemmas
 mod FaultExamples
 pub mod FaultLemmas

@@ -3,6 +3,7 @@ use Rattle.std.proofs.Common.{◌≡◌, refl, pos, negsuc, Some, None}
 use Rattle.std.specs.Prelude.{codes}
 use Rattle.portal_base.specs.Moment.{first_moment, last_moment}
 use Rattle.jiff_core.specs.Calendar.{day_count, days_from_civil, days_of_months, days_of_years}
+use Rattle.portal_base.specs.Calendar.{date_reading, minute_reading, moment_at, time_reading}
 use Rattle.portal_base.specs.MomentReading.{moment_reading}
 use Rattle.portal_base.specs.MomentText.{moment_text, count_off}
 
@@ -78,3 +79,24 @@ no_blank_for_the_sign = refl
 no_fraction : moment_reading (codes "2024-01-01T00:00:00.0") ≡ None
 unfolding moment_reading
 no_fraction = refl
+
+-- Times of day in minutes, and the moment of a date and a time.
+minutes : minute_reading (codes "05:30") ≡ Some 330
+unfolding minute_reading
+minutes = refl
+
+no_minute_60 : minute_reading (codes "05:60") ≡ None
+unfolding minute_reading
+no_minute_60 = refl
+
+no_time_of_one_digit : minute_reading (codes "5:30") ≡ None
+unfolding minute_reading
+no_time_of_one_digit = refl
+
+start_of_the_year : moment_at (codes "2024-01-01") (codes "00:00:00") ≡ Some (pos 1704067200)
+unfolding moment_at date_reading time_reading days_from_civil day_count days_of_years days_of_months
+start_of_the_year = refl
+
+no_moment_of_no_day : moment_at (codes "2023-02-29") (codes "00:00:00") ≡ None
+unfolding moment_at date_reading
+no_moment_of_no_day = refl

@@ -1,29 +1,19 @@
 -- The day and time of day that a text names, and the second of them.
-use Rattle.std.proofs.Common.{◌≡◌, ℕ, ◌+◌, ◌*◌, ◌≤◌, true, false, ◌&&◌, ◌↔◌, nat_lt, nat_le, cond, refl, sym, ap, ◌∙◌}
-use Rattle.std.proofs.Common.{subst, arith, List, get_or, ℤ, pos, negsuc, ◌+ℤ◌, ◌*ℤ◌, ◌≤ℤ◌, Option, Some, None, w8}
-use Rattle.std.proofs.Common.{w16, w64, to_z, of_z, FitsSigned}
-use Rattle.std.specs.Prelude.{Result, Ok, Err, is_ok, IsOk, IfOk, IsSome, IfSome, int_div}
-use Rattle.std.specs.Result.{result_ok}
+use Rattle.std.proofs.Common.{◌≡◌, ℕ, ◌+◌, ◌*◌, ◌≤◌, true, false, ◌&&◌, ◌↔◌, nat_lt, nat_le, cond, refl, ap}
+use Rattle.std.proofs.Common.{arith, List, get_or, ℤ, pos, negsuc, ◌+ℤ◌, ◌*ℤ◌, ◌≤ℤ◌, Some, None}
 use borrow.Author.Differences.{up, down}
-use Rattle.std.proofs.lemmas.Int.{ints, to_z-of_z}
 use Rattle.std.proofs.lemmas.Bool.{and_parts, and_from, and_right, leb-true, le-leb, ltb-true, lt-ltb}
-use Rattle.jiff_core.specs.declared.civil.datetime.DateTime.{DateTime}
-use Rattle.jiff_core.specs.declared.error.Error.{Error}
 use Rattle.jiff_core.specs.Calendar.{IsBetween, IsDate, days_in_month, days_from_civil, day_count}
-use Rattle.jiff_core.specs.DateTime.{civil_seconds}
-use Rattle.jiff_core.specs.Date.{IsYmd}
-use Rattle.jiff_core.specs.Time.{IsTime, IsHms}
+use Rattle.jiff_core.specs.Time.{IsTime}
 use Rattle.jiff_core.proofs.CalendarLemmas.{day_count_bounds, day_count-last_of_year, day_count-lt_year}
 use Rattle.jiff_core.proofs.CalendarLemmas.{day_count-next_year, days_from_civil-day_count}
-use Rattle.jiff_core.proofs.DateLemmas.{epoch_day_range}
 use Rattle.jiff_core.proofs.SignedLemmas.{signed_arith}
 use Rattle.portal_base.specs.Moment.{IsMoment}
 use Rattle.portal_base.specs.MomentReading.{fits_form, moment_form, number_at, year_in, month_in, day_in, hour_in}
 use Rattle.portal_base.specs.MomentReading.{minute_in, second_in, has_day, has_time, names_moment, seconds_in}
 use Rattle.portal_base.specs.MomentReading.{moment_reading}
-use Rattle.portal_base.proofs.CivilLemmas.{FitsSigned-moment}
 use Rattle.portal_base.proofs.FormLemmas.{fits_form-digit}
-use Rattle.portal_base.proofs.MomentTextLemmas.{civil_seconds-parts, day_count-year_zero}
+use Rattle.portal_base.proofs.MomentTextLemmas.{day_count-year_zero}
 
 -- Two digits make a number below 100.
 pub number_at-bound : (text : List ℕ) (place : ℕ) → fits_form moment_form text ≡ true
@@ -96,91 +86,6 @@ names_moment-is text h =
     (has_time (hour_in text) (minute_in text) (second_in text)) in
     (λ t. (day.0 (both t).0, time.0 (both t).1), λ k. and_from _ _ (day.1 k.0) (time.1 k.1))
 
--- What making a date and time of day of these parts answers, where the parts are those that the text names.
-abbrev pub MakesNamed : List ℕ → Result DateTime Error → Type 0
-MakesNamed text made =
-    (IsOk made ↔
-    (IsDate (pos (year_in text)) (pos (month_in text)) (pos (day_in text))
-    × IsTime (pos (hour_in text)) (pos (minute_in text)) (pos (second_in text)) (pos 0)))
-    × IfOk made (λ at. IsYmd (pos (year_in text)) (pos (month_in text)) (pos (day_in text)) at.date
-    × IsHms (pos (hour_in text)) (pos (minute_in text)) (pos (second_in text)) (pos 0) at.time)
-
-abbrev pub Makes : ℤ → ℤ → ℤ → ℤ → ℤ → ℤ → Result DateTime Error → Type 0
-Makes y m d h n s made =
-    (IsOk made ↔ (IsDate y m d × IsTime h n s (pos 0)))
-    × IfOk made (λ at. IsYmd y m d at.date × IsHms h n s (pos 0) at.time)
-
-same_year : (z : ℤ) (n : ℕ) → z ≡ pos n → n ≤ 9999 → to_z w16 (of_z w16 z) ≡ pos n
-same_year z n e h = ap (λ x. to_z w16 (of_z w16 x)) e ∙ to_z-of_z w16 (pos n) (omega (arith, ints))
-
-same_part : (z : ℤ) (n : ℕ) → z ≡ pos n → n ≤ 99 → to_z w8 (of_z w8 z) ≡ pos n
-same_part z n e h = ap (λ x. to_z w8 (of_z w8 x)) e ∙ to_z-of_z w8 (pos n) (omega (arith, ints))
-
-parts_from : (made : Result DateTime Error) (y m d h n s y' m' d' h' n' s' : ℤ) → y ≡ y' → m ≡ m' → d ≡ d' → h ≡ h'
-    → n ≡ n' → s ≡ s' → Makes y m d h n s made → Makes y' m' d' h' n' s' made
-parts_from made y m d h n s y' m' d' h' n' s' year month day hour minute second makes =
-    subst (λ z. Makes z m' d' h' n' s' made) year
-    (subst (λ z. Makes y z d' h' n' s' made) month
-    (subst (λ z. Makes y m z h' n' s' made) day
-    (subst (λ z. Makes y m d z n' s' made) hour
-    (subst (λ z. Makes y m d h z s' made) minute
-    (subst (λ z. Makes y m d h n z made) second makes)))))
-
-pub MakesNamed-from : (text : List ℕ) (made : Result DateTime Error) (y m d h n s : ℤ)
-    → fits_form moment_form text ≡ true → y ≡ pos (year_in text) → m ≡ pos (month_in text) → d ≡ pos (day_in text)
-    → h ≡ pos (hour_in text) → n ≡ pos (minute_in text) → s ≡ pos (second_in text)
-    → Makes (to_z w16 (of_z w16 y)) (to_z w8 (of_z w8 m)) (to_z w8 (of_z w8 d)) (to_z w8 (of_z w8 h))
-    (to_z w8 (of_z w8 n)) (to_z w8 (of_z w8 s)) made → MakesNamed text made
-MakesNamed-from text made y m d h n s form year month day hour minute second makes =
-    parts_from made _ _ _ _ _ _ _ _ _ _ _ _ (same_year y (year_in text) year (year_in-bound text form))
-    (same_part m (month_in text) month (number_at-bound text 5 form refl refl))
-    (same_part d (day_in text) day (number_at-bound text 8 form refl refl))
-    (same_part h (hour_in text) hour (number_at-bound text 11 form refl refl))
-    (same_part n (minute_in text) minute (number_at-bound text 14 form refl refl))
-    (same_part s (second_in text) second (number_at-bound text 17 form refl refl)) makes
-
--- It is made exactly where the text names a moment.
-pub MakesNamed-there : (text : List ℕ) (made : Result DateTime Error) → fits_form moment_form text ≡ true
-    → MakesNamed text made → (is_ok made ≡ true) ↔ (names_moment text ≡ true)
-MakesNamed-there text made h makes =
-    let named = names_moment-is text h in
-    (λ ok. named.1 (makes.0.0 ok), λ t. makes.0.1 (named.0 t))
-
--- The second of the date and time of day with these parts.
-civil_seconds-named : (text : List ℕ) (at : DateTime)
-    → IsYmd (pos (year_in text)) (pos (month_in text)) (pos (day_in text)) at.date
-    → IsHms (pos (hour_in text)) (pos (minute_in text)) (pos (second_in text)) (pos 0) at.time
-    → civil_seconds at ≡ seconds_in text
-unfolding civil_seconds
-civil_seconds-named text at ymd hms =
-    let month : at.date.month ≡ month_in text = omega (arith, signed_arith, ymd.1) in
-    let day : at.date.day ≡ day_in text = omega (arith, signed_arith, ymd.2) in
-    let hour : at.time.hour ≡ hour_in text = omega (arith, signed_arith, hms.0) in
-    let minute : at.time.minute ≡ minute_in text = omega (arith, signed_arith, hms.1) in
-    let second : at.time.second ≡ second_in text = omega (arith, signed_arith, hms.2) in
-    rw (ymd.0, month, day, hour, minute, second) refl
-
-pub MakesNamed-second : (text : List ℕ) (made : Result DateTime Error) → MakesNamed text made
-    → IfSome (result_ok made) (λ at. civil_seconds at ≡ seconds_in text)
-MakesNamed-second text (Ok at) makes = civil_seconds-named text at makes.1.0 makes.1.1
-MakesNamed-second text (Err e) makes = tt
-
--- Whole seconds, as nanoseconds divided again.
-pub int_div-whole : (nanos seconds : ℤ) → nanos ≡ seconds *ℤ pos 1000000000 → int_div nanos (pos 1000000000) ≡ seconds
-int_div-whole nanos seconds e = omega (arith, signed_arith)
-
-pub civil_seconds-fits : (at : DateTime) → FitsSigned w64 (civil_seconds at)
-civil_seconds-fits at =
-    omega (
-      arith,
-      signed_arith,
-      civil_seconds-parts at,
-      epoch_day_range at.date,
-      at.time.hour_in,
-      at.time.minute_in,
-      at.time.second_in,
-    )
-
 -- A text of another form, or one that names no day and time of day, is read as none.
 pub moment_reading-other_form : (text : List ℕ) → fits_form moment_form text ≡ false → moment_reading text ≡ None
 unfolding moment_reading
@@ -198,7 +103,7 @@ moment_reading-named text h t =
     ap (λ b. cond b (Some (seconds_in text)) None) (and_from (fits_form moment_form text) (names_moment text) h t)
 
 -- The days of the calendar from the year 0000 on, counted from the year -10000, begin with this one.
-from_year_zero : (y m d : ℕ) → 1 ≤ d → 3652425 ≤ day_count (pos y) m d
+pub from_year_zero : (y m d : ℕ) → 1 ≤ d → 3652425 ≤ day_count (pos y) m d
 from_year_zero y m d first =
     let before : pos 0 ≡ negsuc 0 +ℤ pos 1 = refl in
     omega (
@@ -236,17 +141,3 @@ IsMoment-named text h t =
     within : (days : ℤ) (count h n s : ℕ) → up days + 4371953 ≡ down days + count → 3652425 ≤ count → count ≤ 7304849
         → h ≤ 23 → n ≤ 59 → s ≤ 59 → IsMoment (days *ℤ pos 86400 +ℤ pos (h * 3600 + n * 60 + s))
     within days count h n s e low high hour minute second = (omega (arith, signed_arith), omega (arith, signed_arith))
-
--- What is made of the second that the text names is the moment that is read.
-pub moment_reading-made : (text : List ℕ) (made : Option ℤ) (second : ℤ) → fits_form moment_form text ≡ true
-    → names_moment text ≡ true → second ≡ seconds_in text → (IsMoment (to_z w64 (of_z w64 second)) → IsSome made)
-    → IfSome made (λ moment. moment ≡ to_z w64 (of_z w64 second)) → made ≡ moment_reading text
-moment_reading-made text made second h t e within same =
-    let moment : IsMoment second = subst IsMoment (sym e) (IsMoment-named text h t) in
-    let fits : to_z w64 (of_z w64 second) ≡ second = FitsSigned-moment second moment in
-    some made (within (subst IsMoment (sym fits) moment)) same (fits ∙ e) ∙ sym (moment_reading-named text h t)
-  where
-    some : (o : Option ℤ) → IsSome o → {z : ℤ} → IfSome o (λ moment. moment ≡ z) → z ≡ seconds_in text
-        → o ≡ Some (seconds_in text)
-    some None is {z} k e = cc
-    some (Some x) is {z} k e = ap (λ y. Some y) (k ∙ e)

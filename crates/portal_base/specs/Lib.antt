@@ -1,3 +1,4 @@
+pub mod Calendar
 pub mod Counted
 pub mod Faults
 pub mod formers

@@ -1,6 +1,7 @@
 //! What every layer of the portal stands on: texts, lists, names, moments, JSON, and the outside as traits.
 #![tactic(auto)]
 
+pub mod calendar;
 pub mod caller;
 pub mod characters;
 pub mod copy;

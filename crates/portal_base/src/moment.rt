@@ -1,11 +1,12 @@
 //! Moments of the calendar, in whole seconds of UTC.
-ghost use Rattle.std.specs.Prelude.{◌≡◌, ◌+◌, ◌↔◌, IsTrue, IsSome, IfSome, IfOk, Some, pos, slice_index};
+ghost use Rattle.std.specs.Prelude.{◌≡◌, ◌↔◌, IsSome, IfSome, IfOk, Some};
 ghost use Rattle.jiff.specs.Words.{civil_seconds};
+ghost use Rattle.portal_base.specs.Calendar.{moment_at};
 ghost use Rattle.portal_base.specs.Moment.{IsMoment};
-ghost use Rattle.portal_base.specs.MomentReading.{fits_form, fits_place, moment_form, moment_reading, names_moment};
-ghost use Rattle.portal_base.specs.MomentReading.{number_at, seconds_in, year_in};
+ghost use Rattle.portal_base.specs.MomentReading.{moment_reading};
 ghost use Rattle.portal_base.specs.MomentText.{IsMomentText, moment_text};
 
+use crate::calendar::{date_of, second_of};
 use crate::text::Text;
 use jiff::SignedDuration;
 use jiff::civil::{DateTime, Time, date};
@@ -17,9 +18,6 @@ const FIRST_SECOND: i64 = -62_167_219_200;
 
 /// 9999-12-31T23:59:59.
 const LAST_SECOND: i64 = 253_402_300_799;
-
-/// The form of a moment's text, where a 0 stands for any decimal digit.
-const FORM: [u8; 19] = *b"0000-00-00T00:00:00";
 
 /// A moment in whole seconds, from 0000-01-01T00:00:00 to 9999-12-31T23:59:59 UTC. A contract sees it as the
 /// number of seconds since 1970-01-01T00:00:00, on the calendar of ISO 8601 without leap seconds.
@@ -54,17 +52,26 @@ impl Moment {
         }
     }
 
+    /// The moment of a date `YYYY-MM-DD` and a time `hh:mm:ss` (ISO 8601, sections 5.2.1.1 and 5.3.1.1), if the
+    /// calendar has the one and the clock the other.
+    pub fn at(date: &[u8], time: &[u8]) -> Option<Moment>
+        ensures { result ≡ moment_at date.now time.now }
+    {
+        let day = date_of(date)?;
+        let second = second_of(time)?;
+        Moment::from_seconds(i64::from(day) * 86_400 + i64::from(second))
+    }
+
     /// The moment that a text `YYYY-MM-DDThh:mm:ss` (ISO 8601, section 5.4.2.1) names, if the text has just that form
     /// and the calendar has the day. It is the one text of its moment.
     pub fn read(text: &str) -> Option<Moment>
         ensures { result ≡ moment_reading text.now }
     {
         let bytes = text.as_bytes();
-        if !has_form(bytes) {
+        if bytes.len() != 19 || bytes[10] != b'T' {
             return None;
         }
-        let civil = civil_in(bytes)?;
-        Moment::from_seconds(seconds_of(civil))
+        Moment::at(&bytes[..10], &bytes[11..])
     }
 
     /// Seconds since 1970-01-01T00:00:00.
@@ -96,75 +103,4 @@ fn civil_of(moment: Moment) -> DateTime
     start
         .checked_add(SignedDuration::from_secs(moment.seconds))
         .unwrap()
-}
-
-/// Whether the text has the form of a moment's text.
-fn has_form(text: &[u8]) -> bool
-    ensures { result ≡ fits_form moment_form text.now }
-{
-    if text.len() != FORM.len() {
-        return false;
-    }
-    for place in 0..FORM.len() {
-        if !fits_place(FORM[place], text[place]) {
-            return false;
-        }
-    }
-    true
-}
-
-/// Whether the byte is a decimal digit where the form has a 0, else what the form has.
-fn fits_place(place: u8, byte: u8) -> bool
-    ensures { result ≡ fits_place place byte }
-{
-    if place == b'0' {
-        byte >= b'0' && byte <= b'9'
-    } else {
-        byte == place
-    }
-}
-
-/// The number of the two digits that begin at the place.
-fn number_at(text: &[u8], place: usize) -> i8
-    requires form { IsTrue (fits_form moment_form text.now) }
-    requires tens { slice_index moment_form place ≡ 48 }
-    requires units { slice_index moment_form (place + 1) ≡ 48 }
-    ensures { result ≡ pos (number_at place text.now) }
-{
-    let tens = text[place] - b'0';
-    let units = text[place + 1] - b'0';
-    (tens * 10 + units) as i8
-}
-
-/// The year that the text names.
-fn year_in(text: &[u8]) -> i16
-    requires { IsTrue (fits_form moment_form text.now) }
-    ensures { result ≡ pos (year_in text.now) }
-{
-    i16::from(number_at(text, 0)) * 100 + i16::from(number_at(text, 2))
-}
-
-/// The date and time of day that the text names, if the calendar and the clock have them.
-fn civil_in(text: &[u8]) -> Option<DateTime>
-    requires { IsTrue (fits_form moment_form text.now) }
-    ensures there { IsSome result ↔ IsTrue (names_moment text.now) }
-    ensures second { IfSome result (λ at. civil_seconds at ≡ seconds_in text.now) }
-    ensures whole { IfSome result (λ at. at.time.subsec_nanosecond ≡ 0) }
-{
-    let year = year_in(text);
-    let month = number_at(text, 5);
-    let day = number_at(text, 8);
-    let hour = number_at(text, 11);
-    let minute = number_at(text, 14);
-    let second = number_at(text, 17);
-    DateTime::new(year, month, day, hour, minute, second, 0).ok()
-}
-
-/// Seconds from 1970-01-01T00:00:00 to the date and time of day.
-fn seconds_of(civil: DateTime) -> i64
-    requires { civil.time.subsec_nanosecond ≡ 0 }
-    ensures { result ≡ civil_seconds civil }
-{
-    let start = date(1970, 1, 1).to_datetime(Time::midnight());
-    civil.duration_since(start).as_secs()
 }

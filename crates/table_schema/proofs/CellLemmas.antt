@@ -21,8 +21,9 @@ use Rattle.table_schema.specs.declared.form.Form.TheVariants as form
 use Rattle.table_schema.specs.declared.form.Kind.{Kind}
 use Rattle.table_schema.specs.declared.form.Kind.TheVariants as kind
 use Rattle.lexical_forms.specs.declared.form.NumberForm.{NumberForm}
-use Rattle.table_schema.specs.Calendar.{date_reading, time_reading, year_reading, yearmonth_reading, stamp_reading}
-use Rattle.table_schema.specs.Calendar.{zoned_time_reading, is_time_mark, has_month, seconds_of}
+use Rattle.portal_base.specs.Calendar.{date_reading, time_reading, year_reading, yearmonth_reading, has_month}
+use Rattle.portal_base.specs.Calendar.{moment_at}
+use Rattle.table_schema.specs.Stamp.{stamp_reading, is_time_mark, is_zone, zoned_moment}
 use Rattle.table_schema.specs.Constraint.{constraint_fault}
 use Rattle.table_schema.specs.Field.{FieldValue}
 use Rattle.lexical_forms.specs.Digits.{is_digits, spelled, is_negative, unsigned, signed}
@@ -34,8 +35,7 @@ use Rattle.table_schema.specs.Printed.{IsValue, cell_text, cell_value}
 use Rattle.table_schema.specs.Reading.{text_reading, whole_cell, truth_cell, value_in, value_reading, default_form}
 use Rattle.table_schema.specs.Reading.{kind_of_cell, kept, record_reading, record_reading_in, Accepts, IsFault}
 use Rattle.table_schema.specs.Truth.{truth_reading}
-use Rattle.table_schema.proofs.CalendarLemmas.{date_reading-IsDay, time_reading-bound, zoned_time_reading-bound}
-use Rattle.table_schema.proofs.CalendarLemmas.{IsMoment-seconds_of}
+use Rattle.portal_base.proofs.CalendarLemmas.{date_reading-IsDay, time_reading-bound, moment_at-IsMoment}
 use Rattle.lexical_forms.proofs.ReadingLemmas.{map-some, then-some, if-some}
 use Rattle.lexical_forms.proofs.NumberTextLemmas.{number_text-back}
 use Rattle.table_schema.proofs.PrintLemmas.{date_text-back, clock_text-back, stamp_reading-back, year_month_text-back}
@@ -81,13 +81,9 @@ number_reading-size spelling cs z e =
 stamp_reading-IsMoment : (text : List ℕ) (z : ℤ) → stamp_reading text ≡ Some z → IsMoment z
 unfolding stamp_reading
 stamp_reading-IsMoment text z e =
-    let read = (if-some (is_time_mark (get_or text 10 0)) _ z e).1 in
-    let day = then-some (λ day. option_map (seconds_of day) (zoned_time_reading (drop 11 text)))
-    (date_reading (take 10 text)) z read in
-    let second = map-some (seconds_of day.0) (zoned_time_reading (drop 11 text)) z day.2 in
-    subst IsMoment second.2
-    (IsMoment-seconds_of day.0 second.0 (date_reading-IsDay (take 10 text) day.0 day.1)
-    (zoned_time_reading-bound (drop 11 text) second.0 second.1))
+    let marked = (if-some (is_time_mark (get_or text 10 0)) (zoned_moment (take 10 text) (drop 11 text)) z e).1 in
+    let zoned = (if-some (is_zone (drop 8 (drop 11 text))) (moment_at (take 10 text) (take 8 (drop 11 text))) z marked).1 in
+    moment_at-IsMoment (take 10 text) (take 8 (drop 11 text)) z zoned
 
 year_in-small : (text : List ℕ) → (get_or text 0 0 ≤ 57) → (get_or text 1 0 ≤ 57) → (get_or text 2 0 ≤ 57)
     → (get_or text 3 0 ≤ 57) → year_in text ≤ 9999

@@ -9,7 +9,8 @@ use Rattle.std.proofs.lemmas.Slice.Eq.{bytes_eq-Decides}
 use Rattle.lexical_forms.proofs.FieldFormLemmas.{integer_where_one, number_where_one}
 use Rattle.lexical_forms.proofs.ReadingLemmas.{map-some}
 use Rattle.lexical_forms.specs.Number.{integer_reading, number_reading}
-use Rattle.table_schema.specs.Calendar.{date_reading, time_reading, stamp_reading, year_reading, yearmonth_reading}
+use Rattle.portal_base.specs.Calendar.{date_reading, time_reading, year_reading, yearmonth_reading}
+use Rattle.table_schema.specs.Stamp.{stamp_reading}
 use Rattle.table_schema.specs.Constraint.{constraint_fault, keeps_length, keeps_range, keeps_enum}
 use Rattle.table_schema.specs.Field.{FieldValue}
 use Rattle.table_schema.specs.Reading.{text_reading, null_reading, kept, cell_reading, Reads, Fails}

@@ -12,7 +12,7 @@ use Rattle.table_schema.specs.declared.cell.CellFault.TheVariants.{Required}
 use Rattle.table_schema.specs.declared.form.Form.TheVariants as form
 use Rattle.table_schema.specs.declared.form.Truths.{Truths}
 use Rattle.table_schema.proofs.CellTextLemmas.{among-other}
-use Rattle.table_schema.specs.Calendar.{date_reading, time_reading, yearmonth_reading}
+use Rattle.portal_base.specs.Calendar.{date_reading, time_reading, yearmonth_reading}
 use Rattle.table_schema.specs.Descriptor.{no_constraints}
 use Rattle.table_schema.specs.Field.{FieldValue}
 use Rattle.table_schema.specs.Reading.{cell_reading}

@@ -1,4 +1,4 @@
-mod CalendarLemmas
+mod StampLemmas
 pub mod CellLemmas
 mod CellTextLemmas
 mod ColumnLemmas

@@ -1,59 +1,31 @@
 -- Printed dates, times and months are read back.
-use Rattle.std.proofs.Common.{◌≡◌, ℕ, zero, suc, ◌+◌, ◌-◌, ◌*◌, ◌/◌, ◌%◌, ◌<◌, ◌≤◌, true, false, ◌&&◌, cond, leb, ltb}
+use Rattle.std.proofs.Common.{◌≡◌, ℕ, ◌+◌, ◌-◌, ◌*◌, ◌/◌, ◌%◌, ◌<◌, ◌≤◌, true, false, ◌&&◌, cond, leb, ltb}
 use Rattle.std.proofs.Common.{refl, sym, ap, ◌∙◌, arith, Bool, List, [], ◌∷◌, ◌++◌, length, get_or, take, drop, ℤ}
 use Rattle.std.proofs.Common.{pos, negsuc, ◌+ℤ◌, ◌-ℤ◌, ◌*ℤ◌, ◌≤ℤ◌, length-drop}
 use Rattle.std.specs.Prelude.{Some, None, unsigned_abs, codes}
 use Rattle.std.specs.List.{list_all}
 use Rattle.std.specs.Str.{IsAscii, IsCharBoundary}
 use Rattle.std.proofs.lemmas.Nat.{div-mul-add, mod-mul-add}
-use Rattle.std.proofs.lemmas.List.{get_or-take, get_or-drop, nil_from_length}
+use Rattle.std.proofs.lemmas.List.{take_all, nil_from_length}
 use Rattle.std.proofs.lemmas.Int.{ints}
 use Rattle.std.proofs.lemmas.Bool.{and_parts, and_from, cond-true, le-leb, ltb-true}
 use Rattle.std.proofs.lemmas.Bool.Decides.{nat_tests}
 use Rattle.std.proofs.lemmas.Str.{IsCharBoundary-from_ascii}
-use Rattle.jiff_core.specs.Calendar.{days_from_civil}
 use Rattle.portal_base.specs.Moment.{IsMoment, first_moment}
-use Rattle.portal_base.specs.MomentReading.{fits_form, fits_place, moment_form, number_at, year_in, has_day, has_time}
+use Rattle.portal_base.specs.MomentReading.{fits_form, fits_place, moment_form, number_at, year_in}
 use Rattle.portal_base.specs.MomentReading.{names_moment, seconds_in, moment_reading}
 use Rattle.portal_base.specs.MomentText.{moment_text, clock_text, day_text, calendar_seconds}
 use Rattle.portal_base.proofs.FormLemmas.{fits_form-at, fits_form-length}
 use Rattle.portal_base.proofs.ReadingBack.{reading-moment_text}
-use Rattle.table_schema.specs.Calendar.{date_reading, time_reading, stamp_reading, zoned_time_reading}
-use Rattle.table_schema.specs.Calendar.{yearmonth_reading, has_month, is_zone, is_time_mark, seconds_of}
-use Rattle.table_schema.specs.Printed.{IsDay, date_text, year_month_text}
-use Rattle.table_schema.proofs.CalendarLemmas.{time_reading-bound, stamp_reading-read, IsMoment-seconds_of}
+use Rattle.portal_base.proofs.CalendarLemmas.{time_reading-bound, moment_at-parts, moment_at-read, moment_reading-at}
+use Rattle.portal_base.proofs.CalendarLemmas.{IsMoment-seconds_of}
+use Rattle.portal_base.specs.Calendar.{IsDay, date_reading, time_reading, yearmonth_reading, has_month, seconds_of}
+use Rattle.table_schema.specs.Stamp.{stamp_reading, is_zone, is_time_mark}
+use Rattle.table_schema.specs.Printed.{date_text, year_month_text}
+use Rattle.lexical_forms.proofs.ReadingLemmas.{if-some}
 use Rattle.lexical_forms.proofs.NumberTextLemmas.{IsAscii-cons, IsAscii-nil}
 
 -- ---- moments, and their dates and times of day
-
-fits_form-take : (n : ℕ) (form text : List ℕ) → fits_form form text ≡ true
-    → fits_form (take n form) (take n text) ≡ true
-fits_form-take zero form text h = refl
-fits_form-take (suc n) [] [] h = refl
-fits_form-take (suc n) [] (c ∷ text) h = cc
-fits_form-take (suc n) (p ∷ form) [] h = cc
-fits_form-take (suc n) (p ∷ form) (c ∷ text) h =
-    let parts = and_parts (fits_place p c) (fits_form form text) h in
-    and_from (fits_place p c) _ parts.0 (fits_form-take n form text parts.1)
-
-fits_form-drop : (n : ℕ) (form text : List ℕ) → fits_form form text ≡ true
-    → fits_form (drop n form) (drop n text) ≡ true
-fits_form-drop zero form text h = h
-fits_form-drop (suc n) [] [] h = refl
-fits_form-drop (suc n) [] (c ∷ text) h = cc
-fits_form-drop (suc n) (p ∷ form) [] h = cc
-fits_form-drop (suc n) (p ∷ form) (c ∷ text) h =
-    fits_form-drop n form text (and_parts (fits_place p c) (fits_form form text) h).1
-
-number_at-take : (n k : ℕ) (text : List ℕ) → k + 1 < n → number_at k (take n text) ≡ number_at k text
-number_at-take n k text h =
-    let before : k < n = omega arith in
-    rw (get_or-take n text k 0 before, get_or-take n text (k + 1) 0 h) refl
-
-number_at-drop : (n k : ℕ) (text : List ℕ) → number_at k (drop n text) ≡ number_at (n + k) text
-number_at-drop n k text =
-    let same : n + (k + 1) ≡ n + k + 1 = omega arith in
-    rw (get_or-drop n text k 0, get_or-drop n text (k + 1) 0, same) refl
 
 -- the date and the time of day in the text of a moment
 pub record Split (text : List ℕ) (seconds : ℤ) : Type 0 where
@@ -65,63 +37,38 @@ pub record Split (text : List ℕ) (seconds : ℤ) : Type 0 where
   pub mark : get_or text 10 0 ≡ 84
   pub long : length text ≡ 19
 
-named-day : (text : List ℕ) → fits_form moment_form text ≡ true → names_moment text ≡ true
-    → date_reading (take 10 text) ≡ Some (days_from_civil (pos (year_in text)) (number_at 5 text) (number_at 8 text))
-unfolding date_reading
-named-day text fits named =
-    let form : fits_form (codes "0000-00-00") (take 10 text) ≡ true = fits_form-take 10 moment_form text fits in
-    let there : has_day (year_in text) (number_at 5 text) (number_at 8 text) ≡ true =
-    (and_parts (has_day (year_in text) (number_at 5 text) (number_at 8 text)) _ named).0 in
-    let century : number_at 0 (take 10 text) ≡ number_at 0 text = number_at-take 10 0 text (omega arith) in
-    let year : number_at 2 (take 10 text) ≡ number_at 2 text = number_at-take 10 2 text (omega arith) in
-    let month : number_at 5 (take 10 text) ≡ number_at 5 text = number_at-take 10 5 text (omega arith) in
-    let day : number_at 8 (take 10 text) ≡ number_at 8 text = number_at-take 10 8 text (omega arith) in
-    rw (form, century, year, month, day, there) refl
-
-named-second : (text : List ℕ) → fits_form moment_form text ≡ true → names_moment text ≡ true
-    → time_reading (take 8 (drop 11 text))
-    ≡ Some (number_at 11 text * 3600 + number_at 14 text * 60 + number_at 17 text)
-unfolding time_reading
-named-second text fits named =
-    let form : fits_form (codes "00:00:00") (take 8 (drop 11 text)) ≡ true =
-    fits_form-take 8 (drop 11 moment_form) (drop 11 text) (fits_form-drop 11 moment_form text fits) in
-    let there : has_time (number_at 11 text) (number_at 14 text) (number_at 17 text) ≡ true =
-    (and_parts (has_day (year_in text) (number_at 5 text) (number_at 8 text)) _ named).1 in
-    let hour : number_at 0 (take 8 (drop 11 text)) ≡ number_at 11 text =
-    number_at-take 8 0 (drop 11 text) (omega arith) ∙ number_at-drop 11 0 text in
-    let minute : number_at 3 (take 8 (drop 11 text)) ≡ number_at 14 text =
-    number_at-take 8 3 (drop 11 text) (omega arith) ∙ number_at-drop 11 3 text in
-    let second : number_at 6 (take 8 (drop 11 text)) ≡ number_at 17 text =
-    number_at-take 8 6 (drop 11 text) (omega arith) ∙ number_at-drop 11 6 text in
-    rw (form, hour, minute, second, there) refl
+moment_reading-form : (text : List ℕ) (seconds : ℤ) → moment_reading text ≡ Some seconds
+    → fits_form moment_form text ≡ true
+unfolding moment_reading
+moment_reading-form text seconds e =
+    (and_parts (fits_form moment_form text) (names_moment text)
+    (if-some (fits_form moment_form text && names_moment text) (Some (seconds_in text)) seconds e).0).0
 
 moment_reading-Split : (text : List ℕ) (seconds : ℤ) → moment_reading text ≡ Some seconds → Split text seconds
-unfolding moment_reading
-moment_reading-Split text seconds e = by_form (fits_form moment_form text) refl e
-  where
-    by_names : (b : Bool) → fits_form moment_form text ≡ true → names_moment text ≡ b
-        → cond b (Some (seconds_in text)) None ≡ Some seconds → Split text seconds
-    by_names true fits named h = record {
-      day = days_from_civil (pos (year_in text)) (number_at 5 text) (number_at 8 text);
-      second = number_at 11 text * 3600 + number_at 14 text * 60 + number_at 17 text;
-      date = named-day text fits named;
-      time = named-second text fits named;
-      sum = cc;
-      mark = let same = fits_form-at moment_form text 10 fits (omega arith) in grind (arith, nat_tests);
-      long = fits_form-length moment_form text fits;
+moment_reading-Split text seconds e =
+    let fits = moment_reading-form text seconds e in
+    let long = fits_form-length moment_form text fits in
+    let mark : get_or text 10 0 ≡ 84 =
+    (let same = fits_form-at moment_form text 10 fits (omega arith) in grind (arith, nat_tests)) in
+    let parts = moment_at-parts (take 10 text) (drop 11 text) seconds (moment_reading-at text long mark ∙ e) in
+    let whole : take 8 (drop 11 text) ≡ drop 11 text =
+    take_all 8 (drop 11 text) (omega (arith, long, length-drop {A = ℕ})) in
+    record {
+      day = parts.0;
+      second = parts.1;
+      date = parts.2;
+      time = ap time_reading whole ∙ parts.3;
+      sum = parts.4;
+      mark = mark;
+      long = long;
     }
-    by_names false fits named h = cc
-
-    by_form : (b : Bool) → fits_form moment_form text ≡ b
-        → cond (b && names_moment text) (Some (seconds_in text)) None ≡ Some seconds → Split text seconds
-    by_form true fits h = by_names (names_moment text) fits refl h
-    by_form false fits h = cc
 
 pub moment_text-Split : (seconds : ℤ) → IsMoment seconds → Split (moment_text seconds) seconds
 moment_text-Split seconds h = moment_reading-Split (moment_text seconds) seconds (reading-moment_text seconds h)
 
 -- The text of a moment is read as a date-time.
 pub stamp_reading-back : (seconds : ℤ) → IsMoment seconds → stamp_reading (moment_text seconds) ≡ Some seconds
+unfolding stamp_reading
 stamp_reading-back seconds h =
     let split = moment_text-Split seconds h in
     let text = moment_text seconds in
@@ -129,8 +76,9 @@ stamp_reading-back seconds h =
     let ends : drop 8 (drop 11 text) ≡ [] =
     nil_from_length (drop 8 (drop 11 text)) (omega (arith, length-drop {A = ℕ}, split.long)) in
     let zone : is_zone (drop 8 (drop 11 text)) ≡ true = rw ends refl in
-    let time : zoned_time_reading (drop 11 text) ≡ Some split.second = cond-true _ _ _ zone ∙ split.time in
-    stamp_reading-read text split.day split.second mark split.date time ∙ ap Some split.sum
+    cond-true _ _ _ mark ∙ cond-true _ _ _ zone
+    ∙ moment_at-read (take 10 text) (take 8 (drop 11 text)) split.day split.second split.date split.time
+    ∙ ap Some split.sum
 
 same_day : (a b : ℤ) (s t : ℕ) → s < 86400 → t < 86400 → a *ℤ pos 86400 +ℤ pos s ≡ b *ℤ pos 86400 +ℤ pos t
     → (a ≡ b) × (s ≡ t)

@@ -8,10 +8,10 @@ use Rattle.portal_base.specs.MomentReading.{has_day}
 use Rattle.portal_base.specs.MomentText.{clock_text, moment_text}
 use Rattle.portal_base.proofs.MomentTextLemmas.{parts_text}
 use Rattle.portal_base.proofs.ReadingBack.{reading-parts, reading-only}
-use Rattle.table_schema.specs.Calendar.{has_month, seconds_of}
-use Rattle.table_schema.specs.Printed.{IsDay, date_text}
+use Rattle.portal_base.specs.Calendar.{IsDay, has_month, seconds_of}
+use Rattle.table_schema.specs.Printed.{date_text}
 use Rattle.table_schema.specs.Texts.{IsDateText, IsTimeText}
-use Rattle.table_schema.proofs.CalendarLemmas.{date_reading-IsDay, IsDay-from}
+use Rattle.portal_base.proofs.CalendarLemmas.{date_reading-IsDay, IsDay-from}
 use Rattle.table_schema.proofs.PrintLemmas.{moment_text-of, date_text-back, clock_text-back}
 use Rattle.table_schema.proofs.TextLemmas.{date_where_of_form, time_where_of_form}
 

@@ -3,18 +3,20 @@ use Rattle.std.proofs.Common.{◌≡◌, ◌⊎◌, inl, inr, ℕ, ◌+◌, ◌-
 use Rattle.std.proofs.Common.{nat_le, nat_lt, cond, eqb, leb, refl, sym, ap, ◌∙◌, subst, arith, Bool, List, []}
 use Rattle.std.proofs.Common.{◌∷◌, ◌++◌}
 use Rattle.std.proofs.Common.{length, take, drop, get_or, append-nil, append_assoc, length-take, length-drop, ℤ, pos}
-use Rattle.std.specs.Prelude.{◌↔◌, Option, Some, None, codes, option_map, option_and_then, unwrap_or}
+use Rattle.std.specs.Prelude.{◌↔◌, Option, Some, None, codes, unwrap_or}
 use Rattle.std.proofs.Math.Seq.{drop-cons}
 use Rattle.std.proofs.lemmas.Bool.{and_parts, and_from, cond-true, eqb-true, le-leb, leb-true, ltb-true, lt-ltb}
 use Rattle.std.proofs.lemmas.List.{take-append-drop}
 use Rattle.jiff_core.specs.Calendar.{days_in_month, days_from_civil}
 use Rattle.jiff_core.proofs.CalendarLemmas.{days_in_month_bounds}
-use Rattle.lexical_forms.proofs.ReadingLemmas.{if-some, then-some, map-some}
+use Rattle.lexical_forms.proofs.ReadingLemmas.{if-some}
 use Rattle.portal_base.specs.MomentReading.{fits_form, fits_place, number_at, year_in, has_day, has_time}
 use Rattle.portal_base.specs.MomentText.{two_digits, four_digits}
 use Rattle.portal_base.proofs.FormLemmas.{fits_place-digit}
-use Rattle.table_schema.specs.Calendar.{date_reading, day_in, time_reading, second_in, year_reading, yearmonth_reading}
-use Rattle.table_schema.specs.Calendar.{has_month, is_time_mark, is_zone, zoned_time_reading, seconds_of, stamp_reading}
+use Rattle.portal_base.specs.Calendar.{date_reading, day_in, time_reading, second_in, year_reading, yearmonth_reading}
+use Rattle.portal_base.specs.Calendar.{has_month, moment_at}
+use Rattle.portal_base.proofs.CalendarLemmas.{moment_at-parts, moment_at-read}
+use Rattle.table_schema.specs.Stamp.{is_time_mark, is_zone, zoned_moment, stamp_reading}
 use Rattle.table_schema.specs.Texts.{IsDateText, IsTimeText, IsStampText, IsYearText, IsYearMonthText}
 
 -- ---- digits at the front of a text
@@ -437,15 +439,11 @@ time-length text n h = ap length h.cut
 read_stamp : (text : List ℕ) (z : ℤ) → stamp_reading text ≡ Some z → IsStampText text z
 unfolding stamp_reading
 read_stamp text z e =
-    let outer = if-some (is_time_mark (get_or text 10 0))
-    (option_and_then (λ day. option_map (seconds_of day) (zoned_time_reading (drop 11 text)))
-    (date_reading (take 10 text))) z e in
-    let dated = then-some (λ day. option_map (seconds_of day) (zoned_time_reading (drop 11 text)))
-    (date_reading (take 10 text)) z outer.1 in
-    let timed = map-some (seconds_of dated.0) (zoned_time_reading (drop 11 text)) z dated.2 in
-    let zoned = if-some (is_zone (drop 8 (drop 11 text))) (time_reading (take 8 (drop 11 text))) timed.0 timed.1 in
-    let time = read_time (take 8 (drop 11 text)) timed.0 zoned.1 in
-    let long : length (take 8 (drop 11 text)) ≡ 8 = time-length (take 8 (drop 11 text)) timed.0 time in
+    let marked = if-some (is_time_mark (get_or text 10 0)) (zoned_moment (take 10 text) (drop 11 text)) z e in
+    let zoned = if-some (is_zone (drop 8 (drop 11 text))) (moment_at (take 10 text) (take 8 (drop 11 text))) z marked.1 in
+    let parts = moment_at-parts (take 10 text) (take 8 (drop 11 text)) z zoned.1 in
+    let time = read_time (take 8 (drop 11 text)) parts.1 parts.3 in
+    let long : length (take 8 (drop 11 text)) ≡ 8 = time-length (take 8 (drop 11 text)) parts.1 time in
     let room : 10 < length text =
     omega (arith, long, length-take {A = ℕ}, length-drop {A = ℕ}) in
     record {
@@ -453,14 +451,14 @@ read_stamp text z e =
       between = get_or text 10 0 ∷ [];
       time = take 8 (drop 11 text);
       zone = drop 8 (drop 11 text);
-      day = dated.0;
-      second = timed.0;
+      day = parts.0;
+      second = parts.1;
       cut = cut_at text room;
-      dated = read_date (take 10 text) dated.0 dated.1;
-      marked = time_mark-form (get_or text 10 0) outer.0;
+      dated = read_date (take 10 text) parts.0 parts.2;
+      marked = time_mark-form (get_or text 10 0) marked.0;
       timed = time;
       zoned = is_zone-form (drop 8 (drop 11 text)) zoned.0;
-      value = sym timed.2;
+      value = sym parts.4;
     }
   where
     cut_at : (xs : List ℕ) → 10 < length xs
@@ -473,48 +471,40 @@ read_stamp text z e =
         ∙ ap (λ ys. take 10 xs ++ ys) (sym (drop-cons xs 10 0 h))
         ∙ take-append-drop 10 xs)
 
-zoned_reads : (time zone : List ℕ) (n : ℕ) → IsTimeText time n → (zone ≡ []) ⊎ (zone ≡ codes "Z")
-    → zoned_time_reading (time ++ zone) ≡ Some n
-zoned_reads time zone n h w = ap (λ xs. zoned_time_reading (xs ++ zone)) h.cut ∙ by_zone w
+zoned_at : (date time zone : List ℕ) (n : ℕ) → IsTimeText time n → (zone ≡ []) ⊎ (zone ≡ codes "Z")
+    → zoned_moment date (time ++ zone) ≡ moment_at date time
+zoned_at date time zone n h w =
+    ap (λ xs. zoned_moment date (xs ++ zone)) h.cut ∙ by_zone w ∙ ap (moment_at date) (sym h.cut)
   where
-    read : time_reading (clock_form h.hour h.minute h.second) ≡ Some n
-    read = ap time_reading (sym h.cut) ∙ time_reads time n h
-
     by_zone : (zone ≡ []) ⊎ (zone ≡ codes "Z")
-        → zoned_time_reading (clock_form h.hour h.minute h.second ++ zone) ≡ Some n
-    by_zone (inl e) = ap (λ zs. zoned_time_reading (clock_form h.hour h.minute h.second ++ zs)) e ∙ read
-    by_zone (inr e) = ap (λ zs. zoned_time_reading (clock_form h.hour h.minute h.second ++ zs)) e ∙ read
+        → zoned_moment date (clock_form h.hour h.minute h.second ++ zone)
+        ≡ moment_at date (clock_form h.hour h.minute h.second)
+    by_zone (inl e) = ap (λ zs. zoned_moment date (clock_form h.hour h.minute h.second ++ zs)) e
+    by_zone (inr e) = ap (λ zs. zoned_moment date (clock_form h.hour h.minute h.second ++ zs)) e
 
 -- the parts of a date-time, as they are read
 stamp_at : (y m d mark : ℕ) (rest : List ℕ) → is_time_mark mark ≡ true
-    → stamp_reading (date_form y m d ++ mark ∷ [] ++ rest)
-    ≡ option_and_then (λ day. option_map (seconds_of day) (zoned_time_reading rest)) (date_reading (date_form y m d))
+    → stamp_reading (date_form y m d ++ mark ∷ [] ++ rest) ≡ zoned_moment (date_form y m d) rest
 unfolding stamp_reading
 stamp_at y m d mark rest h = cond-true _ _ _ h
 
 marked_at : (date between rest : List ℕ) (y m d : ℕ) → date ≡ date_form y m d
-    → (between ≡ codes "T") ⊎ (between ≡ codes " ")
-    → stamp_reading (date ++ between ++ rest)
-    ≡ option_and_then (λ day. option_map (seconds_of day) (zoned_time_reading rest)) (date_reading date)
-marked_at date between rest y m d e (inl t) =
-    ap (λ xs. stamp_reading (xs ++ between ++ rest)) e ∙ ap (λ xs. stamp_reading (date_form y m d ++ xs ++ rest)) t
-    ∙ stamp_at y m d 84 rest refl
-    ∙ ap (λ xs. option_and_then (λ day. option_map (seconds_of day) (zoned_time_reading rest)) (date_reading xs))
-    (sym e)
-marked_at date between rest y m d e (inr t) =
-    ap (λ xs. stamp_reading (xs ++ between ++ rest)) e ∙ ap (λ xs. stamp_reading (date_form y m d ++ xs ++ rest)) t
-    ∙ stamp_at y m d 32 rest refl
-    ∙ ap (λ xs. option_and_then (λ day. option_map (seconds_of day) (zoned_time_reading rest)) (date_reading xs))
-    (sym e)
+    → (between ≡ codes "T") ⊎ (between ≡ codes " ") → stamp_reading (date ++ between ++ rest) ≡ zoned_moment date rest
+marked_at date between rest y m d e w =
+    ap (λ xs. stamp_reading (xs ++ between ++ rest)) e ∙ by_mark w ∙ ap (λ xs. zoned_moment xs rest) (sym e)
+  where
+    by_mark : (between ≡ codes "T") ⊎ (between ≡ codes " ")
+        → stamp_reading (date_form y m d ++ between ++ rest) ≡ zoned_moment (date_form y m d) rest
+    by_mark (inl t) = ap (λ xs. stamp_reading (date_form y m d ++ xs ++ rest)) t ∙ stamp_at y m d 84 rest refl
+    by_mark (inr t) = ap (λ xs. stamp_reading (date_form y m d ++ xs ++ rest)) t ∙ stamp_at y m d 32 rest refl
 
 stamp_reads : (text : List ℕ) (z : ℤ) → IsStampText text z → stamp_reading text ≡ Some z
 stamp_reads text z h =
     ap stamp_reading (h.cut ∙ append_assoc (h.date ++ h.between) h.time h.zone)
     ∙ marked_at h.date h.between (h.time ++ h.zone) h.dated.year h.dated.month h.dated.date h.dated.cut h.marked
-    ∙ ap (option_and_then (λ day. option_map (seconds_of day) (zoned_time_reading (h.time ++ h.zone))))
-    (date_reads h.date h.day h.dated)
-    ∙ ap (option_map (seconds_of h.day)) (zoned_reads h.time h.zone h.second h.timed h.zoned)
-    ∙ ap Some (sym h.value)
+    ∙ zoned_at h.date h.time h.zone h.second h.timed h.zoned
+    ∙ moment_at-read h.date h.time h.day h.second (date_reads h.date h.day h.dated)
+    (time_reads h.time h.second h.timed) ∙ ap Some (sym h.value)
 
 pub stamp_where_of_form : (text : List ℕ) (z : ℤ) → (stamp_reading text ≡ Some z) ↔ IsStampText text z
 stamp_where_of_form text z = (read_stamp text z, stamp_reads text z)

@@ -1,4 +1,3 @@
-pub mod Calendar
 pub mod Constraint
 pub mod Descriptor
 pub mod Field
@@ -8,6 +7,7 @@ pub mod Messages
 pub mod Order
 pub mod Printed
 pub mod Reading
+pub mod Stamp
 pub mod Texts
 pub mod Truth
 pub mod Values

@@ -1,8 +1,9 @@
 -- How cells are printed, as texts and in JSON.
 use Rattle.std.specs.Prelude.{◌≤◌, ◌<◌, ℕ, ◌^◌, Bool, if◌then◌else◌, List, ◌++◌, codes, All, IfSome, decimal, ℤ, pos}
-use Rattle.std.specs.Prelude.{negsuc, ◌+ℤ◌, ◌≤ℤ◌, unsigned_abs}
+use Rattle.std.specs.Prelude.{◌+ℤ◌, unsigned_abs}
 use Rattle.std.specs.Fmt.{signed_decimal}
 use Rattle.lexical_forms.specs.NumberText.{number_text}
+use Rattle.portal_base.specs.Calendar.{IsDay}
 use Rattle.portal_base.specs.Moment.{IsMoment}
 use Rattle.portal_base.specs.MomentText.{two_digits, four_digits, day_text, clock_text, moment_text}
 use Rattle.portal_base.specs.declared.json_value.Json as json
@@ -10,10 +11,6 @@ use Rattle.portal_base.specs.declared.json_value.Json.{Json}
 use Rattle.table_schema.specs.declared.cell.Cell.{Cell}
 use Rattle.table_schema.specs.declared.cell.Cell.TheVariants as cell
 use Rattle.table_schema.specs.declared.constraint.Constraints.{Constraints}
-
--- 0000-01-01 to 9999-12-31, as days since 1970-01-01
-abbrev pub IsDay : ℤ → Type 0
-IsDay day = (negsuc 719527 ≤ℤ day) × (day ≤ℤ pos 2932896)
 
 -- Null, or a value that some type of fields has.
 abbrev pub IsValue : Cell → Type 0

@@ -2,6 +2,7 @@
 use Rattle.std.specs.Prelude.{◌≡◌, ◌⊎◌, ℕ, ◌^◌, nat_lt, nat_le, Bool, true, false, ◌||◌, if◌then◌else◌, List, Option}
 use Rattle.std.specs.Prelude.{Some, None, option_map, Result, Ok, Err, ℤ, pos, ◌*ℤ◌, unsigned_abs}
 use Rattle.std.specs.Str.{chars}
+use Rattle.portal_base.specs.Calendar.{date_reading, time_reading, year_reading, yearmonth_reading}
 use Rattle.portal_base.specs.declared.json_value.Json.{Json, out-Json}
 use Rattle.portal_base.specs.declared.json_value.Json.TheOpen.{Json-F}
 use Rattle.table_schema.specs.declared.cell.Cell.{Cell}
@@ -15,11 +16,11 @@ use Rattle.table_schema.specs.declared.form.Form.{Form}
 use Rattle.table_schema.specs.declared.form.Form.TheVariants as form
 use Rattle.table_schema.specs.declared.form.Kind.{Kind}
 use Rattle.table_schema.specs.declared.form.Kind.TheVariants as kind
-use Rattle.table_schema.specs.Calendar.{date_reading, time_reading, stamp_reading, year_reading, yearmonth_reading}
 use Rattle.table_schema.specs.Constraint.{constraint_fault}
 use Rattle.table_schema.specs.Field.{FieldValue}
 use Rattle.table_schema.specs.Form.{kind_of}
 use Rattle.lexical_forms.specs.Number.{integer_reading, number_reading, i64_only, default_spelling}
+use Rattle.table_schema.specs.Stamp.{stamp_reading}
 use Rattle.table_schema.specs.Truth.{is_among, truth_reading, default_trues, default_falses}
 
 -- ---- by type alone

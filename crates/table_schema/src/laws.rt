@@ -1,17 +1,18 @@
 //! Laws of the definitions: functions with an empty body, whose contracts are the laws.
 ghost use Rattle.std.specs.Prelude.{◌≡◌, ◌↔◌, ◌<◌, ℕ, List, All, Option, Ok, ℤ};
 ghost use Rattle.std.specs.Cmp.{IsTotalOrder};
+ghost use Rattle.portal_base.specs.Calendar.{IsDay, date_reading, time_reading};
 ghost use Rattle.portal_base.specs.MomentText.{clock_text};
 ghost use Rattle.portal_base.specs.declared.json_value.Json.{Json};
-ghost use Rattle.table_schema.specs.Calendar.{date_reading, time_reading, stamp_reading};
 ghost use Rattle.table_schema.specs.declared.cell.Cell.{Cell};
 ghost use Rattle.table_schema.specs.declared.cell.CellFault.{CellFault};
 ghost use Rattle.table_schema.specs.declared.form.Form.{Form};
 ghost use Rattle.table_schema.specs.Field.{FieldValue, SchemaValue};
 ghost use Rattle.table_schema.specs.Keys.{schema_reading};
 ghost use Rattle.table_schema.specs.Order.{cell_cmp};
-ghost use Rattle.table_schema.specs.Printed.{IsDay, date_text};
+ghost use Rattle.table_schema.specs.Printed.{date_text};
 ghost use Rattle.table_schema.specs.Reading.{HasOneAnswer, text_reading, Reads, Fails};
+ghost use Rattle.table_schema.specs.Stamp.{stamp_reading};
 ghost use Rattle.table_schema.specs.Texts.{IsDateText, IsTimeText, IsStampText, IsCellText, IsSpelled};
 ghost use Rattle.table_schema.specs.Texts.{IsReading, IsFailure};
 

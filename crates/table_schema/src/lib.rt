@@ -1,7 +1,6 @@
 //! Table Schema v1: descriptors of tables, and typed cells.
 #![tactic(auto)]
 
-mod calendar;
 mod cell;
 mod column;
 mod constraint;
@@ -16,6 +15,7 @@ mod options;
 mod print;
 mod reading;
 mod schema;
+mod stamp;
 mod to_json;
 mod truth;
 mod values;

@@ -3,7 +3,8 @@ ghost use Rattle.std.specs.Prelude.{◌≡◌, ◌<◌, ◌≤◌, ◌++◌, IfO
 ghost use Rattle.portal_base.specs.MomentText.{two_digits, clock_text};
 ghost use Rattle.table_schema.specs.Field.{FieldValue};
 ghost use Rattle.table_schema.specs.Reading.{Accepts, record_reading};
-ghost use Rattle.table_schema.specs.Printed.{IsDay, IsValue, date_text, year_month_text, cell_text, cell_value};
+ghost use Rattle.portal_base.specs.Calendar.{IsDay};
+ghost use Rattle.table_schema.specs.Printed.{IsValue, date_text, year_month_text, cell_text, cell_value};
 
 use crate::cell::Cell;
 use lexical_forms::{number_text, push_digit};

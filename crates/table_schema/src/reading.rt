@@ -3,11 +3,12 @@ ghost use Rattle.std.specs.Prelude.{◌≡◌, IfOk, Some, option_map, pos};
 ghost use Rattle.table_schema.specs.Reading.{text_reading, value_reading, default_form, whole_cell, truth_cell};
 ghost use Rattle.lexical_forms.specs.Number.{i64_only, default_spelling};
 
-use crate::calendar::{date_of, second_of, stamp_of, year_month_of, year_of};
 use crate::cell::Cell;
 use crate::form::{Form, Kind};
+use crate::stamp::stamp_of;
 use crate::truth::{default_truth_of, truth_of};
 use lexical_forms::{NumberForm, integer_of, number_of};
+use portal_base::calendar::{date_of, second_of, year_month_of, year_of};
 use portal_base::json_value::Json;
 use portal_base::text::Text;
 use std::alloc::{AllocError, Global};

@@ -8,7 +8,7 @@ use Rattle.csv.specs.Records.{field_at}
 use Rattle.table_schema.specs.declared.cell.Cell.TheVariants as cell
 use Rattle.table_schema.specs.declared.cell.CellFault.TheVariants.{NotOfType}
 use Rattle.table_schema.specs.declared.form.Form.TheVariants as form
-use Rattle.table_schema.specs.Calendar.{time_reading}
+use Rattle.portal_base.specs.Calendar.{time_reading}
 use Rattle.table_schema.specs.Constraint.{constraint_fault}
 use Rattle.table_schema.specs.Descriptor.{no_constraints}
 use Rattle.table_schema.specs.Field.{FieldValue}

@@ -1,28 +1,23 @@
-use Rattle.std.proofs.Common.{◌≡◌, ap, ◌∙◌, sym, true, false}
-use Rattle.std.proofs.lemmas.Bool.{false_from_ne_true}
-use Rattle.portal_base.specs.MomentReading.{fits_form, moment_form, moment_reading, names_moment}
-use Rattle.portal_base.proofs.ReadingLemmas.{moment_reading-other_form, moment_reading-unnamed, moment_reading-made}
+use Rattle.std.proofs.Common.{take, sym, ap, ◌∙◌}
+use Rattle.portal_base.specs.Calendar.{moment_at}
+use Rattle.portal_base.specs.MomentReading.{moment_reading}
+use Rattle.portal_base.proofs.CalendarLemmas.{moment_reading-at, moment_reading-other_length, moment_reading-unmarked}
+use Rattle.portal_base.proofs.CalendarLemmas.{drop-rest}
 use Rattle.portal_base.proofs.moment.Moment.read.Goals as goal
+use Rattle.portal_base.proofs.moment.Moment.read.Goals.{then-bytes-ne19-via-then-bytes-ne19}
+use Rattle.portal_base.proofs.moment.Moment.read.Goals.{then-bytes-ne19-via-else-bytes-ne19+then-bytes-ne84}
 
-pub returns-then-not-has_form : goal.returns-then-not-has_form
-returns-then-not-has_form c =
+pub returns-then-bytes-ne19 : goal.returns-then-bytes-ne19
+returns-then-bytes-ne19 c =
     let bytes = c.as_bytes-bytes.result.now in
-    let form : fits_form moment_form bytes ≡ false = sym c.has_form.ensures ∙ c.if-not-has_form.true in
-    sym (moment_reading-other_form bytes form) ∙ ap moment_reading c.as_bytes-bytes.ensures.value
-
-pub returns-in_err-civil : goal.returns-in_err-civil
-returns-in_err-civil c =
-    let bytes = c.as_bytes-bytes.result.now in
-    let unnamed : names_moment bytes ≡ false =
-    false_from_ne_true (names_moment bytes) (λ t. cc (c.in_err-civil.ensures.there.1 t)) in
-    c.from_residual.ensures ∙ sym (moment_reading-unnamed bytes unnamed)
-    ∙ ap moment_reading c.as_bytes-bytes.ensures.value
+    sym (elim c.then-bytes-ne19.branch [
+      | then-bytes-ne19-via-then-bytes-ne19 w ↦ moment_reading-other_length bytes w.if-bytes-ne19.true
+      | then-bytes-ne19-via-else-bytes-ne19+then-bytes-ne84 w ↦ moment_reading-unmarked bytes w.if-bytes-ne84.true
+    ]) ∙ ap moment_reading c.as_bytes-bytes.ensures.value
 
 pub returns : goal.returns
 returns c =
     let bytes = c.as_bytes-bytes.result.now in
-    let form : fits_form moment_form bytes ≡ true = sym c.has_form.ensures ∙ c.if-not-has_form.false in
-    let named : names_moment bytes ≡ true = c.in_ok-civil.ensures.there.0 (cc) in
-    moment_reading-made bytes c.from_seconds.result c.seconds_of.result form named
-    (c.seconds_of.ensures ∙ c.in_ok-civil.ensures.second) c.from_seconds.ensures.within.1
-    c.from_seconds.ensures.same ∙ ap moment_reading c.as_bytes-bytes.ensures.value
+    c.at.ensures ∙ sym (ap (moment_at (take 10 bytes)) (drop-rest 11 bytes))
+    ∙ moment_reading-at bytes c.if-bytes-ne19.false c.if-bytes-ne84.false
+    ∙ ap moment_reading c.as_bytes-bytes.ensures.value

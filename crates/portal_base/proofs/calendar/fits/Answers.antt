@@ -1,7 +1,7 @@
 use Rattle.std.proofs.Common.{◌≡◌, ◌≢◌, ◌<◌, false, length, sym, arith, get_or}
 use Rattle.portal_base.specs.MomentReading.{fits_place}
 use Rattle.portal_base.proofs.FormLemmas.{fits_form-all, fits_form-other_place, fits_form-other_length}
-use Rattle.table_schema.proofs.calendar.fits.Goals as goal
+use Rattle.portal_base.proofs.calendar.fits.Goals as goal
 
 pub returns-then-text-form : goal.returns-then-text-form
 returns-then-text-form c =

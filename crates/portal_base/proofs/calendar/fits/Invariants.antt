@@ -1,6 +1,6 @@
 use Rattle.std.proofs.Common.{◌≡◌, ℕ, ◌<◌, true, length, get_or}
 use Rattle.portal_base.specs.MomentReading.{fits_place}
-use Rattle.table_schema.proofs.calendar.fits.Given as goal
+use Rattle.portal_base.proofs.calendar.fits.Given as goal
 
 abbrev pub invariant-loop-place : goal.invariant-loop-place
 invariant-loop-place l =

@@ -1,10 +1,14 @@
--- The texts of dates, times of day, date-times, years and year-months (ISO 8601, extended format), on the proleptic
--- Gregorian calendar, with years of four digits.
-use Rattle.std.specs.Prelude.{ℕ, ◌+◌, ◌*◌, Bool, true, false, ◌&&◌, ◌||◌, ◌==◌, nat_le, if◌then◌else◌, List, [], ◌∷◌}
-use Rattle.std.specs.Prelude.{codes, take, drop, slice_index, ℤ, pos, ◌+ℤ◌, ◌*ℤ◌, Option, Some, None, option_map}
-use Rattle.std.specs.Prelude.{option_and_then}
+-- The texts of dates, times of day, years and year-months (ISO 8601, sections 5.2.1 and 5.3.1, extended format), on
+-- the proleptic Gregorian calendar, with years of four digits. Each reader of a date or a time stands on these, and
+-- adds only the form around them.
+use Rattle.std.specs.Prelude.{ℕ, ◌+◌, ◌*◌, Bool, ◌&&◌, nat_le, if◌then◌else◌, List, codes, ℤ, pos, negsuc, ◌+ℤ◌}
+use Rattle.std.specs.Prelude.{◌*ℤ◌, ◌≤ℤ◌, Option, Some, None, option_map, option_and_then}
 use Rattle.jiff_core.specs.Calendar.{days_from_civil}
 use Rattle.portal_base.specs.MomentReading.{fits_form, number_at, year_in, has_day, has_time}
+
+-- 0000-01-01 to 9999-12-31, as days since 1970-01-01
+abbrev pub IsDay : ℤ → Type 0
+IsDay day = (negsuc 719527 ≤ℤ day) × (day ≤ℤ pos 2932896)
 
 -- The calendar has the month.
 abbrev pub has_month : ℕ → Bool
@@ -28,6 +32,12 @@ second_in text =
 unfoldable pub time_reading : List ℕ → Option ℕ
 time_reading text = if fits_form (codes "00:00:00") text then second_in text else None
 
+-- `hh:mm`, as minutes since midnight
+unfoldable pub minute_reading : List ℕ → Option ℕ
+minute_reading text =
+    if fits_form (codes "00:00") text && has_time (number_at 0 text) (number_at 3 text) 0
+    then Some (number_at 0 text * 60 + number_at 3 text) else None
+
 -- `YYYY`
 unfoldable pub year_reading : List ℕ → Option ℕ
 year_reading text = if fits_form (codes "0000") text then Some (year_in text) else None
@@ -38,26 +48,10 @@ yearmonth_reading text =
     if fits_form (codes "0000-00") text && has_month (number_at 5 text)
     then Some (year_in text, number_at 5 text) else None
 
--- `T` or one space
-abbrev pub is_time_mark : ℕ → Bool
-is_time_mark c = (c == 84) || (c == 32)
-
--- a time of day, and `Z` or nothing behind it
-abbrev pub is_zone : List ℕ → Bool
-is_zone [] = true
-is_zone (c ∷ []) = c == 90
-is_zone (c ∷ d ∷ cs) = false
-
-abbrev pub zoned_time_reading : List ℕ → Option ℕ
-zoned_time_reading text = if is_zone (drop 8 text) then time_reading (take 8 text) else None
-
--- a date, `T` or one space, and a time: the seconds since 1970-01-01T00:00:00
+-- so many seconds after midnight of a day, in seconds since 1970-01-01T00:00:00
 abbrev pub seconds_of : ℤ → ℕ → ℤ
 seconds_of day second = day *ℤ pos 86400 +ℤ pos second
 
-unfoldable pub stamp_reading : List ℕ → Option ℤ
-stamp_reading text =
-    if is_time_mark (slice_index text 10)
-    then option_and_then (λ day. option_map (seconds_of day) (zoned_time_reading (drop 11 text)))
-    (date_reading (take 10 text))
-    else None
+-- the moment of the text of a date and that of a time of day
+unfoldable pub moment_at : List ℕ → List ℕ → Option ℤ
+moment_at date time = option_and_then (λ day. option_map (seconds_of day) (time_reading time)) (date_reading date)

@@ -1,17 +1,15 @@
-//! Dates, times of day, date-times, years and year-months of texts.
-ghost use Rattle.std.specs.Prelude.{◌≡◌, ◌+◌, ◌<◌, pos, IsTrue, codes, slice_index, length, option_map, drop};
-ghost use Rattle.lexical_forms.specs.Digits.{is_digit};
-ghost use Rattle.portal_base.specs.MomentReading.{fits_place, fits_form, number_at, year_in, has_day, has_time};
-ghost use Rattle.table_schema.specs.Calendar.{has_month, date_reading, time_reading, year_reading, yearmonth_reading};
-ghost use Rattle.table_schema.specs.Calendar.{stamp_reading, zoned_time_reading, is_zone, is_time_mark, day_in};
-ghost use Rattle.table_schema.specs.Calendar.{second_in};
+//! Dates, times of day, years and year-months of texts. Every reader of a date or a time takes it from here.
+ghost use Rattle.std.specs.Prelude.{◌≡◌, ◌+◌, ◌<◌, IfSome, IsTrue, slice_index, length};
+ghost use Rattle.std.specs.Char.{is_ascii_digit};
+ghost use Rattle.portal_base.specs.Calendar.{date_reading, day_in, has_month, minute_reading, second_in, time_reading};
+ghost use Rattle.portal_base.specs.Calendar.{year_reading, yearmonth_reading};
+ghost use Rattle.portal_base.specs.MomentReading.{fits_form, fits_place, has_day, has_time, number_at, year_in};
 
 use jiff::civil::Date;
-use portal_base::moment::Moment;
 
-/// The days since 1970-01-01 of a date `YYYY-MM-DD`.
+/// The days since 1970-01-01 of a date `YYYY-MM-DD` (ISO 8601, section 5.2.1.1), if the calendar has it.
 #[tactic(auto, unfolding(crate::specs::Calendar::date_reading))]
-pub(crate) fn date_of(text: &[u8]) -> Option<i32>
+pub fn date_of(text: &[u8]) -> Option<i32>
     ensures { result ≡ date_reading text.now }
 {
     if !fits(b"0000-00-00", text) {
@@ -26,9 +24,10 @@ pub(crate) fn date_of(text: &[u8]) -> Option<i32>
     }
 }
 
-/// The seconds since midnight of a time `hh:mm:ss`.
+/// The seconds since midnight of a time `hh:mm:ss` (ISO 8601, section 5.3.1.1), if the clock has it: no hour 24, and
+/// no second 60.
 #[tactic(auto, unfolding(crate::specs::Calendar::time_reading))]
-pub(crate) fn second_of(text: &[u8]) -> Option<u32>
+pub fn second_of(text: &[u8]) -> Option<u32>
     ensures { result ≡ time_reading text.now }
 {
     if !fits(b"00:00:00", text) {
@@ -44,9 +43,27 @@ pub(crate) fn second_of(text: &[u8]) -> Option<u32>
     }
 }
 
-/// A year `YYYY`.
+/// The minutes since midnight of a time `hh:mm` (ISO 8601, section 5.3.1.2), if the clock has it.
+#[tactic(auto, unfolding(crate::specs::Calendar::minute_reading))]
+pub fn minute_of(text: &[u8]) -> Option<u32>
+    ensures value { result ≡ minute_reading text.now }
+    ensures bound { IfSome result (λ minute. minute < 1440) }
+{
+    if !fits(b"00:00", text) {
+        return None;
+    }
+    let hour = u32::from(number_at(text, 0));
+    let minute = u32::from(number_at(text, 3));
+    if hour < 24 && minute < 60 {
+        Some(hour * 60 + minute)
+    } else {
+        None
+    }
+}
+
+/// A year `YYYY` (ISO 8601, section 5.2.1.2).
 #[tactic(auto, unfolding(crate::specs::Calendar::year_reading))]
-pub(crate) fn year_of(text: &[u8]) -> Option<u16>
+pub fn year_of(text: &[u8]) -> Option<u16>
     ensures { result ≡ year_reading text.now }
 {
     if fits(b"0000", text) {
@@ -56,9 +73,9 @@ pub(crate) fn year_of(text: &[u8]) -> Option<u16>
     }
 }
 
-/// A year and a month `YYYY-MM`.
+/// A year and a month `YYYY-MM` (ISO 8601, section 5.2.1.2).
 #[tactic(auto, unfolding(crate::specs::Calendar::yearmonth_reading))]
-pub(crate) fn year_month_of(text: &[u8]) -> Option<(u16, u8)>
+pub fn year_month_of(text: &[u8]) -> Option<(u16, u8)>
     ensures { result ≡ yearmonth_reading text.now }
 {
     if !fits(b"0000-00", text) {
@@ -70,48 +87,6 @@ pub(crate) fn year_month_of(text: &[u8]) -> Option<(u16, u8)>
     } else {
         None
     }
-}
-
-/// The moment of a date, `T` or a space, a time, and `Z` or nothing.
-pub(crate) fn stamp_of(text: &[u8]) -> Option<Moment>
-    ensures { result ≡ stamp_reading text.now }
-{
-    if text.len() < 19 || !is_time_mark(text[10]) {
-        return None;
-    }
-    let day = date_of(&text[..10])?;
-    let second = zoned_second_of(&text[11..])?;
-    Moment::from_seconds(i64::from(day) * 86_400 + i64::from(second))
-}
-
-// The seconds since midnight of a time, and `Z` or nothing.
-fn zoned_second_of(text: &[u8]) -> Option<u32>
-    ensures { result ≡ zoned_time_reading text.now }
-{
-    if text.len() < 8 {
-        return None;
-    }
-    if is_zone(&text[8..]) {
-        second_of(&text[..8])
-    } else {
-        None
-    }
-}
-
-fn is_zone(text: &[u8]) -> bool
-    ensures { result ≡ is_zone text.now }
-{
-    match text {
-        [] => true,
-        [only] => *only == b'Z',
-        _ => false,
-    }
-}
-
-fn is_time_mark(byte: u8) -> bool
-    ensures { result ≡ is_time_mark byte }
-{
-    byte == b'T' || byte == b' '
 }
 
 // Whether the text has the form, in which a 0 stands for any digit.
@@ -142,8 +117,8 @@ fn fits_place(place: u8, byte: u8) -> bool
 // The number of the two digits that begin at the place.
 fn number_at(text: &[u8], place: usize) -> u8
     requires within { place + 1 < length text.now }
-    requires tens { IsTrue (is_digit (slice_index text.now place)) }
-    requires units { IsTrue (is_digit (slice_index text.now (place + 1))) }
+    requires tens { IsTrue (is_ascii_digit (slice_index text.now place)) }
+    requires units { IsTrue (is_ascii_digit (slice_index text.now (place + 1))) }
     ensures number { result ≡ number_at place text.now }
     ensures bound { result < 100 }
 {
@@ -153,10 +128,10 @@ fn number_at(text: &[u8], place: usize) -> u8
 // The number of the four digits at the start.
 fn year_at_start(text: &[u8]) -> u16
     requires within { 3 < length text.now }
-    requires first { IsTrue (is_digit (slice_index text.now 0)) }
-    requires second { IsTrue (is_digit (slice_index text.now 1)) }
-    requires third { IsTrue (is_digit (slice_index text.now 2)) }
-    requires fourth { IsTrue (is_digit (slice_index text.now 3)) }
+    requires first { IsTrue (is_ascii_digit (slice_index text.now 0)) }
+    requires second { IsTrue (is_ascii_digit (slice_index text.now 1)) }
+    requires third { IsTrue (is_ascii_digit (slice_index text.now 2)) }
+    requires fourth { IsTrue (is_ascii_digit (slice_index text.now 3)) }
     ensures year { result ≡ year_in text.now }
     ensures bound { result < 10000 }
 {

@@ -1,8 +1,8 @@
 use Rattle.std.proofs.Common.{◌≡◌, false}
 use Rattle.std.proofs.lemmas.Bool.{false_from_ne_true}
 use Rattle.portal_base.specs.MomentReading.{has_day, year_in, number_at}
-use Rattle.table_schema.proofs.CalendarLemmas.{named-IsDate, date_reading-unnamed}
-use Rattle.table_schema.proofs.calendar.date_of.Goals as goal
+use Rattle.portal_base.proofs.CalendarLemmas.{named-IsDate, date_reading-unnamed}
+use Rattle.portal_base.proofs.calendar.date_of.Goals as goal
 
 pub returns-in-Err : goal.returns-in-Err
 returns-in-Err c =
