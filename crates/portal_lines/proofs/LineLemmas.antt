@@ -15,7 +15,7 @@ use Rattle.std.proofs.lemmas.Bool.{eqb-true, ne_eqb}
 use Rattle.std.proofs.lemmas.Bool.Decides.{nat_tests}
 use Rattle.std.proofs.lemmas.Grind.{common_steps}
 use Rattle.portal_base.specs.Outside.{Gives, IsAtEnd}
-use Rattle.portal_lines.specs.Lines.{Reading, EndsLine, TakesLine, SkipsLine, FindsEnd, bytes_left}
+use Rattle.portal_lines.specs.Lines.{Reading, EndsLine, TakesLine, SkipsLine, FindsEnd, LosesStart, bytes_left}
 use Rattle.portal_lines.specs.Drafts.{HasNoFeed, KeepsRaw, TakesPiece}
 use Rattle.portal_base.proofs.OutsideLemmas.{Gives-none, Gives-append}
 
@@ -133,6 +133,23 @@ module _ (held : List ℕ) (told : Option (List ℕ)) (given longest : ℕ) wher
         keeps = subst (λ n. KeepsRaw n (u.raw ++ piece) kept' over') same
             (adds u.raw (subst (λ n. KeepsRaw n u.raw kept over) (sym same) u.keeps));
       }
+
+-- The source failed behind the start of a line, and that is lost.
+pub LosesStart-failed : (old new : Reading) (told left : Option (List ℕ)) (window kept : List ℕ) (over found : Bool)
+    (piece after : List ℕ) (left' : Option (List ℕ))
+    → UnderWay old.held told old.given old.longest window left new.given kept over
+    → found ≡ false → TakesPiece found window piece after → left' ≡ left → new.held ≡ [] → LosesStart old told new left'
+LosesStart-failed old new told left window kept over true piece after left' u missing takes same none =
+    absurd (true≢false missing)
+LosesStart-failed old new told left window kept over false piece after left' u missing takes same none = (
+  u.bytes,
+  u.raw ++ piece,
+  subst (λ o. Gives told u.bytes o) (sym same) u.gives,
+  u.counts,
+  u.splits ∙ ap (λ v. u.raw ++ v) takes.1
+      ∙ sym (ap (λ v. (u.raw ++ piece) ++ v) none ∙ append-nil (u.raw ++ piece)),
+  All-append (λ b. (b == 10) ≡ false) u.raw piece u.free takes.0,
+)
 
 -- the line feed came
 module _ (old new : Reading) (told left : Option (List ℕ)) (window kept : List ℕ) (over : Bool)

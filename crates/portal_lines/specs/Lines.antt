@@ -55,6 +55,13 @@ abbrev pub ReceivesNoEnd : Reading → Option (List ℕ) → Reading → Option 
 ReceivesNoEnd old told new left =
     (bytes : List ℕ) × Gives told bytes left × (new.given ≡ old.given + length bytes) × HasNoFeed (old.held ++ bytes)
 
+-- The source gave some bytes in this call, and they were counted. Of these and of what was held before no more is lost
+-- than the start of a line, and all behind it is held.
+abbrev pub LosesStart : Reading → Option (List ℕ) → Reading → Option (List ℕ) → Type 0
+LosesStart old told new left =
+    (bytes : List ℕ) × (lost : List ℕ) × Gives told bytes left × (new.given ≡ old.given + length bytes)
+    × (old.held ++ bytes ≡ lost ++ new.held) × HasNoFeed lost
+
 -- How many bytes are held or may still be given: with each line this falls.
 abbrev pub bytes_left : Reading → ℕ
 bytes_left r = length r.held + (r.most - r.given)

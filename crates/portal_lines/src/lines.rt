@@ -3,7 +3,8 @@ ghost use Rattle.std.specs.Prelude.{◌≡◌, ◌↔◌, ◌<◌, ◌≤◌, �
 ghost use Rattle.std.specs.Prelude.{position, false, Ok, Err, IfOk, OnOk, OnErr};
 ghost use Rattle.std.specs.Str.Lines.{strip_carriage_return};
 ghost use Rattle.portal_base.specs.Outside.{Gives, Rose, IsAtEnd};
-ghost use Rattle.portal_lines.specs.Lines.{TakesLine, SkipsLine, FindsEnd, Receives, ReceivesNoEnd, bytes_left};
+ghost use Rattle.portal_lines.specs.Lines.{TakesLine, SkipsLine, FindsEnd, Receives, ReceivesNoEnd, LosesStart};
+ghost use Rattle.portal_lines.specs.Lines.{bytes_left};
 ghost use Rattle.portal_lines.specs.Drafts.{KeepsRaw, TakesPiece};
 
 use portal_base::outside::{Failed, Source};
@@ -161,9 +162,10 @@ impl Draft {
     // Moves bytes from the front of the window up to the first line feed, which is dropped, and says whether there
     // was one.
     fn take_from(&mut self, longest: usize, window: &mut Window) -> Result<bool, AllocError>
-        ensures { IfOk result (λ found. (piece : List ℕ) × TakesPiece found window.old piece window.new
+        ensures taken { IfOk result (λ found. (piece : List ℕ) × TakesPiece found window.old piece window.new
             × ((raw : List ℕ) → KeepsRaw longest raw self.old.kept.items self.old.is_over →
             KeepsRaw longest (raw ++ piece) self.new.kept.items self.new.is_over)) }
+        ensures same { OnErr result (window.new ≡ window.old) }
     {
         let bytes = window.bytes();
         match find_feed(bytes) {
@@ -275,7 +277,8 @@ impl LineReader {
         self.draft.kept.as_slice()
     }
 
-    /// Reads on to the end of the next line. Of a line at most `longest` + 1 bytes are kept.
+    /// Reads on to the end of the next line. Of a line at most `longest` + 1 bytes are kept. After a fault the start of
+    /// the line that was under way may be lost, and a later call goes on behind that; `TooMuch` comes from then on.
     pub fn next<S: Source>(&mut self, source: &mut S) -> Result<NextLine, LineFault>
         ensures longest { self.new.longest ≡ self.old.longest }
         ensures most { self.new.most ≡ self.old.most }
@@ -294,6 +297,8 @@ impl LineReader {
         ensures received { OnErr result
             (Receives self.old (S.to_come source.old) self.new (S.to_come source.new)) }
         ensures failed { result ≡ Err LineFault.Failed → Rose (S.faults source.old) (S.faults source.new) }
+        ensures lost { OnErr result
+            (LosesStart self.old (S.to_come source.old) self.new (S.to_come source.new)) }
         // No line that came whole is held back.
         ensures unended { result ≡ Err LineFault.Failed →
             ReceivesNoEnd self.old (S.to_come source.old) self.new (S.to_come source.new) }

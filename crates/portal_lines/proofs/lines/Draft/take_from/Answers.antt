@@ -5,8 +5,8 @@ use Rattle.portal_lines.specs.Drafts.{KeepsRaw}
 use Rattle.portal_lines.proofs.LineLemmas.{TakesPiece-at, HasNoFeed-all}
 use Rattle.portal_lines.proofs.lines.Draft.take_from.Goals as goal
 
-pub returns-in_ok-add-in-Some : goal.returns-in_ok-add-in-Some
-returns-in_ok-add-in-Some c =
+pub returns-in_ok-add-in-Some-clause-taken : goal.returns-in_ok-add-in-Some-clause-taken
+returns-in_ok-add-in-Some-clause-taken c =
     let found : position (λ b. b == 10) c.args.window.now ≡ Some c.in-Some.place = grind arith in
     let piece = TakesPiece-at c.args.window.now c.in-Some.place found in (
       take c.in-Some.place c.args.window.now,
@@ -18,8 +18,8 @@ returns-in_ok-add-in-Some c =
           (c.in_ok-add-in-Some.ensures raw keeps),
     )
 
-pub returns-in_ok-add-in-None : goal.returns-in_ok-add-in-None
-returns-in_ok-add-in-None c =
+pub returns-in_ok-add-in-None-clause-taken : goal.returns-in_ok-add-in-None-clause-taken
+returns-in_ok-add-in-None-clause-taken c =
     let found : position (λ b. b == 10) c.args.window.now ≡ None = grind arith in (
       c.args.window.now,
       (

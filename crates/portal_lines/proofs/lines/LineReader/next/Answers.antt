@@ -1,14 +1,18 @@
-use Rattle.std.proofs.Common.{◌≡◌, ◌∙◌, ◌<◌, ◌+◌, sym, ap, subst, arith, Ok, length}
+use Rattle.std.proofs.Common.{◌≡◌, ◌∙◌, ◌<◌, ◌+◌, sym, ap, subst, arith, Ok, Err, Result, OnErr, length}
 use Rattle.portal_lines.specs.declared.lines.NextLine.TheVariants.{Line, TooLong, End}
 use Rattle.portal_lines.proofs.LineLemmas.{UnderWay-read, TakesLine-ended, SkipsLine-ended, AtLast, AtLast-read}
 use Rattle.portal_lines.proofs.LineLemmas.{SomeLine-last, TakesLine-last, SkipsLine-last, FindsEnd-last}
-use Rattle.portal_lines.proofs.LineLemmas.{bytes_left-falls}
+use Rattle.portal_lines.proofs.LineLemmas.{bytes_left-falls, LosesStart-failed}
 use Rattle.portal_lines.proofs.lines.LineReader.next.Goals as goal
+
+on_err : {T E P : Type 0} (outcome : Result T E) → P → OnErr outcome P
+on_err (Ok value) p = tt
+on_err (Err why) p = p
 
 pub returns-then-branch-clause-line : goal.returns-then-branch-clause-line
 returns-then-branch-clause-line g c is =
     let inv = c.loop-self.invariant in
-    let taken = c.in_ok-take_from.ensures in
+    let taken = c.in_ok-take_from.ensures.taken in
     let line : c.measure.result ≡ Line = cc in
     TakesLine-ended c.args.self.now _ (g.S.Source.to_come c.args.source.now) (g.S.Source.to_come c.loop-self.source)
     c.loop-self.self-inside.window c.loop-self.self-inside.draft.kept.items c.loop-self.self-inside.draft.is_over
@@ -20,7 +24,7 @@ returns-then-branch-clause-line g c is =
 pub returns-then-branch-clause-long : goal.returns-then-branch-clause-long
 returns-then-branch-clause-long g c is =
     let inv = c.loop-self.invariant in
-    let taken = c.in_ok-take_from.ensures in
+    let taken = c.in_ok-take_from.ensures.taken in
     let long : c.measure.result ≡ TooLong = cc in
     SkipsLine-ended c.args.self.now _ (g.S.Source.to_come c.args.source.now) (g.S.Source.to_come c.loop-self.source)
     c.loop-self.self-inside.window c.loop-self.self-inside.draft.kept.items c.loop-self.self-inside.draft.is_over
@@ -30,10 +34,26 @@ returns-then-branch-clause-long g c is =
     (λ fits. subst (λ v. c.loop-self.self-inside.longest < length v) c.strip.ensures.kept
     (c.measure.ensures.long long (c.strip.ensures.over ∙ fits)))
 
+pub returns-in_err-count-clause-lost : goal.returns-in_err-count-clause-lost
+returns-in_err-count-clause-lost g c =
+    let inv = c.loop-self.invariant in
+    let taken = c.in_ok-take_from.ensures.taken in
+    let lost = LosesStart-failed c.args.self.now (record {
+      held = c.fill.new.self;
+      line = c.take_from.new.self.kept.items;
+      given = c.loop-self.self-inside.given;
+      longest = c.loop-self.self-inside.longest;
+      most = c.loop-self.self-inside.most;
+    }) (g.S.Source.to_come c.args.source.now) (g.S.Source.to_come c.loop-self.source)
+    c.loop-self.self-inside.window c.loop-self.self-inside.draft.kept.items c.loop-self.self-inside.draft.is_over
+    c.in_ok-take_from.field-0 taken.0 c.take_from.new.window (g.S.Source.to_come c.fill.new.source)
+    inv.under_way c.if-branch.false taken.1 c.in_err-count.ensures.kept c.in_err-count.ensures.empty in
+    on_err c.from_residual-in_err-count.result lost
+
 pub loop-self-preserved : goal.loop-self-preserved
 loop-self-preserved g c =
     let inv = c.loop-self.invariant in
-    let taken = c.in_ok-take_from.ensures in
+    let taken = c.in_ok-take_from.ensures.taken in
     record {
       under_way = UnderWay-read c.args.self.now.held (g.S.Source.to_come c.args.source.now) c.args.self.now.given
           c.args.self.now.longest
@@ -63,7 +83,7 @@ last : (g : _) (c : goal.After-measure_last g)
     (g.S.Source.to_come c.fill.new.source) c.take_from.new.self.kept.items c.take_from.new.self.is_over
 last g c =
     let inv = c.loop-self.invariant in
-    let taken = c.in_ok-take_from.ensures in
+    let taken = c.in_ok-take_from.ensures.taken in
     AtLast-read c.args.self.now _ (g.S.Source.to_come c.args.source.now) (g.S.Source.to_come c.loop-self.source)
     c.loop-self.self-inside.window c.loop-self.self-inside.draft.kept.items c.loop-self.self-inside.draft.is_over
     c.in_ok-take_from.field-0
