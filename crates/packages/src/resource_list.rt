@@ -1,5 +1,5 @@
 //! The list of resources in a dataset's body: what is told of it, and the resources with their numbers.
-ghost use Rattle.std.specs.Prelude.{◌≡◌, ◌∷◌, ◌++◌, [], IfOk, OnOk, codes};
+ghost use Rattle.std.specs.Prelude.{◌≡◌, ◌∷◌, ◌++◌, [], IfOk, OnOk, OnErr, codes};
 ghost use Rattle.std.specs.List.{list_any};
 ghost use Rattle.std.specs.Option.{option_copied};
 ghost use Rattle.packages.specs.Resources.{resource_rules, rule_told, at_place, has_id, number_of_id, id_rules};
@@ -296,7 +296,8 @@ fn numbered(
     Ok(numbering)
 }
 
-/// Puts the resources that a body gives in place of these, and the number of the next one.
+/// Puts the resources that a body gives in place of these, and the number of the next one. For want of memory nothing
+/// changes.
 pub fn replace_resources(
     alloc: Global,
     old: Option<&Package>,
@@ -307,6 +308,8 @@ pub fn replace_resources(
     ensures resources { OnOk result (resources.new
         ≡ resources_or resources.old (option_copied old.entry) next.old body.now) }
     ensures next { OnOk result (next.new ≡ next_or (option_copied old.entry) next.old body.now) }
+    ensures kept { OnErr result (resources.new ≡ resources.old) }
+    ensures same { OnErr result (next.new ≡ next.old) }
 {
     if let Ok(Some(items)) = list_at(body, "resources") {
         let numbering = numbered(alloc, old, *next, items.as_slice())?;

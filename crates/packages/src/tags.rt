@@ -1,5 +1,5 @@
 //! The tags that a dataset's body gives, and what is told of them.
-ghost use Rattle.std.specs.Prelude.{◌≡◌, ◌≤◌, ◌∷◌, ◌++◌, [], IfOk, OnOk, codes, length, vec_len};
+ghost use Rattle.std.specs.Prelude.{◌≡◌, ◌≤◌, ◌∷◌, ◌++◌, [], IfOk, OnOk, OnErr, codes, length, vec_len};
 ghost use Rattle.std.specs.List.{filter_map};
 ghost use Rattle.packages.specs.Tags.{text_set, tag_rules, tag_told, tag_names, tag_count, tags_told, told_of_tags};
 ghost use Rattle.packages.specs.Tags.{tags_or};
@@ -125,9 +125,11 @@ pub fn told_of_tags(alloc: Global, body: &Json) -> Result<Option<Text>, AllocErr
     }
 }
 
-/// Puts the tags that a body gives, ascending by bytes and each once, in place of these.
+/// Puts the tags that a body gives, ascending by bytes and each once, in place of these. For want of memory nothing
+/// changes.
 pub fn replace_tags(alloc: Global, tags: &mut Seq<Text>, body: &Json) -> Result<(), AllocError>
-    ensures { OnOk result (tags.new ≡ tags_or tags.old body.now) }
+    ensures ok { OnOk result (tags.new ≡ tags_or tags.old body.now) }
+    ensures err { OnErr result (tags.new ≡ tags.old) }
 {
     if let Ok(Some(items)) = list_at(body, "tags") {
         let mut names = tag_names(alloc, items.as_slice())?;

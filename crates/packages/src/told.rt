@@ -1,5 +1,5 @@
 //! What is told of the keys of a body.
-ghost use Rattle.std.specs.Prelude.{◌≡◌, OnOk};
+ghost use Rattle.std.specs.Prelude.{◌≡◌, OnOk, OnErr};
 ghost use Rattle.portal_base.specs.Faults.{noted_if};
 ghost use Rattle.packages.specs.Texts.{text_told};
 ghost use Rattle.packages.specs.Told.{message_unless};
@@ -20,9 +20,10 @@ pub fn message_unless(holds: bool, message: &'static str) -> Option<Text>
     }
 }
 
-/// Notes what is told of a key, if anything is.
+/// Notes what is told of a key, if anything is. For want of memory nothing changes.
 pub fn note(faults: &mut Faults, key: &'static str, told: Option<Text>) -> Result<(), AllocError>
-    ensures { OnOk result (faults.new ≡ noted_if key.now told faults.old) }
+    ensures ok { OnOk result (faults.new ≡ noted_if key.now told faults.old) }
+    ensures err { OnErr result (faults.new ≡ faults.old) }
 {
     if let Some(message) = told {
         faults.note(Text::from_static(key), message)?;
@@ -30,7 +31,8 @@ pub fn note(faults: &mut Faults, key: &'static str, told: Option<Text>) -> Resul
     Ok(())
 }
 
-/// Notes what is told of the text of a key, which has no more than `longest` bytes.
+/// Notes what is told of the text of a key, which has no more than `longest` bytes. For want of memory nothing
+/// changes.
 pub fn note_text(
     alloc: Global,
     faults: &mut Faults,
@@ -38,7 +40,8 @@ pub fn note_text(
     key: &'static str,
     longest: usize,
 ) -> Result<(), AllocError>
-    ensures { OnOk result (faults.new ≡ noted_if key.now (text_told longest key.now body.now) faults.old) }
+    ensures ok { OnOk result (faults.new ≡ noted_if key.now (text_told longest key.now body.now) faults.old) }
+    ensures err { OnErr result (faults.new ≡ faults.old) }
 {
     let _text = faults.short_text(alloc, body, key, longest)?;
     Ok(())
