@@ -146,8 +146,9 @@ impl Draft {
 
     // Adds a piece where the line may still be one of at most `longest` bytes and a carriage return.
     fn add(&mut self, longest: usize, piece: &[u8]) -> Result<(), AllocError>
-        ensures { OnOk result ((raw : List ℕ) → KeepsRaw longest raw self.old.kept.items self.old.is_over →
+        ensures added { OnOk result ((raw : List ℕ) → KeepsRaw longest raw self.old.kept.items self.old.is_over →
             KeepsRaw longest (raw ++ piece.now) self.new.kept.items self.new.is_over) }
+        ensures bound { length self.old.kept.items ≤ longest + 1 → length self.new.kept.items ≤ longest + 1 }
     {
         if self.is_over {
             return Ok(());
@@ -166,6 +167,7 @@ impl Draft {
             × ((raw : List ℕ) → KeepsRaw longest raw self.old.kept.items self.old.is_over →
             KeepsRaw longest (raw ++ piece) self.new.kept.items self.new.is_over)) }
         ensures same { OnErr result (window.new ≡ window.old) }
+        ensures bound { length self.old.kept.items ≤ longest + 1 → length self.new.kept.items ≤ longest + 1 }
     {
         let bytes = window.bytes();
         match find_feed(bytes) {
@@ -282,6 +284,7 @@ impl LineReader {
     pub fn next<S: Source>(&mut self, source: &mut S) -> Result<NextLine, LineFault>
         ensures longest { self.new.longest ≡ self.old.longest }
         ensures most { self.new.most ≡ self.old.most }
+        ensures kept { length self.new.line ≤ self.new.longest + 1 }
         ensures counts { S.faults source.old ≤ S.faults source.new }
         ensures loan { S.loan source.new ≡ S.loan source.old }
 

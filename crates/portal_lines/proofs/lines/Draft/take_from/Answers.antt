@@ -15,7 +15,7 @@ returns-in_ok-add-in-Some-clause-taken c =
           let same : take c.in-Some.place c.bytes-bytes.result.now ≡ take c.in-Some.place c.args.window.now =
           ap (take c.in-Some.place) c.bytes-bytes.ensures in
           subst (λ v. KeepsRaw c.args.longest (raw ++ v) c.add.new.self.kept.items c.add.new.self.is_over) same
-          (c.in_ok-add-in-Some.ensures raw keeps),
+          (c.in_ok-add-in-Some.ensures.added raw keeps),
     )
 
 pub returns-in_ok-add-in-None-clause-taken : goal.returns-in_ok-add-in-None-clause-taken
@@ -31,5 +31,5 @@ returns-in_ok-add-in-None-clause-taken c =
       ),
       λ raw keeps.
           subst (λ v. KeepsRaw c.args.longest (raw ++ v) c.add-in-None.new.self.kept.items
-          c.add-in-None.new.self.is_over) c.bytes-bytes.ensures (c.in_ok-add-in-None.ensures raw keeps),
+          c.add-in-None.new.self.is_over) c.bytes-bytes.ensures (c.in_ok-add-in-None.ensures.added raw keeps),
     )

@@ -67,6 +67,7 @@ loop-self-preserved g c =
           (ap (λ n. c.loop-self.self-inside.given + n) c.in_ok-count.ensures.count);
       longest = inv.longest;
       most = inv.most;
+      bound = c.in_ok-take_from.ensures.bound inv.bound;
       counts = omega (arith, inv.counts, c.in_ok-count.ensures.counts);
       loan = c.in_ok-count.ensures.loan ∙ inv.loan;
     }

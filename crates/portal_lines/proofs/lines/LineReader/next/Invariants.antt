@@ -1,4 +1,4 @@
-use Rattle.std.proofs.Common.{◌≡◌, ◌+◌, ◌-◌, ◌≤◌}
+use Rattle.std.proofs.Common.{◌≡◌, ◌+◌, ◌-◌, ◌≤◌, length}
 use Rattle.portal_lines.proofs.LineLemmas.{UnderWay}
 use Rattle.portal_lines.proofs.lines.LineReader.next.Given as goal
 
@@ -10,6 +10,7 @@ invariant-loop-self g l = record {
       l.self-inside.draft.is_over;
   longest : l.self-inside.longest ≡ l.fn.self.longest;
   most : l.self-inside.most ≡ l.fn.self.most;
+  bound : length l.self-inside.draft.kept.items ≤ l.self-inside.longest + 1;
   counts : g.S.Source.faults l.fn.source ≤ g.S.Source.faults l.source;
   loan : g.S.Source.loan l.source ≡ g.S.Source.loan l.fn.source;
 }
