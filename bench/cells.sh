@@ -18,16 +18,19 @@ TEXTS = {
 
 def cells_of(kind, count):
     def write(file):
-        file.write(f'{{"fields":[{{"name":"f","type":"{kind}"}}]}}\n'.encode())
         file.write("".join(TEXTS[kind](place) + "\n" for place in range(count)).encode())
         return f"{count} cells, 0 faults"
 
     return write
 
 
-program = built("cell_count")
+def descriptor(kind):
+    return f'{{"fields":[{{"name":"f","type":"{kind}"}}]}}'
+
+
+program = built("cell_cases", "cells", descriptor("integer"))
 print(f"{'type':>8} {'cells':>9} {'seconds':>9} {'M cells/s':>10} {'peak MiB':>9}")
 for kind, count in (("integer", 10**6), ("number", 10**6), ("date", 10**6), ("integer", 4 * 10**6)):
-    _, seconds, peak = measured(program, cells_of(kind, count))
+    _, seconds, peak = measured(program, cells_of(kind, count), "cells", descriptor(kind))
     print(f"{kind:>8} {count:>9} {seconds:>9.3f} {count / seconds / 10**6:>10.2f} {peak:>9.1f}")
 PY

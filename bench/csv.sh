@@ -6,9 +6,9 @@ exec python3 -B - <<'PY'
 from measuring import built, measured
 from rows import DESCRIPTOR, rows_of
 
-program = built("row_count")
+program = built("cell_cases", "cells", DESCRIPTOR)
 print(f"{'rows':>9} {'MiB':>7} {'seconds':>9} {'k rows/s':>9} {'peak MiB':>9}")
 for count in (100_000, 400_000):
-    length, seconds, peak = measured(program, rows_of(count), DESCRIPTOR)
+    length, seconds, peak = measured(program, rows_of(count, ", end"), "rows", DESCRIPTOR)
     print(f"{count:>9} {length / 2**20:>7.2f} {seconds:>9.3f} {count / seconds / 1000:>9.1f} {peak:>9.1f}")
 PY

@@ -49,11 +49,11 @@ def catalogue_of(count, dataset):
 def table(title, counts, dataset):
     print(f"{title:<22} {'datasets':>9} {'seconds':>9} {'peak MiB':>9}")
     for count in counts:
-        _, seconds, peak = measured(program, catalogue_of(count, dataset))
+        _, seconds, peak = measured(program, catalogue_of(count, dataset), "datasets")
         print(f"{'':<22} {count:>9} {seconds:>9.3f} {peak:>9.1f}")
 
 
-program = built("dcat_count")
+program = built("graph_cases", "triples")
 table("each with its own file", (1000, 2000, 4000), dataset)
 table("one shared by all", (2000, 4000, 8000), sharing)
 PY

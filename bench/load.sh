@@ -40,7 +40,7 @@ def seconds_of(count):
 
 # The least of all rounds, each of which has each run once. SQLite runs behind them, since a program's peak memory counts
 # that of the one that starts it.
-program = built("portal_count")
+program = built("call_cases", "create", "0")
 rounds = [{count: seconds_of(count) for count in COUNTS} for _ in range(ROUNDS)]
 beside = [{count: sqlite_of(count) for count in COUNTS} for _ in range(ROUNDS)]
 

@@ -31,10 +31,10 @@ def document_of(size):
     return write
 
 
-program = built("ntriples_count")
+program = built("graph_cases", "triples")
 print(f"{'MiB':>6} {'seconds':>9} {'MiB/s':>7} {'peak MiB':>9}")
 for mebibytes in (8, 32, 64):
-    length, seconds, peak = measured(program, document_of(mebibytes * 2**20))
+    length, seconds, peak = measured(program, document_of(mebibytes * 2**20), "triples")
     size = length / 2**20
     print(f"{size:>6.1f} {seconds:>9.3f} {size / seconds:>7.1f} {peak:>9.1f}")
 PY

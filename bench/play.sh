@@ -13,7 +13,7 @@ COUNTS = (10_000, 20_000, 40_000)
 BOUND = 2.3
 ROUNDS = 40
 
-program = built("portal_count")
+program = built("call_cases", "create", "0")
 
 
 def seconds_of(kind, count):

@@ -27,10 +27,10 @@ def write_rows(file, count):
         file.write(row(place).encode())
 
 
-def rows_of(count):
-    """What fills a file with so many rows, and gives the line in which a program counts them."""
+def rows_of(count, behind=""):
+    """What fills a file with so many rows, and gives the line in which a program counts them, with these words behind."""
     def write(file):
         write_rows(file, count)
-        return f"{count} rows"
+        return f"{count} rows{behind}"
 
     return write

@@ -48,6 +48,18 @@ impl Desk {
         })
     }
 
+    /// The reply to a call of that caller's, of that size in bytes, at the next moment and with the next number.
+    pub fn act(&mut self, caller: Caller, request: Request, size: u64) -> Reply {
+        let call = Call {
+            caller,
+            request,
+            size,
+            moment: self.clock.now(),
+            nonce: self.nonces.next(),
+        };
+        self.portal.act(&Event::Call(call))
+    }
+
     /// The number of a call: the one given, else the next.
     fn nonce(&mut self, given: Option<u64>) -> Nonce {
         match given {

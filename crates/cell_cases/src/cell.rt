@@ -33,7 +33,7 @@ fn told_fault(alloc: Global, fault: SchemaFault) -> io::Result<Vec<u8>> {
 }
 
 /// The first field of the schema; `InvalidData` where it has none.
-fn first_field(schema: &Schema) -> io::Result<&Field> {
+pub(crate) fn first_field(schema: &Schema) -> io::Result<&Field> {
     match schema.fields().as_slice().first() {
         Some(field) => Ok(field),
         None => Err(io::Error::from(ErrorKind::InvalidData)),

@@ -3,7 +3,7 @@
 use cases::Case;
 use std::alloc::{AllocError, Global};
 use std::fmt::Write;
-use std::io;
+use std::io::{self, ErrorKind};
 use table_schema::{Schema, SchemaFault};
 
 /// The schema of the one field that is so described.
@@ -13,6 +13,14 @@ pub(crate) fn schema_of_field(
 ) -> Result<Result<Schema, SchemaFault>, AllocError> {
     let descriptor = format!(in alloc; "{{\"fields\":[{field}]}}")?;
     Ok(Schema::read(alloc, descriptor.as_bytes()))
+}
+
+/// The schema of the descriptor; `InvalidData` where it is none.
+pub(crate) fn schema_of(alloc: Global, descriptor: &[u8]) -> io::Result<Schema> {
+    match Schema::read(alloc, descriptor) {
+        Ok(schema) => Ok(schema),
+        Err(_) => Err(io::Error::from(ErrorKind::InvalidData)),
+    }
 }
 
 /// The descriptor as its schema writes it, or the text of its first fault.

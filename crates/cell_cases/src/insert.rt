@@ -1,4 +1,5 @@
 //! Rows of CSV as inserts: their bodies, and where one ends and the next begins.
+use crate::descriptor::schema_of;
 use cases::Case;
 use portal_base::memory::MemorySource;
 use portal_base::outside::Source;
@@ -7,7 +8,6 @@ use row_inserts::{Insert, Inserts};
 use std::alloc::{AllocError, Global};
 use std::fmt::Write;
 use std::io::{self, ErrorKind};
-use table_schema::Schema;
 use typed_csv::LoadFault;
 
 /// The descriptor of a table with one column of texts.
@@ -88,11 +88,8 @@ fn told_of(
     bytes: Vec<u8>,
     telling: Telling,
 ) -> io::Result<Vec<u8>> {
-    let Ok(schema) = Schema::read(alloc, descriptor) else {
-        return Err(io::Error::from(ErrorKind::InvalidData));
-    };
     let source = MemorySource::new(Seq::from(bytes), Seq::new(alloc));
-    match Inserts::start(alloc, schema, resource, source) {
+    match Inserts::start(alloc, schema_of(alloc, descriptor)?, resource, source) {
         Ok(mut inserts) => Ok(inserts_told(alloc, &mut inserts, telling)?.into_bytes()),
         Err((fault, _)) => Ok(format!(in alloc; "{fault}")?.into_bytes()),
     }

@@ -2,15 +2,17 @@
 ghost use Rattle.std.specs.Prelude.{All};
 ghost use Rattle.table_schema.specs.Printed.{IsValue};
 
+use crate::descriptor::schema_of;
 use crate::one_by_one::OneByOne;
+use crate::told::{Told, text_of};
 use cases::Case;
 use portal_base::memory::MemorySource;
 use portal_base::outside::Source;
 use portal_base::seq::Seq;
 use std::alloc::{AllocError, Global};
 use std::fmt::Write;
-use std::io::{self, ErrorKind};
-use table_schema::{Cell, Schema, cell_text};
+use std::io;
+use table_schema::{Cell, cell_text};
 use typed_csv::{LoadFault, Loader};
 
 /// Adds the cells, each in brackets, and a blank.
@@ -59,61 +61,63 @@ fn push_last<S: Source>(
 }
 
 /// The rows that the loader gives, and what ends them.
-fn rows_told<S: Source>(alloc: Global, loader: &mut Loader<S>) -> Result<String, AllocError> {
+fn rows_told<S: Source>(alloc: Global, loader: &mut Loader<S>) -> Result<Told, AllocError> {
     let mut told = String::new(alloc);
     for _ in 0..u64::MAX {
         match loader.next() {
             Ok(Some(cells)) => push_row(alloc, &mut told, cells.as_slice())?,
-            Ok(None) => {
-                push_last(&mut told, loader, None)?;
-                break;
-            }
+            Ok(None) => break,
             Err(fault) => {
                 push_last(&mut told, loader, Some(fault))?;
-                break;
+                return Ok(Err(told));
             }
         }
     }
-    Ok(told)
+    push_last(&mut told, loader, None)?;
+    Ok(Ok(told))
 }
 
 /// How many rows the loader gives, and what ends them.
-fn count_told<S: Source>(alloc: Global, loader: &mut Loader<S>) -> Result<String, AllocError> {
+fn count_told<S: Source>(alloc: Global, loader: &mut Loader<S>) -> Result<Told, AllocError> {
     let mut rows: u64 = 0;
     for _ in 0..u64::MAX {
         match loader.next() {
             Ok(Some(_)) => rows = rows.saturating_add(1),
             Ok(None) => break,
-            Err(fault) => return format!(in alloc; "{rows} rows, {fault}"),
+            Err(fault) => return Ok(Err(format!(in alloc; "{rows} rows, {fault}")?)),
         }
     }
-    format!(in alloc; "{rows} rows, end")
+    Ok(Ok(format!(in alloc; "{rows} rows, end")?))
 }
 
 /// What is told of the rows of a source.
 #[derive(Clone, Copy)]
-enum Telling {
+pub(crate) enum Telling {
     Rows,
     Count,
 }
 
+fn loader_told<S: Source>(
+    alloc: Global,
+    loader: &mut Loader<S>,
+    telling: Telling,
+) -> Result<Told, AllocError> {
+    match telling {
+        Telling::Rows => rows_told(alloc, loader),
+        Telling::Count => count_told(alloc, loader),
+    }
+}
+
 /// What is told of the rows of the source by the descriptor.
-fn told_of<S: Source + Drop>(
+pub(crate) fn told_of<S: Source + Drop>(
     alloc: Global,
     descriptor: &[u8],
     source: S,
     telling: Telling,
-) -> io::Result<String> {
-    let Ok(schema) = Schema::read(alloc, descriptor) else {
-        return Err(io::Error::from(ErrorKind::InvalidData));
-    };
-    let mut loader = match Loader::start(alloc, schema, source) {
-        Ok(loader) => loader,
-        Err((fault, _)) => return Ok(format!(in alloc; "{fault}")?),
-    };
-    match telling {
-        Telling::Rows => Ok(rows_told(alloc, &mut loader)?),
-        Telling::Count => Ok(count_told(alloc, &mut loader)?),
+) -> io::Result<Told> {
+    match Loader::start(alloc, schema_of(alloc, descriptor)?, source) {
+        Ok(mut loader) => Ok(loader_told(alloc, &mut loader, telling)?),
+        Err((fault, _)) => Ok(Err(format!(in alloc; "{fault}")?)),
     }
 }
 
@@ -123,16 +127,23 @@ fn source_of(alloc: Global, bytes: &[u8], failing: &[u64]) -> Result<MemorySourc
     Ok(MemorySource::new(bytes, Seq::from(failing.to_vec(alloc)?)))
 }
 
+/// The rows of a text of CSV by a descriptor.
+fn rows_whole(alloc: Global, case: &Case) -> io::Result<String> {
+    let source = source_of(alloc, case.bytes(1), &[])?;
+    Ok(text_of(told_of(alloc, case.bytes(0), source, Telling::Rows)?))
+}
+
+/// The same byte by byte, where reads with these numbers fail.
+fn rows_cut(alloc: Global, case: &Case, failing: &[u64]) -> io::Result<String> {
+    let inner = source_of(alloc, case.bytes(1), failing)?;
+    let source = OneByOne { inner };
+    Ok(text_of(told_of(alloc, case.bytes(0), source, Telling::Rows)?))
+}
+
 /// A descriptor and a text of CSV: its rows, read whole and byte by byte.
 pub(crate) fn rows_of(alloc: Global, case: &Case) -> io::Result<Vec<u8>> {
-    let whole = told_of(
-        alloc,
-        case.bytes(0),
-        source_of(alloc, case.bytes(1), &[])?,
-        Telling::Rows,
-    )?;
-    let inner = source_of(alloc, case.bytes(1), &[])?;
-    let cut = told_of(alloc, case.bytes(0), OneByOne { inner }, Telling::Rows)?;
+    let whole = rows_whole(alloc, case)?;
+    let cut = rows_cut(alloc, case, &[])?;
     if whole.as_str() == cut.as_str() {
         Ok(whole.into_bytes())
     } else {
@@ -142,8 +153,7 @@ pub(crate) fn rows_of(alloc: Global, case: &Case) -> io::Result<Vec<u8>> {
 
 /// A descriptor, a text of CSV that is read byte by byte, and the number of the read that fails: the rows.
 pub(crate) fn rows_before(alloc: Global, case: &Case) -> io::Result<Vec<u8>> {
-    let inner = source_of(alloc, case.bytes(1), &[case.parsed(2)?])?;
-    Ok(told_of(alloc, case.bytes(0), OneByOne { inner }, Telling::Rows)?.into_bytes())
+    Ok(rows_cut(alloc, case, &[case.parsed(2)?])?.into_bytes())
 }
 
 /// A header and so many rows, each with its number from 0 and a text of 1,008 bytes.
@@ -164,5 +174,6 @@ fn long_file(alloc: Global, rows: u64) -> Result<Vec<u8>, AllocError> {
 pub(crate) fn count_before(alloc: Global, case: &Case) -> io::Result<Vec<u8>> {
     let bytes = long_file(alloc, case.parsed(1)?)?;
     let source = source_of(alloc, bytes.as_slice(), &[case.parsed(2)?])?;
-    Ok(told_of(alloc, case.bytes(0), source, Telling::Count)?.into_bytes())
+    let told = told_of(alloc, case.bytes(0), source, Telling::Count)?;
+    Ok(text_of(told).into_bytes())
 }

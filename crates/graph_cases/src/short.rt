@@ -27,7 +27,7 @@ fn push_full(text: &mut String, word: &str) -> Result<(), AllocError> {
 }
 
 /// The document of a graph in short.
-fn document_of(alloc: Global, short: &str) -> Result<String, AllocError> {
+pub(crate) fn document_of(alloc: Global, short: &str) -> Result<String, AllocError> {
     let mut text = String::new(alloc);
     if short.is_empty() {
         return Ok(text);

@@ -6,7 +6,7 @@ use cases::Case;
 use datastore_table::Table;
 use portal_base::json_value::Json;
 use portal_base::seq::Seq;
-use std::alloc::Global;
+use std::alloc::{AllocError, Global};
 use std::io;
 use table_schema::Cell;
 
@@ -65,17 +65,27 @@ fn row_of(alloc: Global, value: Json) -> io::Result<(u64, Seq<Cell>)> {
     }
 }
 
-/// A descriptor, rows, each with its `_id` before its cells, and the next `_id`: the table, or `none`.
-pub(crate) fn told(alloc: Global, case: &Case) -> io::Result<Vec<u8>> {
+fn rows_of(alloc: Global, value: Json) -> io::Result<Seq<(u64, Seq<Cell>)>> {
     let mut rows = Vec::new(alloc);
-    for row in items_of(json_of(alloc, case.text(1)?)?)?.into_vec() {
+    for row in items_of(value)?.into_vec() {
         rows.push(row_of(alloc, row)?)?;
     }
-    let schema = schema_of(alloc, case.text(0)?)?;
+    Ok(Seq::from(rows))
+}
+
+fn shown(alloc: Global, restored: Option<Table>) -> Result<String, AllocError> {
     let mut shown = String::new(alloc);
-    match Table::restore(alloc, schema, Seq::from(rows), case.parsed(2)?)? {
+    match restored {
         Some(table) => push_table(alloc, &mut shown, &table)?,
         None => shown.push_str("none")?,
     }
-    Ok(shown.into_bytes())
+    Ok(shown)
+}
+
+/// A descriptor, rows, each with its `_id` before its cells, and the next `_id`: the table, or `none`.
+pub(crate) fn told(alloc: Global, case: &Case) -> io::Result<Vec<u8>> {
+    let rows = rows_of(alloc, json_of(alloc, case.text(1)?)?)?;
+    let schema = schema_of(alloc, case.text(0)?)?;
+    let restored = Table::restore(alloc, schema, rows, case.parsed(2)?)?;
+    Ok(shown(alloc, restored)?.into_bytes())
 }

@@ -74,14 +74,21 @@ pub(crate) fn filled(alloc: Global, descriptor: &str, records: &str) -> io::Resu
     }
 }
 
+// What each step answers.
+fn steps_told(alloc: Global, table: &mut Table, steps: Seq<Json>) -> io::Result<String> {
+    let mut shown = String::new(alloc);
+    for next in steps.into_vec() {
+        shown.push_str(step(alloc, table, next)?.as_str())?;
+        shown.push_str("; ")?;
+    }
+    Ok(shown)
+}
+
 /// A descriptor, and steps: what each answers, and the table behind them.
 pub(crate) fn told(alloc: Global, case: &Case) -> io::Result<Vec<u8>> {
     let mut table = table_of(alloc, case.text(0)?)?;
-    let mut shown = String::new(alloc);
-    for next in items_of(json_of(alloc, case.text(1)?)?)?.into_vec() {
-        shown.push_str(step(alloc, &mut table, next)?.as_str())?;
-        shown.push_str("; ")?;
-    }
+    let steps = items_of(json_of(alloc, case.text(1)?)?)?;
+    let mut shown = steps_told(alloc, &mut table, steps)?;
     push_table(alloc, &mut shown, &table)?;
     Ok(shown.into_bytes())
 }

@@ -44,41 +44,43 @@ fn built_shown(
     }
 }
 
+/// The dataset that a call builds from that one, or what is told of its body.
+fn changed_shown(alloc: Global, body: &Json, name: &str, whole: bool) -> io::Result<String> {
+    let old = dataset_of(alloc, name)?;
+    Ok(built_shown(alloc, body, Some(&old), whole)?)
+}
+
+/// The dataset that is built of the body, taken as the words say, or what is told of each faulty key.
+fn taken_shown(alloc: Global, words: &str, body: &Json) -> io::Result<String> {
+    match words.split_once(' ') {
+        None => Ok(built_shown(alloc, body, None, true)?),
+        Some((how, name)) => changed_shown(alloc, body, name, how == "update"),
+    }
+}
+
+/// The text without blanks at its end.
+fn trimmed(alloc: Global, shown: &str) -> Result<Vec<u8>, AllocError> {
+    shown.trim_end_matches(' ').as_bytes().to_vec(alloc)
+}
+
 /// How a body is taken, and the body: the dataset that is built, or what is told of each faulty key.
 pub(crate) fn dataset(alloc: Global, case: &Case) -> io::Result<Vec<u8>> {
     let body = body_of(alloc, case.text(1)?)?;
-    let shown = match case.text(0)?.split_once(' ') {
-        None => built_shown(alloc, &body, None, true)?,
-        Some(("update", name)) => {
-            let old = dataset_of(alloc, name)?;
-            built_shown(alloc, &body, Some(&old), true)?
-        }
-        Some((_, name)) => {
-            let old = dataset_of(alloc, name)?;
-            built_shown(alloc, &body, Some(&old), false)?
-        }
-    };
-    Ok(
-        shown
-            .as_str()
-            .trim_end_matches(' ')
-            .as_bytes()
-            .to_vec(alloc)?,
-    )
+    let shown = taken_shown(alloc, case.text(0)?, &body)?;
+    Ok(trimmed(alloc, shown.as_str())?)
+}
+
+/// The resource of that number that the body says, or what is told of each faulty key.
+fn resource_told(alloc: Global, body: &Json, number: u32) -> Result<String, AllocError> {
+    match resource_of(alloc, body, number) {
+        Ok(resource) => resource_shown(alloc, &resource),
+        Err(fault) => fault_shown(alloc, &fault),
+    }
 }
 
 /// A resource's number, and its body: the resource, or what is told of each faulty key.
 pub(crate) fn resource(alloc: Global, case: &Case) -> io::Result<Vec<u8>> {
     let body = body_of(alloc, case.text(1)?)?;
-    let shown = match resource_of(alloc, &body, case.parsed(0)?) {
-        Ok(resource) => resource_shown(alloc, &resource)?,
-        Err(fault) => fault_shown(alloc, &fault)?,
-    };
-    Ok(
-        shown
-            .as_str()
-            .trim_end_matches(' ')
-            .as_bytes()
-            .to_vec(alloc)?,
-    )
+    let shown = resource_told(alloc, &body, case.parsed(0)?)?;
+    Ok(trimmed(alloc, shown.as_str())?)
 }

@@ -115,6 +115,37 @@ fn numbers_in(alloc: Global, column: &str) -> io::Result<Vec<u64>> {
     Ok(numbers)
 }
 
+/// What calls of a reader answer over the text, of which these calls fail.
+fn told_whole(
+    alloc: Global,
+    text: &[u8],
+    failing: &[u64],
+    bounds: Bounds,
+) -> Result<Vec<u8>, AllocError> {
+    let mut source = source_of(alloc, text, failing)?;
+    told_of(alloc, &mut source, bounds)
+}
+
+/// The same byte by byte, where no call fails.
+fn told_one_by_one(alloc: Global, text: &[u8], bounds: Bounds) -> Result<Vec<u8>, AllocError> {
+    let inner = source_of(alloc, text, &[])?;
+    told_of(alloc, &mut OneByOne { inner }, bounds)
+}
+
+/// What is told of the text, which is the same byte by byte where it isn't too long; else what is told byte by byte.
+fn told_both(alloc: Global, text: &[u8], bounds: Bounds) -> Result<Vec<u8>, AllocError> {
+    let whole = told_whole(alloc, text, &[], bounds)?;
+    if text.len() as u64 > bounds.most {
+        return Ok(whole);
+    }
+    let single = told_one_by_one(alloc, text, bounds)?;
+    if single.as_slice() == whole.as_slice() {
+        Ok(whole)
+    } else {
+        Ok(single)
+    }
+}
+
 /// The most bytes of a line, the most of the source, the calls that fail, and the text: what calls of a reader
 /// answer. It is the same byte by byte, where no call fails and the text isn't too long.
 pub fn read(alloc: Global, case: &Case) -> io::Result<Vec<u8>> {
@@ -123,14 +154,9 @@ pub fn read(alloc: Global, case: &Case) -> io::Result<Vec<u8>> {
         most: case.parsed(1)?,
     };
     let failing = numbers_in(alloc, case.text(2)?)?;
-    let mut source = source_of(alloc, case.bytes(3), failing.as_slice())?;
-    let whole = told_of(alloc, &mut source, bounds)?;
-    if failing.is_empty() && case.bytes(3).len() as u64 <= bounds.most {
-        let inner = source_of(alloc, case.bytes(3), &[])?;
-        let single = told_of(alloc, &mut OneByOne { inner }, bounds)?;
-        if single.as_slice() != whole.as_slice() {
-            return Ok(single);
-        }
+    if failing.is_empty() {
+        Ok(told_both(alloc, case.bytes(3), bounds)?)
+    } else {
+        Ok(told_whole(alloc, case.bytes(3), failing.as_slice(), bounds)?)
     }
-    Ok(whole)
 }

@@ -56,6 +56,17 @@ fn holds(alloc: Global, case: Case) -> Result<bool, AllocError> {
     )
 }
 
+/// Fails where a run ends otherwise.
+fn expect(alloc: Global, case: Case) -> Result<(), Fail> {
+    if holds(alloc, case)? {
+        return Ok(());
+    }
+    Err(Fail::new(format_args!(
+        "{}: not {}, {} bytes written, {} told",
+        case.words, case.code, case.written, case.told
+    )))
+}
+
 /// How many bytes the first line has.
 fn first_line_length(text: &str) -> usize {
     match text.find('\n') {
@@ -95,7 +106,7 @@ fn words_and_portal_files_are_taken_or_told(rt: HostRuntime) -> Result<(), Fail>
         refused(file, failing, 8, "portal: cannot fetch p.toml\n"),
         refused("play --portal=p", NEVER, 8, "portal: cannot fetch p\n"),
     ] {
-        assert!(rt; holds(rt.alloc(), case)?, "at {}", case.line);
+        expect(rt.alloc(), case)?;
     }
     Ok(())
 }
@@ -112,7 +123,7 @@ fn each_failing_read_ends_a_run_with_3(rt: HostRuntime) -> Result<(), Fail> {
             written: written_after(read),
             ..refused("play", NEVER, 3, READ_FAULT)
         };
-        assert!(rt; holds(rt.alloc(), case)?, "after {read} bytes");
+        expect(rt.alloc(), case)?;
     }
     Ok(())
 }
@@ -129,7 +140,7 @@ fn each_failing_write_ends_a_run_with_4(rt: HostRuntime) -> Result<(), Fail> {
             written,
             ..refused("play", NEVER, 4, WRITE_FAULT)
         };
-        assert!(rt; holds(rt.alloc(), case)?, "after {written} bytes");
+        expect(rt.alloc(), case)?;
     }
     Ok(())
 }
@@ -142,7 +153,7 @@ fn output_is_full_after_each_byte(rt: HostRuntime) -> Result<(), Fail> {
             written: room,
             ..refused("play", NEVER, 4, WRITE_FAULT)
         };
-        assert!(rt; holds(rt.alloc(), case)?, "with room for {room} bytes");
+        expect(rt.alloc(), case)?;
     }
     Ok(())
 }
@@ -160,7 +171,7 @@ fn a_line_that_fails_changes_no_status(rt: HostRuntime) -> Result<(), Fail> {
             told,
             ..refused("play", ends, 3, READ_FAULT)
         };
-        assert!(rt; holds(rt.alloc(), case)?, "after {told} bytes");
+        expect(rt.alloc(), case)?;
     }
     Ok(())
 }

@@ -157,38 +157,63 @@ impl Loaded {
     }
 }
 
-/// A load of the CSV into the resource of a dataset that a script made.
-fn load_rows(alloc: Global, csv: &str, read: u64) -> Result<Loaded, AllocError> {
-    let mut script = source_of(alloc, DATASET, 0)?;
-    let mut input = source_of(alloc, csv, read)?;
-    let mut replies = MemorySink::new(alloc, 4_000, Seq::new(alloc))?;
-    let mut output = MemorySink::new(alloc, 4_000, Seq::new(alloc))?;
+fn sink(alloc: Global) -> Result<MemorySink, AllocError> {
+    MemorySink::new(alloc, 4_000, Seq::new(alloc))
+}
+
+/// The stated portal.
+fn portal(alloc: Global) -> Result<Portal, AllocError> {
     let opening = stated_opening(alloc)?;
-    let Ok(mut portal) = Portal::open(alloc, &opening) else {
-        return Err(AllocError);
-    };
-    let mut clock = ScriptClock::new();
-    let mut nonces = CountNonces::new();
-    play(
-        alloc,
-        &mut portal,
-        &mut script,
-        &mut replies,
-        &mut clock,
-        &mut nonces,
-    );
+    match Portal::open(alloc, &opening) {
+        Ok(portal) => Ok(portal),
+        Err(_) => Err(AllocError),
+    }
+}
+
+/// Plays the script that makes the dataset.
+fn make_dataset(
+    alloc: Global,
+    portal: &mut Portal,
+    clock: &mut ScriptClock,
+    nonces: &mut CountNonces,
+) -> Result<(), AllocError> {
+    let mut script = source_of(alloc, DATASET, 0)?;
+    let mut replies = sink(alloc)?;
+    play(alloc, portal, &mut script, &mut replies, clock, nonces);
+    Ok(())
+}
+
+/// A load of the CSV into the resource of the dataset.
+fn load_csv(
+    alloc: Global,
+    portal: &mut Portal,
+    mut input: MemorySource,
+    clock: &mut ScriptClock,
+    nonces: &mut CountNonces,
+) -> Result<Loaded, AllocError> {
+    let mut output = sink(alloc)?;
     let status = load(
         alloc,
-        &mut portal,
+        portal,
         &Caller::Named(Text::from_static("ann")),
         "keys.1",
         SCHEMA.as_bytes(),
         &mut input,
         &mut output,
-        &mut clock,
-        &mut nonces,
+        clock,
+        nonces,
     );
     Ok(Loaded { status, output })
+}
+
+/// A load of the CSV into the resource of a dataset that a script made.
+fn load_rows(alloc: Global, csv: &str, read: u64) -> Result<Loaded, AllocError> {
+    let mut portal = portal(alloc)?;
+    let mut clock = ScriptClock::new();
+    let mut nonces = CountNonces::new();
+    make_dataset(alloc, &mut portal, &mut clock, &mut nonces)?;
+    let input = source_of(alloc, csv, read)?;
+    load_csv(alloc, &mut portal, input, &mut clock, &mut nonces)
 }
 
 #[test]

@@ -157,6 +157,19 @@ fn desk(alloc: Global, accept: usize) -> Result<MemoryDesk, AllocError>
     })
 }
 
+fn fetchers(alloc: Global, ends: Ends) -> Result<Vec<MemoryFetcher>, AllocError>
+    ensures { IfOk result (λ fetchers. length fetchers.items ≡ 1) }
+{
+    Ok(Vec::from_array(alloc, [fetcher(alloc, ends)?])?)
+}
+
+fn desks(alloc: Global, accept: usize) -> Result<Vec<MemoryDesk>, AllocError>
+    ensures one { IfOk result (λ desks. length desks.items ≡ 1) }
+    ensures home { IfOk result (λ desks. All (λ desk. desk.listener.is_out ≡ false) desks.items) }
+{
+    crate::one_desk(alloc, desk(alloc, accept)?)
+}
+
 fn devices_with(alloc: Global, ends: Ends) -> Result<Devices, AllocError>
     ensures fetcher { IfOk result (λ devices. length devices.fetchers.items ≡ 1) }
     ensures desk { IfOk result (λ devices. length devices.desks.items ≡ 1) }
@@ -166,8 +179,8 @@ fn devices_with(alloc: Global, ends: Ends) -> Result<Devices, AllocError>
         input: source(alloc, ends.read)?,
         output: sink(alloc, ends.room, ends.write)?,
         faults: sink(alloc, 100, ends.line)?,
-        fetchers: Vec::from_array(alloc, [fetcher(alloc, ends)?])?,
-        desks: crate::one_desk(alloc, desk(alloc, ends.accept)?)?,
+        fetchers: fetchers(alloc, ends)?,
+        desks: desks(alloc, ends.accept)?,
     })
 }
 

@@ -1,8 +1,12 @@
 //! The inserts of a CSV, worked on a portal as `load` plays them.
+use crate::count::reply;
 use crate::desk::Desk;
+use cases::Case;
 use portal_base::dictionary::Value;
 use portal_base::json_value::Json;
+use portal_base::memory::MemorySource;
 use portal_base::outside::Source;
+use portal_base::seq::Seq;
 use portal_calls::action::Action;
 use portal_calls::call::Request;
 use portal_core::event::Reply;
@@ -23,7 +27,7 @@ fn invalid() -> io::Error {
 
 /// Works a call that has to be accepted, and gives its result.
 fn accepted(desk: &mut Desk, action: Action, body: Json) -> io::Result<Json> {
-    match desk.reply(Request { action, body }) {
+    match reply(desk, Request { action, body }) {
         Reply::Accepted(result) => Ok(result),
         _ => Err(invalid()),
     }
@@ -75,13 +79,12 @@ fn put_inserts<S: Source>(desk: &mut Desk, inserts: &mut Inserts<S>) -> io::Resu
 }
 
 /// Loads the CSV into a table of that description, and says how many rows were taken.
-pub fn load<S: Source + Drop>(
+fn rows_of<S: Source + Drop>(
     alloc: Global,
     desk: &mut Desk,
     descriptor: &str,
     source: S,
 ) -> io::Result<u64> {
-    make_table(alloc, desk, json_of(alloc, descriptor.as_bytes())?)?;
     let Ok(schema) = Schema::read(alloc, descriptor.as_bytes()) else {
         return Err(invalid());
     };
@@ -89,4 +92,19 @@ pub fn load<S: Source + Drop>(
         Ok(mut inserts) => put_inserts(desk, &mut inserts),
         Err(_refused) => Err(invalid()),
     }
+}
+
+/// How many rows of the CSV a table of that description takes.
+pub fn loaded<S: Source + Drop>(alloc: Global, descriptor: &str, source: S) -> io::Result<String> {
+    let mut desk = Desk::new(alloc)?;
+    make_table(alloc, &mut desk, json_of(alloc, descriptor.as_bytes())?)?;
+    let rows = rows_of(alloc, &mut desk, descriptor, source)?;
+    Ok(format!(in alloc; "{rows} rows")?)
+}
+
+/// A descriptor, and a text of CSV: how many of its rows a table of that description takes.
+pub fn told(alloc: Global, case: &Case) -> io::Result<Vec<u8>> {
+    let bytes = Seq::from(case.bytes(1).to_vec(alloc)?);
+    let source = MemorySource::new(bytes, Seq::new(alloc));
+    Ok(loaded(alloc, case.text(0)?, source)?.into_bytes())
 }
