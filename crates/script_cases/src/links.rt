@@ -1,7 +1,8 @@
 //! Links that a desk serves one after another on the stated portal.
-use crate::{line_of_difference, names_with};
+ghost use Rattle.std.specs.Prelude.{◌≡◌, false, IfOk};
+
+use crate::{compare_with, names_with};
 use cases::Tally;
-use cases::tally::Place;
 use portal_base::counted::{CountNonces, ScriptClock};
 use portal_base::memory::{MemoryLink, MemoryListener};
 use portal_base::outside::Desk;
@@ -26,17 +27,33 @@ fn links_of(rt: &HostRuntime, names: &[String]) -> io::Result<Vec<MemoryLink>> {
     Ok(links)
 }
 
-/// The listener that gave these links, once all were served.
-fn served(alloc: Global, links: Vec<MemoryLink>) -> Result<MemoryListener, AllocError> {
-    let most = links.len() as u64;
-    let mut portal = stated_portal(alloc)?;
-    let tokens = stated_tokens(alloc)?;
-    let mut desk = Desk {
+type MemoryDesk = Desk<MemoryListener, ScriptClock, CountNonces>;
+
+fn desk_of(alloc: Global, links: Vec<MemoryLink>) -> Result<MemoryDesk, AllocError>
+    ensures { IfOk result (λ desk. desk.listener.is_out ≡ false) }
+{
+    Ok(Desk {
         listener: MemoryListener::new(alloc, Seq::from(links), Seq::new(alloc))?,
         clock: ScriptClock::new(),
         nonces: CountNonces::new(),
-    };
-    let _ended = serve_desk(alloc, &mut portal, &tokens, &mut desk, most);
+    })
+}
+
+/// Serves so many of the desk's links on the stated portal.
+fn serve(alloc: Global, desk: &mut MemoryDesk, most: u64) -> Result<(), AllocError>
+    requires { desk.old.listener.is_out ≡ false }
+{
+    let mut portal = stated_portal(alloc)?;
+    let tokens = stated_tokens(alloc)?;
+    let _ended = serve_desk(alloc, &mut portal, &tokens, desk, most);
+    Ok(())
+}
+
+/// The listener that gave these links, once all were served.
+fn served(alloc: Global, links: Vec<MemoryLink>) -> Result<MemoryListener, AllocError> {
+    let most = links.len() as u64;
+    let mut desk = desk_of(alloc, links)?;
+    serve(alloc, &mut desk, most)?;
     let Desk { listener, .. } = desk;
     Ok(listener)
 }
@@ -44,12 +61,7 @@ fn served(alloc: Global, links: Vec<MemoryLink>) -> Result<MemoryListener, Alloc
 /// Compares what was written to a link with the response of that name.
 fn check_link(rt: &HostRuntime, tally: &mut Tally, name: &str, taken: &[u8]) -> io::Result<()> {
     let file = format!(in rt.alloc(); "{name}.response")?;
-    let wanted = fs::read(rt, file.as_str())?;
-    let place = Place {
-        file: file.as_str(),
-        line: line_of_difference(wanted.as_slice(), taken),
-    };
-    tally.compare(rt, place, wanted.as_slice(), taken)
+    compare_with(rt, tally, file.as_str(), taken)
 }
 
 /// Serves all links of the folder.

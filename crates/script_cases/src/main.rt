@@ -44,19 +44,28 @@ fn code_of(end: PlayEnd) -> u8 {
     }
 }
 
+/// Plays what input gives on the stated portal.
+fn play_stated(
+    alloc: Global,
+    input: &mut MemorySource,
+    output: &mut MemorySink,
+) -> Result<PlayEnd, AllocError> {
+    let mut portal = stated_portal(alloc)?;
+    Ok(play(
+        alloc,
+        &mut portal,
+        input,
+        output,
+        &mut ScriptClock::new(),
+        &mut CountNonces::new(),
+    ))
+}
+
 /// Plays a script in memory.
 fn play_in_memory(alloc: Global, script: &[u8]) -> Result<Played, AllocError> {
     let mut input = MemorySource::new(Seq::from(script.to_vec(alloc)?), Seq::new(alloc));
     let mut output = MemorySink::new(alloc, ROOM, Seq::new(alloc))?;
-    let mut portal = stated_portal(alloc)?;
-    let ended = play(
-        alloc,
-        &mut portal,
-        &mut input,
-        &mut output,
-        &mut ScriptClock::new(),
-        &mut CountNonces::new(),
-    );
+    let ended = play_stated(alloc, &mut input, &mut output)?;
     Ok(Played {
         code: code_of(ended),
         written: output.taken().to_vec(alloc)?,
@@ -73,7 +82,7 @@ fn transcript(alloc: Global, script: &[u8]) -> io::Result<Vec<u8>> {
 }
 
 /// The line of the first byte in which the two differ, the first one 1.
-pub fn line_of_difference(wanted: &[u8], found: &[u8]) -> u64 {
+fn line_of_difference(wanted: &[u8], found: &[u8]) -> u64 {
     let mut line: u64 = 1;
     for (one, other) in wanted.iter().zip(found.iter()) {
         if one != other {
@@ -86,33 +95,45 @@ pub fn line_of_difference(wanted: &[u8], found: &[u8]) -> u64 {
     line
 }
 
+/// Compares what was written with what the file wants.
+pub fn compare_with(
+    rt: &HostRuntime,
+    tally: &mut Tally,
+    file: &str,
+    found: &[u8],
+) -> io::Result<()> {
+    let wanted = fs::read(rt, file)?;
+    let line = line_of_difference(wanted.as_slice(), found);
+    tally.compare(rt, Place { file, line }, wanted.as_slice(), found)
+}
+
+/// The transcript of the script of this name.
+fn transcript_of(rt: &HostRuntime, name: &str) -> io::Result<Vec<u8>> {
+    let script = fs::read(rt, format!(in rt.alloc(); "{name}.script")?)?;
+    transcript(rt.alloc(), script.as_slice())
+}
+
 /// Plays the script of this name, and compares what it writes with its transcript.
 fn check_script(rt: &HostRuntime, tally: &mut Tally, name: &str) -> io::Result<()> {
-    let alloc = rt.alloc();
-    let script = fs::read(rt, format!(in alloc; "{name}.script")?)?;
-    let file = format!(in alloc; "{name}.transcript")?;
-    let wanted = fs::read(rt, file.as_str())?;
-    let found = transcript(alloc, script.as_slice())?;
-    let place = Place {
-        file: file.as_str(),
-        line: line_of_difference(wanted.as_slice(), found.as_slice()),
-    };
-    tally.compare(rt, place, wanted.as_slice(), found.as_slice())
+    let found = transcript_of(rt, name)?;
+    let file = format!(in rt.alloc(); "{name}.transcript")?;
+    compare_with(rt, tally, file.as_str(), found.as_slice())
+}
+
+/// What is written for a call that wants memory.
+fn want_of_memory(alloc: Global) -> Result<Vec<u8>, AllocError> {
+    let reply = Ok(Reply::Refused(Refusal::OutOfMemory));
+    let (status, text) = reply_text(alloc, Some("package_show"), &reply)?;
+    let mut written = format!(in alloc; "{status} ")?.into_bytes();
+    written.extend_from_slice(text.as_slice())?;
+    written.push(b'\n')?;
+    Ok(written)
 }
 
 /// Compares what is written for a call that wants memory.
 fn check_want_of_memory(rt: &HostRuntime, tally: &mut Tally) -> io::Result<()> {
-    let place = Place {
-        file: "want_of_memory.reply",
-        line: 1,
-    };
-    let wanted = fs::read(rt, place.file)?;
-    let reply = Ok(Reply::Refused(Refusal::OutOfMemory));
-    let (status, text) = reply_text(rt.alloc(), Some("package_show"), &reply)?;
-    let mut found = format!(in rt.alloc(); "{status} ")?.into_bytes();
-    found.extend_from_slice(text.as_slice())?;
-    found.push(b'\n')?;
-    tally.compare(rt, place, wanted.as_slice(), found.as_slice())
+    let found = want_of_memory(rt.alloc())?;
+    compare_with(rt, tally, "want_of_memory.reply", found.as_slice())
 }
 
 /// What stands before the ending in the names of the folder's files with it, ascending.

@@ -48,16 +48,20 @@ fn push_orgs(alloc: Global, told: &mut String, file: &PortalFile) -> Result<(), 
     Ok(())
 }
 
+/// What the file says.
+fn shown(alloc: Global, file: &PortalFile) -> Result<String, AllocError> {
+    let mut told = String::new(alloc);
+    push_users(alloc, &mut told, file)?;
+    push_orgs(alloc, &mut told, file)?;
+    Ok(told)
+}
+
 /// A portal file: what it says, or the first rule that it breaks.
 pub fn file_told(alloc: Global, case: &Case) -> io::Result<Vec<u8>> {
-    let mut told = String::new(alloc);
-    match PortalFile::read(alloc, case.bytes(0)) {
-        Ok(file) => {
-            push_users(alloc, &mut told, &file)?;
-            push_orgs(alloc, &mut told, &file)?;
-        }
-        Err(FileFault::Rule(rule)) => told.push_str(rule.name())?,
-        Err(FileFault::OutOfMemory) => told.push_str("out of memory")?,
-    }
+    let told = match PortalFile::read(alloc, case.bytes(0)) {
+        Ok(file) => shown(alloc, &file)?,
+        Err(FileFault::Rule(rule)) => String::from_str(alloc, rule.name())?,
+        Err(FileFault::OutOfMemory) => String::from_str(alloc, "out of memory")?,
+    };
     Ok(told.as_str().trim_matches(' ').as_bytes().to_vec(alloc)?)
 }

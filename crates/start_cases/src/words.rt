@@ -1,7 +1,7 @@
 //! The words of the command line: the command that they say, or `bad words`.
 use cases::Case;
 use portal_base::text::Text;
-use portal_words::{Command, WordsFault};
+use portal_words::{Command, LoadOptions, PlayOptions, ServeOptions, WordsFault};
 use std::alloc::{AllocError, Global};
 use std::io;
 
@@ -28,37 +28,39 @@ fn shown_portal(alloc: Global, portal: Option<&Text>) -> io::Result<String> {
     }
 }
 
-/// The command and its options.
-fn shown(alloc: Global, command: &Command) -> io::Result<String> {
-    match command {
-        Command::Play(options) => {
-            let portal = shown_portal(alloc, options.portal.as_ref())?;
-            Ok(format!(in alloc; "play{portal}")?)
-        }
-        Command::Load(options) => {
-            let portal = shown_portal(alloc, options.portal.as_ref())?;
-            let caller = options.caller.as_str();
-            let resource = options.resource.as_str();
-            let schema = options.schema.as_str();
-            Ok(format!(in alloc;
-                "load{portal} as [{caller}] resource [{resource}] schema [{schema}]"
-            )?)
-        }
-        Command::Serve(options) => {
-            let portal = shown_portal(alloc, options.portal.as_ref())?;
-            let links = options.links;
-            Ok(format!(in alloc; "serve{portal} links {links}")?)
-        }
+fn play_shown(alloc: Global, options: &PlayOptions) -> io::Result<String> {
+    let portal = shown_portal(alloc, options.portal.as_ref())?;
+    Ok(format!(in alloc; "play{portal}")?)
+}
+
+fn load_shown(alloc: Global, options: &LoadOptions) -> io::Result<String> {
+    let portal = shown_portal(alloc, options.portal.as_ref())?;
+    let caller = options.caller.as_str();
+    let resource = options.resource.as_str();
+    let schema = options.schema.as_str();
+    Ok(format!(in alloc; "load{portal} as [{caller}] resource [{resource}] schema [{schema}]")?)
+}
+
+fn serve_shown(alloc: Global, options: &ServeOptions) -> io::Result<String> {
+    let portal = shown_portal(alloc, options.portal.as_ref())?;
+    let links = options.links;
+    Ok(format!(in alloc; "serve{portal} links {links}")?)
+}
+
+/// The command and its options, or why there is none.
+fn shown(alloc: Global, read: &Result<Command, WordsFault>) -> io::Result<String> {
+    match read {
+        Ok(Command::Play(options)) => play_shown(alloc, options),
+        Ok(Command::Load(options)) => load_shown(alloc, options),
+        Ok(Command::Serve(options)) => serve_shown(alloc, options),
+        Err(WordsFault::BadWords) => Ok(String::from_str(alloc, "bad words")?),
+        Err(WordsFault::OutOfMemory) => Ok(String::from_str(alloc, "out of memory")?),
     }
 }
 
 /// Words with a space between them: the command that they say.
 pub fn command_told(alloc: Global, case: &Case) -> io::Result<Vec<u8>> {
     let words = words_in(alloc, case.text(0)?)?;
-    let told = match Command::read(alloc, words.as_slice()) {
-        Ok(command) => shown(alloc, &command)?,
-        Err(WordsFault::BadWords) => String::from_str(alloc, "bad words")?,
-        Err(WordsFault::OutOfMemory) => String::from_str(alloc, "out of memory")?,
-    };
-    Ok(told.as_bytes().to_vec(alloc)?)
+    let read = Command::read(alloc, words.as_slice());
+    Ok(shown(alloc, &read)?.into_bytes())
 }

@@ -9,7 +9,7 @@ use portal_base::seq::Seq;
 use portal_base::text::Text;
 use portal_core::portal::Portal;
 use portal_serve::play::play;
-use portal_serve::stated::stated_opening;
+use portal_serve::stated::stated_portal;
 use std::alloc::{AllocError, Global};
 use std::test::Fail;
 
@@ -161,15 +161,6 @@ fn sink(alloc: Global) -> Result<MemorySink, AllocError> {
     MemorySink::new(alloc, 4_000, Seq::new(alloc))
 }
 
-/// The stated portal.
-fn portal(alloc: Global) -> Result<Portal, AllocError> {
-    let opening = stated_opening(alloc)?;
-    match Portal::open(alloc, &opening) {
-        Ok(portal) => Ok(portal),
-        Err(_) => Err(AllocError),
-    }
-}
-
 /// Plays the script that makes the dataset.
 fn make_dataset(
     alloc: Global,
@@ -208,7 +199,7 @@ fn load_csv(
 
 /// A load of the CSV into the resource of a dataset that a script made.
 fn load_rows(alloc: Global, csv: &str, read: u64) -> Result<Loaded, AllocError> {
-    let mut portal = portal(alloc)?;
+    let mut portal = stated_portal(alloc)?;
     let mut clock = ScriptClock::new();
     let mut nonces = CountNonces::new();
     make_dataset(alloc, &mut portal, &mut clock, &mut nonces)?;
