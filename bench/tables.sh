@@ -11,6 +11,7 @@ import multiprocessing
 import sqlite3
 import sys
 import time
+from statistics import median
 
 from measuring import built, worked
 
@@ -23,7 +24,7 @@ STRIDE = 7919
 KNOWN = 100_000
 BOUND = 2.3
 ROUNDS = 8
-INSERTING_ROUNDS = 32
+INSERTING_ROUNDS = 24
 
 # What is done behind the inserts: nothing, batches of known keys, filters, and sorted pages.
 BEHIND = {"inserts": (0, 0, 0), "batch": (BATCHES, 0, 0), "filter": (0, FILTERS, 0), "page": (0, 0, PAGES)}
@@ -91,32 +92,42 @@ def apart(call, *given):
         return pool.apply(call, given)
 
 
-# The least of all rounds, each of which has each run once. The inserts, whose growth is bounded, have more rounds before, one
-# right behind another.
-least, peak, beside = {}, {}, {}
+def inserting(rows):
+    """Seconds of the processor for the inserts, over runs of as many rows in all at each size: a run that is short finds the
+    host undisturbed sooner than a long one."""
+    times = COUNTS[-1] // rows
+    return sum(run_of(rows, BEHIND["inserts"])[0] for _ in range(times)) / times
 
 
-def note(rows, name):
-    seconds, memory = run_of(rows, BEHIND[name])
-    least[rows, name] = min(seconds, least.get((rows, name), seconds))
-    peak[rows, name] = min(memory, peak.get((rows, name), memory))
-
-
+# The least of all rounds.
+inserts = {}
 for _ in range(INSERTING_ROUNDS):
     for rows in COUNTS:
-        note(rows, "inserts")
+        seconds = inserting(rows)
+        inserts[rows] = min(seconds, inserts.get(rows, seconds))
+
+# Of each round, which has each run once, the seconds of each run and of SQLite.
+peak = {}
+rounds = []
 for _ in range(ROUNDS):
+    ours, theirs = {}, {}
     for rows in COUNTS:
-        for name in BEHIND:
-            note(rows, name)
+        for name, behind in BEHIND.items():
+            ours[rows, name], memory = run_of(rows, behind)
+            peak[rows, name] = min(memory, peak.get((rows, name), memory))
         for name, seconds in apart(sqlite_of, rows).items():
-            beside[rows, name] = min(seconds, beside.get((rows, name), seconds))
+            theirs[rows, name] = seconds
+    rounds.append((ours, theirs))
 
 
 def each(rows, name, times):
-    """Milliseconds of one, and how many times as long as by SQLite."""
-    seconds = least[rows, name] - least[rows, "inserts"]
-    return f"{seconds / times * 1000:>9.2f} {seconds / beside[rows, name]:>9.2f}"
+    """Milliseconds of one, and how many times as long as by SQLite: the middle one of all rounds."""
+    seconds = median(ours[rows, name] - ours[rows, "inserts"] for ours, _ in rounds)
+    return f"{seconds / times * 1000:>9.2f} {seconds / median(theirs[rows, name] for _, theirs in rounds):>9.2f}"
+
+
+def inserts_of_sqlite(rows):
+    return median(ours[rows, "inserts"] / theirs[rows, "inserts"] for ours, theirs in rounds)
 
 
 is_over = False
@@ -124,11 +135,11 @@ before = None
 print(f"{'rows':>7} {'k rows/s':>9} {'ratio':>6} {'of SQLite':>9} {'bytes/row':>9} {'ms/batch':>9} {'of SQLite':>9}"
       f" {'ms/filter':>9} {'of SQLite':>9} {'ms/page':>9} {'of SQLite':>9}")
 for rows in COUNTS:
-    seconds = least[rows, "inserts"]
+    seconds = inserts[rows]
     ratio = seconds / before if before else None
     is_over = is_over or (ratio or 0) > BOUND
     print(f"{rows:>7} {rows / seconds / 1000:>9.1f} {f'{ratio:.2f}' if ratio else '':>6}"
-          f" {seconds / beside[rows, 'inserts']:>9.2f} {peak[rows, 'inserts'] / rows:>9.0f}"
+          f" {inserts_of_sqlite(rows):>9.2f} {peak[rows, 'inserts'] / rows:>9.0f}"
           f" {each(rows, 'batch', BATCHES)} {each(rows, 'filter', FILTERS)} {each(rows, 'page', PAGES)}")
     before = seconds
 sys.exit(1 if is_over else 0)
