@@ -10,7 +10,7 @@ import sqlite3
 import tempfile
 import time
 
-from measuring import built, worked
+from measuring import built, evened, worked
 from rows import DESCRIPTOR, rows_of, write_rows
 
 COUNTS = (100_000, 400_000)
@@ -33,24 +33,25 @@ def sqlite_of(count):
 
 
 def seconds_of(count):
-    """Seconds of the processor, and the peak memory in MiB."""
+    """Seconds of the processor. The least peak memory so far, in MiB, is kept."""
     usage = worked(program, rows_of(count), "load", DESCRIPTOR)[2]
-    return usage.ru_utime + usage.ru_stime, usage.ru_maxrss / 1024
+    memory = usage.ru_maxrss / 1024
+    peak[count] = min(memory, peak.get(count, memory))
+    return usage.ru_utime + usage.ru_stime
 
 
-# The least of all rounds, each of which has each run once. SQLite runs behind them, since a program's peak memory counts
-# that of the one that starts it.
+# The least of all rounds. SQLite runs behind them, since a program's peak memory counts that of the one that starts it.
 program = built("call_cases", "create", "0")
-rounds = [{count: seconds_of(count) for count in COUNTS} for _ in range(ROUNDS)]
-beside = [{count: sqlite_of(count) for count in COUNTS} for _ in range(ROUNDS)]
+peak = {}
+rounds = [{count: evened(seconds_of, count, COUNTS[-1]) for count in COUNTS} for _ in range(ROUNDS)]
+beside = [{count: evened(sqlite_of, count, COUNTS[-1]) for count in COUNTS} for _ in range(ROUNDS)]
 
 before = None
 print(f"{'rows':>7} {'k rows/s':>9} {'ratio':>6} {'peak MiB':>9} {'of SQLite':>9}")
 for count in COUNTS:
-    seconds = min(each[count][0] for each in rounds)
-    peak = min(each[count][1] for each in rounds)
+    seconds = min(each[count] for each in rounds)
     ratio = f"{seconds / before:.2f}" if before else ""
-    print(f"{count:>7} {count / seconds / 1000:>9.1f} {ratio:>6} {peak:>9.1f}"
+    print(f"{count:>7} {count / seconds / 1000:>9.1f} {ratio:>6} {peak[count]:>9.1f}"
           f" {seconds / min(each[count] for each in beside):>9.2f}")
     before = seconds
 PY

@@ -66,6 +66,13 @@ def worked(program, write, *words):
     return length, seconds, usage
 
 
+def evened(seconds_of, count, most):
+    """Seconds of a run of so many, over runs of as many in all as there are in one of the most: on a host that others use
+    a run that is short finds it undisturbed sooner than a long one."""
+    times = most // count
+    return sum(seconds_of(count) for _ in range(times)) / times
+
+
 def measured(program, write, *words):
     """As `worked`, with the peak memory in MiB in place of all that was used."""
     length, seconds, usage = worked(program, write, *words)

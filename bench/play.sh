@@ -6,12 +6,12 @@ cd "$(dirname "$0")" || exit 1
 exec python3 -B - <<'PY'
 import sys
 
-from measuring import built, worked
+from measuring import built, evened, worked
 
 KINDS = ("create", "show_by_name", "show_by_id", "patch")
 COUNTS = (10_000, 20_000, 40_000)
 BOUND = 2.3
-ROUNDS = 40
+ROUNDS = 24
 
 program = built("call_cases", "create", "0")
 
@@ -23,8 +23,12 @@ def seconds_of(kind, count):
     return usage.ru_utime + usage.ru_stime
 
 
-# The least of all rounds, each of which has each run once.
-rounds = [{(kind, count): seconds_of(kind, count) for kind in KINDS for count in COUNTS} for _ in range(ROUNDS)]
+def round_of(kind, count):
+    return evened(lambda size: seconds_of(kind, size), count, COUNTS[-1])
+
+
+# The least of all rounds.
+rounds = [{(kind, count): round_of(kind, count) for kind in KINDS for count in COUNTS} for _ in range(ROUNDS)]
 least = {run: min(seconds[run] for seconds in rounds) for run in rounds[0]}
 
 is_over = False

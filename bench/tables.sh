@@ -13,7 +13,7 @@ import sys
 import time
 from statistics import median
 
-from measuring import built, worked
+from measuring import built, evened, worked
 
 COUNTS = (100_000, 200_000, 400_000)
 BATCH = 500
@@ -93,17 +93,15 @@ def apart(call, *given):
 
 
 def inserting(rows):
-    """Seconds of the processor for the inserts, over runs of as many rows in all at each size: a run that is short finds the
-    host undisturbed sooner than a long one."""
-    times = COUNTS[-1] // rows
-    return sum(run_of(rows, BEHIND["inserts"])[0] for _ in range(times)) / times
+    """Seconds of the processor for the inserts."""
+    return run_of(rows, BEHIND["inserts"])[0]
 
 
 # The least of all rounds.
 inserts = {}
 for _ in range(INSERTING_ROUNDS):
     for rows in COUNTS:
-        seconds = inserting(rows)
+        seconds = evened(inserting, rows, COUNTS[-1])
         inserts[rows] = min(seconds, inserts.get(rows, seconds))
 
 # Of each round, which has each run once, the seconds of each run and of SQLite.
