@@ -1,4 +1,4 @@
--- The definitions on worked examples: rows of a text `k` and a whole number `n`, one of them without a number.
+-- The definitions on worked examples: rows of a text `k` and an integer `n`, one of them without a number.
 use Rattle.std.proofs.Common.{◌≡◌, ℕ, Bool, true, false, List, [], ◌∷◌, Option, Some, None, Ok, Err, refl, rules}
 use Rattle.std.specs.Prelude.{codes, pos}
 use Rattle.portal_base.specs.declared.json_value.Json as json
@@ -74,14 +74,14 @@ sorted = refl
 unsorted : sort_reading fields [] ≡ Ok []
 unsorted = refl
 
--- An unknown name is told before a part that can't be read.
+-- The error of an unknown name comes before that of a part that can't be read.
 unknown_first : parts_reading fields (None ∷ by (codes "up") Ascending ∷ []) ≡ Err (codes "No field up")
 unknown_first = refl
 
 unreadable : parts_reading fields (by (codes "k") Ascending ∷ None ∷ []) ≡ Err (codes "Sort is not readable")
 unreadable = refl
 
--- A comma between double quotes ends nothing.
+-- A comma between double quotes ends no part.
 quoted : parts_of (codes "\"a,b\",c") ≡ codes "\"a,b\"" ∷ codes "c" ∷ []
 quoted = refl
 
@@ -102,13 +102,13 @@ null_passes :
     ≡ true
 null_passes = refl
 
--- The first key by bytes without a column is told, though one with a faulty value stands before it.
+-- The error is that of the least key without a column, though a key with a faulty value comes before it.
 no_column : filters_reading fields (json.Map ((codes "n", json.Text (codes "x")) ∷ (codes "z", json.Null)
     ∷ (codes "y", json.Null) ∷ []))
     ≡ Err (codes "No field y")
 no_column = search (rules, the_lemmas)
 
--- A text is no whole number.
+-- An integer is no text.
 not_of_its_type : filters_reading fields (json.Map ((codes "k", json.Whole (pos 7)) ∷ []))
     ≡ Err (codes "k: not of type")
 not_of_its_type = search (rules, the_lemmas)
@@ -134,7 +134,7 @@ numbers distinct limit offset = record {
   offset = offset;
 }
 
--- The cut comes behind what makes rows distinct.
+-- A page is taken after the rows are made distinct.
 distinct_cut : page_rows (numbers true 1 1) rows ≡ (cell.Null ∷ []) ∷ []
 distinct_cut = refl
 

@@ -1,11 +1,11 @@
--- What is listed holds the values of the table's cells.
+-- Each cell of a page is a value.
 use Rattle.std.proofs.Common.{ℕ, ◌^◌, Bool, true, false, cond, List, [], ◌∷◌, ◌++◌, map, drop, fold, zero, suc}
 use Rattle.std.specs.Prelude.{All, nat_lt, pos, decimal}
 use Rattle.std.specs.List.{list_any}
 use Rattle.std.proofs.lemmas.List.Elements.{All-cons, All-drop, All-filter, All-head, All-map, All-nil}
 use Rattle.std.proofs.lemmas.List.Elements.{All-push, All-tail, All-take, All-weaker}
 use Rattle.portal_base.specs.Ordered.{ascending}
-use Rattle.portal_base.proofs.Placed.{All-each, All-IsIn}
+use Rattle.portal_base.proofs.Upserted.{All-each, All-IsIn}
 use Rattle.portal_base.proofs.Unique.{ascending-IsIn}
 use Rattle.std.specs.declared.cmp.Ordering.{Ordering}
 use Rattle.table_schema.specs.declared.cell.Cell.{Cell}
@@ -28,14 +28,14 @@ id_value id =
     elim (nat_lt id (2 ^ 63)) as (λ b. IsValue (cond b (cell.Int (pos id)) (cell.Text (decimal id))))
     [ true ↦ tt | false ↦ tt ]
 
-value_at : (cells : List Cell) (place : ℕ) → All IsValue cells → IsValue (cell_at cells place)
-value_at [] place h = tt
+value_at : (cells : List Cell) (index : ℕ) → All IsValue cells → IsValue (cell_at cells index)
+value_at [] index h = tt
 value_at (c ∷ cs) zero h = All-head IsValue c cs h
-value_at (c ∷ cs) (suc place) h = value_at cs place (All-tail IsValue c cs h)
+value_at (c ∷ cs) (suc index) h = value_at cs index (All-tail IsValue c cs h)
 
 column_value : (on : Column) (row : Row) → HasValues row → IsValue (column_cell on row)
 column_value column.Id row h = id_value row.id
-column_value (column.Field place) row h = value_at row.cells place h
+column_value (column.Field index) row h = value_at row.cells index h
 
 projected_values : (columns : List Column) (row : Row) → HasValues row → All IsValue (projected columns row)
 projected_values [] row h = All-nil IsValue

@@ -1,4 +1,4 @@
--- Rows of different `_id`s are nowhere alike.
+-- No sort ties two rows with different `_id`s.
 use Rattle.std.proofs.Common.{◌≡◌, ◌∙◌, false, ◌||◌, List, [], ◌∷◌, refl, ap, ap₂}
 use Rattle.std.specs.declared.cmp.Ordering.{Ordering}
 use Rattle.std.specs.declared.cmp.Ordering.TheVariants.{Less, Equal, Greater}
@@ -21,7 +21,7 @@ not_tied Less s h = refl
 not_tied Equal s h = h
 not_tied Greater s h = refl
 
--- Rows that aren't alike by `_id` aren't by a sort either, which ends with it.
+-- Rows with different `_id`s aren't tied by a sort, since it compares by `_id` last.
 pub apart_rows : (sorts : List Sort) (x y : Row) → is_eq (row_cmp x y) ≡ false → is_eq (sorts_cmp sorts x y) ≡ false
 apart_rows [] x y h = h
 apart_rows (sort ∷ sorts) x y h =

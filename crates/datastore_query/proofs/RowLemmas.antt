@@ -1,4 +1,4 @@
--- Rows that pass, in their order; columns one after another; and parts of lists.
+-- Rows that pass a test, in their order; columns one after another; and pages of lists.
 use Rattle.std.proofs.Common.{◌≡◌, ◌∙◌, ℕ, zero, suc, ◌+◌, ◌<◌, Bool, List, [], ◌∷◌, arith, drop, filter, length, map}
 use Rattle.std.proofs.Common.{ap, refl, sym, take}
 use Rattle.std.proofs.lemmas.List.{drop-map, take-map}
@@ -8,22 +8,22 @@ use Rattle.table_schema.specs.Field.{FieldValue}
 use Rattle.datastore_table.specs.declared.row.Row.{Row}
 use Rattle.datastore_table.specs.Rows.{row_cmp}
 use Rattle.datastore_query.specs.declared.column.Column.TheVariants as column
-use Rattle.datastore_query.specs.Column.{places_from}
+use Rattle.datastore_query.specs.Column.{field_columns_from}
 
 pub ascending_filtered : (p : Row → Bool) (rows : List Row) → IsAscending row_cmp rows
     → IsAscending row_cmp (filter p rows)
 ascending_filtered p rows up = IsAscending-filter row_cmp p rows up
 
-pub places_from_next : (n i : ℕ) (fields : List FieldValue) → i < length fields
-    → places_from n (drop i fields) ≡ column.Field n ∷ places_from (n + 1) (drop (i + 1) fields)
-places_from_next n i [] lt = absurd (omega arith)
-places_from_next n zero (field ∷ fields) lt = refl
-places_from_next n (suc i) (field ∷ fields) lt =
+pub field_columns_from_next : (n i : ℕ) (fields : List FieldValue) → i < length fields
+    → field_columns_from n (drop i fields) ≡ column.Field n ∷ field_columns_from (n + 1) (drop (i + 1) fields)
+field_columns_from_next n i [] lt = absurd (omega arith)
+field_columns_from_next n zero (field ∷ fields) lt = refl
+field_columns_from_next n (suc i) (field ∷ fields) lt =
     let e : suc (i + 1) ≡ suc i + 1 = omega arith in
-    places_from_next n i fields (omega arith)
-    ∙ ap (λ k. column.Field n ∷ places_from (n + 1) (drop k (field ∷ fields))) e
+    field_columns_from_next n i fields (omega arith)
+    ∙ ap (λ k. column.Field n ∷ field_columns_from (n + 1) (drop k (field ∷ fields))) e
 
-pub taken_mapped : {X Y : Type 0} (f : X → Y) (limit offset : ℕ) (xs : List X)
+pub page_of_mapped : {X Y : Type 0} (f : X → Y) (limit offset : ℕ) (xs : List X)
     → map f (take limit (drop offset xs)) ≡ take limit (drop offset (map f xs))
-taken_mapped f limit offset xs =
+page_of_mapped f limit offset xs =
     sym (take-map f limit (drop offset xs)) ∙ ap (take limit) (sym (drop-map f offset xs))

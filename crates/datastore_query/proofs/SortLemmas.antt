@@ -1,4 +1,4 @@
--- The parts of a sort's text, as they are cut off it.
+-- The parts of a sort's text, as they are split from it.
 use Rattle.std.proofs.Common.{◌≡◌, ◌∙◌, ℕ, ◌+◌, ◌<◌, ◌≤◌, List, length, take, drop, get_or, refl, ap, sym}
 use Rattle.std.proofs.Common.{Bool, true, false, cond, arith}
 use Rattle.std.specs.Prelude.{Option, Some, None, option_map}
@@ -12,9 +12,9 @@ use Rattle.std.proofs.lemmas.Bool.Decides.{nat_tests}
 use Rattle.std.proofs.lemmas.Slice.Eq.{bytes_eq-Decides}
 use Rattle.std.proofs.lemmas.Str.{IsCharBoundary-after_ascii}
 use Rattle.datastore_query.specs.SortText.{before_space, comma_from, is_between_quotes, is_end, is_quote}
-use Rattle.datastore_query.specs.SortText.{quoted_behind, without_word}
+use Rattle.datastore_query.specs.SortText.{quoted_after, without_word}
 
--- a place in what is left, counted from the text's start
+-- a position in the rest, counted from the start of the text
 abbrev pub counted_on : ℕ → Option ℕ → Option ℕ
 counted_on i None = None
 counted_on i (Some n) = Some (i + n)
@@ -30,19 +30,19 @@ more i (Some n) = ap Some (omega arith)
 pub comma_from-next : (quoted : Bool) (text : List ℕ) (i : ℕ) → i < length text
     → is_end quoted (get_or text i 0) ≡ false
     → counted_on i (comma_from quoted (drop i text))
-    ≡ counted_on (i + 1) (comma_from (quoted_behind quoted (get_or text i 0)) (drop (i + 1) text))
+    ≡ counted_on (i + 1) (comma_from (quoted_after quoted (get_or text i 0)) (drop (i + 1) text))
 comma_from-next quoted text i lt not_end =
     at_drop_more (λ cs. counted_on i (comma_from quoted cs)) text i 0 lt
     ∙ ap (λ b. counted_on i (cond b (Some 0)
-    (option_map (λ n. n + 1) (comma_from (quoted_behind quoted (get_or text i 0)) (drop (i + 1) text))))) not_end
-    ∙ more i (comma_from (quoted_behind quoted (get_or text i 0)) (drop (i + 1) text))
+    (option_map (λ n. n + 1) (comma_from (quoted_after quoted (get_or text i 0)) (drop (i + 1) text))))) not_end
+    ∙ more i (comma_from (quoted_after quoted (get_or text i 0)) (drop (i + 1) text))
 
 pub comma_from-end : (quoted : Bool) (text : List ℕ) (i : ℕ) → i < length text
     → is_end quoted (get_or text i 0) ≡ true → counted_on i (comma_from quoted (drop i text)) ≡ Some i
 comma_from-end quoted text i lt end =
     at_drop_more (λ cs. counted_on i (comma_from quoted cs)) text i 0 lt
     ∙ ap (λ b. counted_on i (cond b (Some 0)
-    (option_map (λ n. n + 1) (comma_from (quoted_behind quoted (get_or text i 0)) (drop (i + 1) text))))) end
+    (option_map (λ n. n + 1) (comma_from (quoted_after quoted (get_or text i 0)) (drop (i + 1) text))))) end
     ∙ ap Some (omega arith)
 
 pub comma_from-none : (quoted : Bool) (text : List ℕ) (i : ℕ) → length text ≤ i
@@ -58,7 +58,7 @@ ltb-of a b h = grind (arith, nat_tests)
 ltb-not : (a b : ℕ) → b ≤ a → nat_lt a b ≡ false
 ltb-not a b h = grind (arith, nat_tests)
 
--- A text may be cut behind a comma, and behind the double quote that it begins with.
+-- A text may be split after a comma, and after the double quote that it begins with.
 pub boundary-comma : (text bytes : List ℕ) (i : ℕ) → IsUtf8 text → bytes ≡ text → i < length bytes
     → get_or bytes i 0 ≡ 44 → IsCharBoundary text (i + 1)
 boundary-comma text bytes i utf8 same lt comma =
@@ -90,15 +90,15 @@ without_word-none word text none =
 pub without_word-some : (word text front : List ℕ) (k : ℕ) → k ≡ length word
     → text ≡ take (length text - k) text ++ word → front ≡ take (length text - k) text → length front + k ≡ length text
     → without_word word text ≡ before_space front
-without_word-some word text front k is whole cut long =
+without_word-some word text front k is whole split long =
     let n : ℕ = length text - length word in
     let at : n ≡ length front = omega arith in
-    let joined : text ≡ front ++ word = whole ∙ ap (λ bs. bs ++ word) (sym cut) in
-    let behind : drop n text ≡ word =
+    let joined : text ≡ front ++ word = whole ∙ ap (λ bs. bs ++ word) (sym split) in
+    let after : drop n text ≡ word =
     ap (λ i. drop i text) at ∙ ap (drop (length front)) joined ∙ drop-append_seam front word in
-    let here : take n text ≡ front = ap (λ i. take (length text - i) text) (sym is) ∙ sym cut in
+    let here : take n text ≡ front = ap (λ i. take (length text - i) text) (sym is) ∙ sym split in
     let fits : nat_le (length word) (length text) ≡ true = grind (arith, nat_tests) in
-    let same : bytes_eq (drop n text) word ≡ true = (bytes_eq-Decides (drop n text) word).1 behind in
+    let same : bytes_eq (drop n text) word ≡ true = (bytes_eq-Decides (drop n text) word).1 after in
     ap (λ b. cond {A = Option (List ℕ)} (b && bytes_eq (drop n text) word) (before_space (take n text)) None) fits
     ∙ ap (λ b. cond {A = Option (List ℕ)} b (before_space (take n text)) None) same
     ∙ ap before_space here

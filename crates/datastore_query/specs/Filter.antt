@@ -1,4 +1,4 @@
--- Filters: which rows have one of some values in a column.
+-- Filters: which rows have one of the given values in a column.
 use Rattle.std.specs.Prelude.{ℕ, Bool, true, false, ◌&&◌, if◌then◌else◌, List, [], ◌∷◌, ◌++◌, codes, flat_map, fold}
 use Rattle.std.specs.Prelude.{Option, Some, None, is_none, option_map, option_to_list, Result, Ok, Err, pos}
 use Rattle.std.specs.List.{list_all, list_any}
@@ -18,7 +18,7 @@ use Rattle.datastore_table.specs.Cells.{cell_at}
 use Rattle.datastore_query.specs.declared.column.Column.{Column}
 use Rattle.datastore_query.specs.declared.column.Column.TheVariants as column
 use Rattle.datastore_query.specs.declared.filter.Filter.{Filter}
-use Rattle.datastore_query.specs.Column.{column_kind, column_of, no_field}
+use Rattle.datastore_query.specs.Column.{column_kind, column_of, no_field_error}
 
 -- ---- one filter: a column's name with a value or a list of values, of which a row has one
 
@@ -51,7 +51,7 @@ abbrev pub reading_on : List FieldValue → Json → Option Column → Option Fi
 reading_on fields value None = None
 reading_on fields value (Some on) = option_map (filter_on on) (filter_values (column_kind fields on) value)
 
--- the filter of a dictionary's entry, if there is its column and its values are of the column's type
+-- the filter of an entry, if its column exists and its values have the column's type
 abbrev pub entry_reading : List FieldValue → Entry → Option Filter
 entry_reading fields entry = reading_on fields entry.1 (column_of fields entry.0)
 
@@ -60,8 +60,8 @@ entry_reading fields entry = reading_on fields entry.1 (column_of fields entry.0
 abbrev pub is_unknown : List FieldValue → Entry → Bool
 is_unknown fields entry = is_none (column_of fields entry.0)
 
-abbrev pub is_unread : List FieldValue → Entry → Bool
-is_unread fields entry = is_none (entry_reading fields entry)
+abbrev pub is_unreadable : List FieldValue → Entry → Bool
+is_unreadable fields entry = is_none (entry_reading fields entry)
 
 abbrev pub is_earlier : List ℕ → Option (List ℕ) → Bool
 is_earlier name None = true
@@ -70,27 +70,27 @@ is_earlier name (Some least) = is_lt (slice_cmp nat_cmp name least)
 abbrev pub with_earlier : (Entry → Bool) → Option (List ℕ) → Entry → Option (List ℕ)
 with_earlier test least entry = if test entry && is_earlier entry.0 least then Some entry.0 else least
 
--- the first by bytes of the keys of which this holds
+-- the least key, in the order of bytes, of the entries that pass the test
 abbrev pub least_such : (Entry → Bool) → List Entry → Option (List ℕ)
 least_such test entries = fold (with_earlier test) None entries
 
 abbrev pub filters_in : List FieldValue → List Entry → List Filter
 filters_in fields entries = flat_map (λ entry. option_to_list (entry_reading fields entry)) entries
 
-abbrev pub not_of_type : List ℕ → List ℕ
-not_of_type name = name ++ codes ": not of type"
+abbrev pub type_error : List ℕ → List ℕ
+type_error name = name ++ codes ": not of type"
 
-abbrev pub unless_unread : List Filter → Option (List ℕ) → Result (List Filter) (List ℕ)
-unless_unread filters None = Ok filters
-unless_unread filters (Some name) = Err (not_of_type name)
+abbrev pub unless_unreadable : List Filter → Option (List ℕ) → Result (List Filter) (List ℕ)
+unless_unreadable filters None = Ok filters
+unless_unreadable filters (Some name) = Err (type_error name)
 
 abbrev pub unless_unknown : Result (List Filter) (List ℕ) → Option (List ℕ) → Result (List Filter) (List ℕ)
 unless_unknown read None = read
-unless_unknown read (Some name) = Err (no_field name)
+unless_unknown read (Some name) = Err (no_field_error name)
 
 abbrev pub entries_reading : List FieldValue → List Entry → Result (List Filter) (List ℕ)
 entries_reading fields entries =
-    unless_unknown (unless_unread (filters_in fields entries) (least_such (is_unread fields) entries))
+    unless_unknown (unless_unreadable (filters_in fields entries) (least_such (is_unreadable fields) entries))
     (least_such (is_unknown fields) entries)
 
 abbrev pub entries_in : Json-F Json → List Entry
@@ -100,8 +100,8 @@ entries_in other = []
 abbrev pub entries_of : Json → List Entry
 entries_of filters = entries_in (out-Json filters)
 
--- The filters of a dictionary, or what is told of the first key by bytes that names no column, and else of the first
--- whose value isn't of the column's type.
+-- The filters of a JSON object. The error is that of the least key, in the order of bytes, that names no column. If
+-- each key names one, it is that of the least key whose value doesn't have the column's type.
 abbrev pub filters_reading : List FieldValue → Json → Result (List Filter) (List ℕ)
 filters_reading fields filters = entries_reading fields (entries_of filters)
 
@@ -114,9 +114,9 @@ is_id id other = false
 
 abbrev pub has_value : Column → Row → Cell → Bool
 has_value column.Id row value = is_id row.id value
-has_value (column.Field place) row value = same_cell (cell_at row.cells place) value
+has_value (column.Field index) row value = same_cell (cell_at row.cells index) value
 
--- the row has one of the values; where there are none, no row has
+-- The row has one of the values. If there are no values, no row passes.
 abbrev pub passes_filter : Row → Filter → Bool
 passes_filter row filter = list_any (has_value filter.column row) filter.values
 

@@ -1,4 +1,5 @@
--- Queries: what a query's parts are read as, and the page of a table's rows that it gives (CKAN's `datastore_search`).
+-- Queries (CKAN's `datastore_search`): how the parts of a query are read, and the page of a table's rows that it
+-- returns.
 use Rattle.std.specs.Prelude.{◌≡◌, ℕ, Bool, true, false, ◌&&◌, if◌then◌else◌, List, [], ◌∷◌, ◌++◌, codes, drop}
 use Rattle.std.specs.Prelude.{filter, fold, map, take, Result, Ok, Err}
 use Rattle.std.specs.List.{list_any}
@@ -18,8 +19,8 @@ use Rattle.datastore_query.specs.Filter.{filters_reading, passes_filters}
 use Rattle.datastore_query.specs.Sort.{in_order, sort_reading}
 use Rattle.datastore_query.specs.Words.{has_words}
 
--- A query: its filters, its words, the columns that rows are sorted by and those that are given, whether of equal rows
--- the first alone is, and which of the rows.
+-- A query: its filters, its words, the columns that it returns, the columns that it sorts by, whether it returns only
+-- the first of equal rows, and the bounds of the page.
 pub record QueryValue : Type 0 where
   pub filters : List Filter
   pub words : List (List ℕ)
@@ -31,21 +32,21 @@ pub record QueryValue : Type 0 where
 
 -- ---- reading
 
--- a faulty part, and what is told of it
-abbrev pub Fault : Type 0
-Fault = List ℕ × List ℕ
+-- the name of a faulty part, and its message
+abbrev pub PartError : Type 0
+PartError = List ℕ × List ℕ
 
-abbrev pub told : {A : Type 0} → List ℕ → Result A (List ℕ) → List Fault
-told part (Ok x) = []
-told part (Err message) = (part, message) ∷ []
+abbrev pub part_errors : {A : Type 0} → List ℕ → Result A (List ℕ) → List PartError
+part_errors part (Ok x) = []
+part_errors part (Err message) = (part, message) ∷ []
 
-abbrev pub all_told : Result (List Column) (List ℕ) → Result (List Filter) (List ℕ) → Result (List Sort) (List ℕ)
-    → List Fault
-all_told columns filters sorts =
-    told (codes "fields") columns ++ (told (codes "filters") filters ++ told (codes "sort") sorts)
+abbrev pub query_errors : Result (List Column) (List ℕ) → Result (List Filter) (List ℕ) → Result (List Sort) (List ℕ)
+    → List PartError
+query_errors columns filters sorts =
+    part_errors (codes "fields") columns ++ (part_errors (codes "filters") filters ++ part_errors (codes "sort") sorts)
 
 abbrev pub query_of : Parts → Result (List Column) (List ℕ) → Result (List Filter) (List ℕ)
-    → Result (List Sort) (List ℕ) → Result QueryValue (List Fault)
+    → Result (List Sort) (List ℕ) → Result QueryValue (List PartError)
 query_of parts (Ok columns) (Ok filters) (Ok sorts) = Ok (record {
   filters = filters;
   words = tokens parts.q;
@@ -55,32 +56,32 @@ query_of parts (Ok columns) (Ok filters) (Ok sorts) = Ok (record {
   limit = parts.limit;
   offset = parts.offset;
 })
-query_of parts columns filters sorts = Err (all_told columns filters sorts)
+query_of parts columns filters sorts = Err (query_errors columns filters sorts)
 
--- What the parts of a query of a table of these fields are read as, or each part that can't be read with its message.
-abbrev pub query_reading : List FieldValue → Parts → Result QueryValue (List Fault)
+-- The query that the parts are read as, for a table with these fields, or each faulty part with its message.
+abbrev pub query_reading : List FieldValue → Parts → Result QueryValue (List PartError)
 query_reading fields parts =
     query_of parts (columns_reading fields parts.fields) (filters_reading fields parts.filters)
     (sort_reading fields parts.sort)
 
--- a fault that is read, or want of memory
-abbrev pub IsFault : Result QueryValue (List Fault) → QueryFault → Type 0
+-- the fault is that of the reading, or out of memory
+abbrev pub IsFault : Result QueryValue (List PartError) → QueryFault → Type 0
 IsFault reading OutOfMemory = Unit {0}
-IsFault reading (Fields faults) = reading ≡ Err faults
+IsFault reading (Fields errors) = reading ≡ Err errors
 
 -- ---- rows
 
 abbrev pub is_selected : List Filter → List (List ℕ) → Row → Bool
 is_selected filters words row = passes_filters filters row && has_words words row
 
--- the rows that a query selects, which pass its filters and have its words, in the table's order
+-- the rows that pass the query's filters and have its words, in the table's order
 abbrev pub selected_rows : QueryValue → List Row → List Row
 selected_rows query rows = filter (is_selected query.filters query.words) rows
 
 abbrev pub with_first : {A : Type 0} → (A → A → Bool) → List A → A → List A
 with_first like kept x = if list_any (like x) kept then kept else kept ++ x ∷ []
 
--- of those that are alike the first, each where it stands
+-- the first of each group of alike items, in the given order
 abbrev pub firsts : {A : Type 0} → (A → A → Bool) → List A → List A
 firsts like xs = fold (with_first like) [] xs
 
@@ -88,8 +89,8 @@ abbrev pub firsts_if : Bool → List (List Cell) → List (List Cell)
 firsts_if false rows = rows
 firsts_if true rows = firsts same_cells rows
 
--- what all pages give together: the selected rows in order, in the columns that are given; where the query is
--- distinct, of equal ones the first
+-- The rows on all pages: the selected rows in order, with their cells in the columns that the query returns. If the
+-- query is distinct, only the first of equal rows.
 abbrev pub listing : QueryValue → List Row → List (List Cell)
 listing query rows =
     firsts_if query.distinct (map (projected query.columns) (in_order query.sorts (selected_rows query rows)))

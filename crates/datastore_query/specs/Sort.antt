@@ -19,7 +19,7 @@ use Rattle.datastore_query.specs.declared.sort.Sort.{Sort}
 use Rattle.datastore_query.specs.declared.sort.SortName.{SortName}
 use Rattle.datastore_query.specs.declared.sort_text.Direction.{Direction}
 use Rattle.datastore_query.specs.declared.sort_text.Direction.TheVariants.{Ascending, Descending}
-use Rattle.datastore_query.specs.Column.{column_of, no_field}
+use Rattle.datastore_query.specs.Column.{column_of, no_field_error}
 use Rattle.datastore_query.specs.SortText.{part_reading, parts_of}
 
 -- ---- reading
@@ -41,9 +41,9 @@ abbrev pub first_unknown : List FieldValue → List (Option SortName) → Option
 first_unknown fields [] = None
 first_unknown fields (part ∷ parts) = or_next (unknown_name fields part) (first_unknown fields parts)
 
--- some part can't be read
-abbrev pub is_unread : List (Option SortName) → Bool
-is_unread parts = list_any is_none parts
+-- one of the parts can't be read
+abbrev pub is_unreadable : List (Option SortName) → Bool
+is_unreadable parts = list_any is_none parts
 
 abbrev pub sort_on : Direction → Column → Sort
 sort_on direction on = record { column = on; direction = direction }
@@ -55,31 +55,31 @@ sort_of fields (Some part) = option_map (sort_on part.direction) (column_of fiel
 abbrev pub sorts_in : List FieldValue → List (Option SortName) → List Sort
 sorts_in fields parts = flat_map (λ part. option_to_list (sort_of fields part)) parts
 
-abbrev pub unless_unread : Bool → List Sort → Result (List Sort) (List ℕ)
-unless_unread unread sorts = if unread then Err (codes "Sort is not readable") else Ok sorts
+abbrev pub unless_unreadable : Bool → List Sort → Result (List Sort) (List ℕ)
+unless_unreadable unreadable sorts = if unreadable then Err (codes "Sort is not readable") else Ok sorts
 
 abbrev pub unless_unknown : Result (List Sort) (List ℕ) → Option (List ℕ) → Result (List Sort) (List ℕ)
 unless_unknown read None = read
-unless_unknown read (Some name) = Err (no_field name)
+unless_unknown read (Some name) = Err (no_field_error name)
 
 abbrev pub parts_reading : List FieldValue → List (Option SortName) → Result (List Sort) (List ℕ)
 parts_reading fields parts =
-    unless_unknown (unless_unread (is_unread parts) (sorts_in fields parts)) (first_unknown fields parts)
+    unless_unknown (unless_unreadable (is_unreadable parts) (sorts_in fields parts)) (first_unknown fields parts)
 
--- The columns that a sort's text names, each with its direction; or what is told of the first name that no column has,
--- and else of a part that can't be read.
+-- The columns that a sort's text names, each with its direction. The error is that of the first name that no column
+-- has. If each name has a column, it is that of a part that can't be read.
 abbrev pub sort_reading : List FieldValue → List ℕ → Result (List Sort) (List ℕ)
 sort_reading fields text = parts_reading fields (map part_reading (parts_of text))
 
 -- ---- order
 
 abbrev pub row_cell : ℕ → Row → Cell
-row_cell place row = cell_at row.cells place
+row_cell index row = cell_at row.cells index
 
--- Rows by a column: by `_id`, or by the cells, of which Null comes last.
+-- The order of rows by a column: by `_id`, or by the cells. Null comes last.
 abbrev pub column_cmp : Column → Row → Row → Ordering
 column_cmp column.Id = row_cmp
-column_cmp (column.Field place) = on (row_cell place) cell_cmp
+column_cmp (column.Field index) = on (row_cell index) cell_cmp
 
 abbrev pub turned : Direction → (Row → Row → Ordering) → Row → Row → Ordering
 turned Ascending cmp = cmp
@@ -88,7 +88,7 @@ turned Descending cmp = flip_args cmp
 abbrev pub sort_cmp : Sort → Row → Row → Ordering
 sort_cmp sort = turned sort.direction (column_cmp sort.column)
 
--- rows by one column after another, and last by `_id`
+-- the order of rows by one column after another, and last by `_id`
 abbrev pub sorts_cmp : List Sort → Row → Row → Ordering
 sorts_cmp [] = row_cmp
 sorts_cmp (sort ∷ sorts) = then_cmp (sort_cmp sort) (sorts_cmp sorts)
@@ -99,7 +99,7 @@ in_order sorts rows = ascending (sorts_cmp sorts) rows
 
 pub column_cmp_total : (on_column : Column) → IsTotalOrder (column_cmp on_column)
 column_cmp_total column.Id = row_cmp_total
-column_cmp_total (column.Field place) = on_total (row_cell place) cell_cmp_total
+column_cmp_total (column.Field index) = on_total (row_cell index) cell_cmp_total
 
 pub turned_total : (direction : Direction) {cmp : Row → Row → Ordering} → IsTotalOrder cmp
     → IsTotalOrder (turned direction cmp)

@@ -1,5 +1,5 @@
--- The text of a sort: parts between commas, each a name, in double quotes or not, with a direction behind it or none.
--- White space is Unicode's White_Space.
+-- The text of a sort. Commas separate its parts. Each part is a name, in double quotes or not, with or without a
+-- direction after it. White space is Unicode's White_Space.
 use Rattle.std.specs.Prelude.{ℕ, ◌+◌, ◌-◌, ◌==◌, nat_lt, nat_le, Bool, false, ◌&&◌, ◌||◌, not, if◌then◌else◌}
 use Rattle.std.specs.Prelude.{List, [], ◌∷◌, codes, fold, length, take, drop, slice_index, Option, Some, None}
 use Rattle.std.specs.Prelude.{option_map}
@@ -13,28 +13,28 @@ use Rattle.datastore_query.specs.declared.sort_text.Direction.TheVariants.{Ascen
 abbrev pub is_quote : ℕ → Bool
 is_quote c = c == 34
 
--- Whether one stands between double quotes behind this byte.
-abbrev pub quoted_behind : Bool → ℕ → Bool
-quoted_behind quoted c = if is_quote c then not quoted else quoted
+-- The text after this byte is between double quotes.
+abbrev pub quoted_after : Bool → ℕ → Bool
+quoted_after quoted c = if is_quote c then not quoted else quoted
 
 abbrev pub is_end : Bool → ℕ → Bool
 is_end quoted c = (c == 44) && not quoted
 
--- the place of the first comma that stands outside double quotes
+-- the position of the first comma outside double quotes
 abbrev pub comma_from : Bool → List ℕ → Option ℕ
 comma_from quoted [] = None
 comma_from quoted (c ∷ cs) =
-    if is_end quoted c then Some 0 else option_map (λ n. n + 1) (comma_from (quoted_behind quoted c) cs)
+    if is_end quoted c then Some 0 else option_map (λ n. n + 1) (comma_from (quoted_after quoted c) cs)
 
-abbrev pub in_front : ℕ → List (List ℕ) → List (List ℕ)
-in_front c [] = (c ∷ []) ∷ []
-in_front c (part ∷ parts) = (c ∷ part) ∷ parts
+abbrev pub prepended : ℕ → List (List ℕ) → List (List ℕ)
+prepended c [] = (c ∷ []) ∷ []
+prepended c (part ∷ parts) = (c ∷ part) ∷ parts
 
--- the parts between the commas that stand outside double quotes
+-- the parts between the commas outside double quotes
 abbrev pub parts_from : Bool → List ℕ → List (List ℕ)
 parts_from quoted [] = [] ∷ []
 parts_from quoted (c ∷ cs) =
-    if is_end quoted c then [] ∷ parts_from false cs else in_front c (parts_from (quoted_behind quoted c) cs)
+    if is_end quoted c then [] ∷ parts_from false cs else prepended c (parts_from (quoted_after quoted c) cs)
 
 -- the parts of a text; the empty text has none
 abbrev pub parts_of : List ℕ → List (List ℕ)
@@ -43,7 +43,7 @@ parts_of (c ∷ cs) = parts_from false (c ∷ cs)
 
 -- a double quote is left open
 abbrev pub is_unclosed : List ℕ → Bool
-is_unclosed text = fold quoted_behind false text
+is_unclosed text = fold quoted_after false text
 
 -- ---- one part
 
@@ -53,7 +53,7 @@ if_shorter name front = if nat_lt (length name) (length front) then Some name el
 abbrev pub before_space : List ℕ → Option (List ℕ)
 before_space front = if_shorter (trim_end front) front
 
--- what stands in front of the word, where the text ends with white space and the word
+-- the text before the word, if the text ends with white space and the word; the white space is trimmed
 abbrev pub without_word : List ℕ → List ℕ → Option (List ℕ)
 without_word word text =
     if nat_le (length word) (length text) && bytes_eq (drop (length text - length word) text) word
@@ -68,31 +68,31 @@ abbrev pub or_descending : List ℕ → Option (List ℕ) → SortName
 or_descending text None = or_ascending text (without_word (codes "asc") text)
 or_descending text (Some name) = record { name = name; direction = Descending }
 
--- the text without the `asc` or `desc` behind it
+-- the text without the `asc` or `desc` at its end, and the direction
 abbrev pub directed : List ℕ → SortName
 directed text = or_descending text (without_word (codes "desc") text)
 
--- what stands between the first and the last byte
+-- the text between the first and the last byte
 abbrev pub inner : List ℕ → List ℕ
 inner text = take (length text - 2) (drop 1 text)
 
--- It begins and ends with a double quote and has no other.
+-- The text begins and ends with a double quote and has no other.
 abbrev pub is_between_quotes : List ℕ → Bool
 is_between_quotes text =
     nat_le 2 (length text) && (is_quote (slice_index text 0)
     && (is_quote (slice_index text (length text - 1)) && not (list_any is_quote (inner text))))
 
--- the name, which may stand in double quotes
+-- the name, without the double quotes that it may have around it
 abbrev pub name_of : List ℕ → List ℕ
 name_of text = if is_between_quotes text then inner text else text
 
 abbrev pub named : SortName → SortName
 named part = record { name = name_of part.name; direction = part.direction }
 
-abbrev pub is_void : List ℕ → Bool
-is_void text = length text == 0
+abbrev pub is_empty_text : List ℕ → Bool
+is_empty_text text = length text == 0
 
 -- The name and the direction of a part, unless the part is empty or leaves a double quote open.
 abbrev pub part_reading : List ℕ → Option SortName
 part_reading part =
-    if is_void (trim part) || is_unclosed part then None else Some (named (directed (trim part)))
+    if is_empty_text (trim part) || is_unclosed part then None else Some (named (directed (trim part)))

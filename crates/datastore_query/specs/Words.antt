@@ -1,4 +1,4 @@
--- Words: which rows have each of a query's tokens in a cell.
+-- Words: which rows have each word of a query as a token of a cell.
 use Rattle.std.specs.Prelude.{ℕ, Bool, List, flat_map}
 use Rattle.std.specs.List.{list_all, list_any}
 use Rattle.std.specs.Str.{bytes_eq}
@@ -10,7 +10,7 @@ use Rattle.datastore_table.specs.declared.row.Row.{Row}
 abbrev pub cell_tokens : Cell → List (List ℕ)
 cell_tokens c = tokens (cell_text c)
 
--- the tokens of a row's printed cells; its `_id` is no cell
+-- the tokens of a row's printed cells; its `_id` is not among them
 abbrev pub row_tokens : Row → List (List ℕ)
 row_tokens row = flat_map cell_tokens row.cells
 

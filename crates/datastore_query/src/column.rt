@@ -1,10 +1,10 @@
-//! The columns of a table's rows.
+//! The columns of a table's rows: `_id` and the fields.
 ghost use Rattle.std.specs.Prelude.{◌≡◌, ◌∷◌, All, IfOk, Ok, length, map, option_copied, option_map, position};
 ghost use Rattle.std.specs.Str.{bytes_eq};
 ghost use Rattle.table_schema.specs.Printed.{IsValue};
 ghost use Rattle.datastore_query.specs.Column.{all_columns, column_cell, column_kind, column_name, column_of};
-ghost use Rattle.datastore_query.specs.Column.{column_reading, columns_reading, id_cell, named_columns, no_field};
-ghost use Rattle.datastore_query.specs.Column.{place_of, projected};
+ghost use Rattle.datastore_query.specs.Column.{column_reading, columns_reading, id_cell, named_columns, no_field_error};
+ghost use Rattle.datastore_query.specs.Column.{field_index, projected};
 
 use datastore_table::Row;
 use portal_base::copy::TryClone;
@@ -19,36 +19,36 @@ const ID: &str = "_id";
 /// A column of a table's rows.
 #[derive(Clone, Copy, Drop)]
 pub(crate) enum Column {
-    /// That of `_id`s.
+    /// The column of the `_id`s.
     Id,
-    /// That of the field at this place of the schema, counted from 0.
+    /// The column of the field at this index in the schema, from 0.
     Field(usize),
 }
 
-fn place_of(fields: &[Field], name: &str) -> Option<usize>
-    ensures { result ≡ place_of fields.now name.now }
+fn field_index(fields: &[Field], name: &str) -> Option<usize>
+    ensures { result ≡ field_index fields.now name.now }
 {
     fields
         .iter()
         .position(|field| field.name().as_str() == name)
 }
 
-/// The column of this name.
+/// Finds the column with this name.
 pub(crate) fn column_of(fields: &[Field], name: &str) -> Option<Column>
     ensures { result ≡ column_of fields.now name.now }
 {
     if name == ID {
         return Some(Column::Id);
     }
-    match place_of(fields, name) {
-        Some(place) => Some(Column::Field(place)),
+    match field_index(fields, name) {
+        Some(index) => Some(Column::Field(index)),
         None => None,
     }
 }
 
-/// What is told of a name that no column has.
-pub(crate) fn no_field(alloc: Global, name: &str) -> Result<Text, AllocError>
-    ensures { IfOk result (λ text. text ≡ no_field name.now) }
+/// The error for a name that no column has.
+pub(crate) fn no_field_error(alloc: Global, name: &str) -> Result<Text, AllocError>
+    ensures { IfOk result (λ text. text ≡ no_field_error name.now) }
 {
     Ok(Text::from(format!(in alloc; "No field {name}")?))
 }
@@ -59,7 +59,7 @@ pub(crate) fn kind_of(fields: &[Field], column: Column) -> Kind
 {
     match column {
         Column::Id => Kind::Integer,
-        Column::Field(place) => match fields.get(place) {
+        Column::Field(index) => match fields.get(index) {
             Some(field) => field.form().kind(),
             None => Kind::Text,
         },
@@ -71,14 +71,14 @@ fn name_of(alloc: Global, fields: &[Field], column: Column) -> Result<Text, Allo
 {
     match column {
         Column::Id => Ok(Text::from_static(ID)),
-        Column::Field(place) => match fields.get(place) {
+        Column::Field(index) => match fields.get(index) {
             Some(field) => field.name().try_clone(alloc),
             None => Ok(Text::new(alloc)),
         },
     }
 }
 
-/// The names of columns.
+/// The names of these columns.
 pub(crate) fn names_of(
     alloc: Global,
     fields: &[Field],
@@ -93,20 +93,20 @@ pub(crate) fn names_of(
     Ok(Seq::from(names))
 }
 
-// The column of `_id`s, and behind it those of all fields.
-#[tactic(auto, using(crate::proofs::RowLemmas::places_from_next))]
+// The column of the `_id`s, and after it the columns of all fields.
+#[tactic(auto, using(crate::proofs::RowLemmas::field_columns_from_next))]
 fn all_columns(alloc: Global, fields: &[Field]) -> Result<Seq<Column>, AllocError>
     ensures { IfOk result (λ columns. columns ≡ all_columns fields.now) }
 {
     let mut columns = Vec::new(alloc);
     columns.push(Column::Id)?;
-    for place in 0..fields.len() {
-        columns.push(Column::Field(place))?;
+    for index in 0..fields.len() {
+        columns.push(Column::Field(index))?;
     }
     Ok(Seq::from(columns))
 }
 
-// The columns of these names, or what is told of the first that is none.
+// The columns with these names, or the error for the first name that no column has.
 fn named_columns(
     alloc: Global,
     fields: &[Field],
@@ -118,13 +118,14 @@ fn named_columns(
     for name in names {
         match column_of(fields, name.as_str()) {
             Some(column) => columns.push(column)?,
-            None => return Ok(Err(no_field(alloc, name.as_str())?)),
+            None => return Ok(Err(no_field_error(alloc, name.as_str())?)),
         }
     }
     Ok(Ok(Seq::from(columns)))
 }
 
-/// The columns that are given, or what is told of the first name that no column has.
+/// The columns that a query returns, or the error for the first name that no column has. Without names these are all
+/// columns.
 pub(crate) fn columns_of(
     alloc: Global,
     fields: &[Field],
@@ -138,7 +139,7 @@ pub(crate) fn columns_of(
     }
 }
 
-// An `_id` as a cell.
+// An `_id` as a cell: an integer, or its digits as a text if it exceeds `i64`.
 fn id_cell(alloc: Global, id: u64) -> Result<Cell, AllocError>
     ensures { IfOk result (λ cell. cell ≡ id_cell id) }
 {
@@ -154,7 +155,7 @@ fn cell_of(alloc: Global, row: &Row, column: Column) -> Result<Cell, AllocError>
 {
     match column {
         Column::Id => id_cell(alloc, row.id),
-        Column::Field(place) => match row.cells.as_slice().get(place) {
+        Column::Field(index) => match row.cells.as_slice().get(index) {
             Some(cell) => cell.try_clone(alloc),
             None => Ok(Cell::Null),
         },

@@ -1,13 +1,13 @@
-//! Why a query is not read.
+//! The faults of a query.
 
 use portal_base::seq::Seq;
 use portal_base::text::Text;
 use std::alloc::AllocError;
 
-/// Why a query is not read.
+/// Why a query can't be read.
 #[derive(Debug, Drop)]
 pub enum QueryFault {
-    /// Each faulty part, which is `fields`, `filters` or `sort`, with its one message, by part.
+    /// The name and the message of each faulty part, in the order `fields`, `filters`, `sort`.
     Fields(Seq<(Text, Text)>),
     OutOfMemory,
 }

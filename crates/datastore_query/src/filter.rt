@@ -1,4 +1,4 @@
-//! Filters: which rows have one of some values in a column.
+//! Filters: which rows have one of the given values in a column.
 ghost use Rattle.std.specs.Prelude.{◌≡◌, ◌∷◌, [], IfOk, IsTrue, None, Ok, flat_map, fold, map};
 ghost use Rattle.std.specs.Prelude.{option_copied, option_to_list};
 ghost use Rattle.std.specs.List.{list_all, list_any};
@@ -6,10 +6,10 @@ ghost use Rattle.portal_base.specs.Kinds.{all_of};
 ghost use Rattle.datastore_table.specs.Cells.{cell_at};
 ghost use Rattle.table_schema.specs.Order.{same_cell};
 ghost use Rattle.datastore_query.specs.Filter.{entry_reading, filter_cell, filter_values, filters_in, filters_reading};
-ghost use Rattle.datastore_query.specs.Filter.{entries_of, has_value, is_earlier, is_id, is_unknown, is_unread};
-ghost use Rattle.datastore_query.specs.Filter.{least_such, not_of_type, passes_filter, passes_filters, with_earlier};
+ghost use Rattle.datastore_query.specs.Filter.{entries_of, has_value, is_earlier, is_id, is_unknown, is_unreadable};
+ghost use Rattle.datastore_query.specs.Filter.{least_such, type_error, passes_filter, passes_filters, with_earlier};
 
-use crate::column::{Column, column_of, kind_of, no_field};
+use crate::column::{Column, column_of, kind_of, no_field_error};
 use datastore_table::Row;
 use portal_base::copy::TryClone;
 use portal_base::json_value::Json;
@@ -18,7 +18,7 @@ use portal_base::text::Text;
 use std::alloc::{AllocError, Global};
 use table_schema::{Cell, Field, Kind, value_of};
 
-/// A filter: a row passes it that has one of these values in the column.
+/// A filter. A row passes it if it has one of these values in the column.
 #[derive(Drop)]
 pub(crate) struct Filter {
     pub column: Column,
@@ -27,7 +27,7 @@ pub(crate) struct Filter {
 
 // ---- reading
 
-// The cell of one value, by the type alone; null is Null.
+// The cell of one value, by the type alone, without the field's format and constraints. JSON's null is Null.
 fn filter_cell(alloc: Global, kind: Kind, value: &Json) -> Result<Option<Cell>, AllocError>
     ensures { IfOk result (λ cell. cell ≡ filter_cell kind value.now) }
 {
@@ -37,7 +37,7 @@ fn filter_cell(alloc: Global, kind: Kind, value: &Json) -> Result<Option<Cell>, 
     }
 }
 
-// The cells of values, if all have one.
+// The cells of the values, if each value has one.
 fn filter_cells(alloc: Global, kind: Kind, values: &[Json]) -> Result<Option<Seq<Cell>>, AllocError>
     ensures { IfOk result (λ cells. cells ≡ all_of (filter_cell kind) values.now) }
 {
@@ -72,7 +72,7 @@ fn filter_values(alloc: Global, kind: Kind, value: &Json) -> Result<Option<Seq<C
     }
 }
 
-// The filter of an entry, if there is its column and its values are of the column's type.
+// The filter of an entry, if its column exists and its values have the column's type.
 fn entry_filter(
     alloc: Global,
     fields: &[Field],
@@ -104,7 +104,7 @@ fn is_unknown(fields: &[Field], entry: &(Text, Json)) -> bool
     column_of(fields, entry.0.as_str()).is_none()
 }
 
-// The first of the keys by bytes that names no column.
+// The least key, in the order of bytes, that names no column.
 fn least_unknown<'a>(fields: &[Field], entries: &'a [(Text, Json)]) -> Option<&'a Text>
     ensures { option_copied result ≡ least_such (is_unknown fields.now) entries.now }
 {
@@ -117,8 +117,8 @@ fn least_unknown<'a>(fields: &[Field], entries: &'a [(Text, Json)]) -> Option<&'
     least
 }
 
-fn is_unread(alloc: Global, fields: &[Field], entry: &(Text, Json)) -> Result<bool, AllocError>
-    ensures { IfOk result (λ unread. unread ≡ is_unread fields.now entry.now) }
+fn is_unreadable(alloc: Global, fields: &[Field], entry: &(Text, Json)) -> Result<bool, AllocError>
+    ensures { IfOk result (λ unreadable. unreadable ≡ is_unreadable fields.now entry.now) }
 {
     Ok(entry_filter(alloc, fields, entry)?.is_none())
 }
@@ -132,17 +132,17 @@ fn copy_of(alloc: Global, name: Option<&Text>) -> Result<Option<Text>, AllocErro
     }
 }
 
-// The first of the keys by bytes whose filter can't be read.
-fn least_unread(
+// The least key, in the order of bytes, whose filter can't be read.
+fn least_unreadable(
     alloc: Global,
     fields: &[Field],
     entries: &[(Text, Json)],
 ) -> Result<Option<Text>, AllocError>
-    ensures { IfOk result (λ least. least ≡ least_such (is_unread fields.now) entries.now) }
+    ensures { IfOk result (λ least. least ≡ least_such (is_unreadable fields.now) entries.now) }
 {
     let mut least = None;
     for entry in entries {
-        if is_unread(alloc, fields, entry)? && is_earlier(&entry.0, least) {
+        if is_unreadable(alloc, fields, entry)? && is_earlier(&entry.0, least) {
             least = Some(&entry.0);
         }
     }
@@ -166,8 +166,8 @@ fn filters_in(
     Ok(Seq::from(filters))
 }
 
-fn not_of_type(alloc: Global, name: &str) -> Result<Text, AllocError>
-    ensures { IfOk result (λ text. text ≡ not_of_type name.now) }
+fn type_error(alloc: Global, name: &str) -> Result<Text, AllocError>
+    ensures { IfOk result (λ text. text ≡ type_error name.now) }
 {
     Ok(Text::from(format!(in alloc; "{name}: not of type")?))
 }
@@ -181,8 +181,8 @@ fn entries_of(filters: &Json) -> &[(Text, Json)]
     }
 }
 
-/// The filters of a dictionary, or what is told of the first key by bytes that names no column, and else of the first
-/// whose value isn't of the column's type.
+/// Reads the filters of a JSON object. The error is that of the least key, in the order of bytes, that names no column.
+/// If each key names one, it is that of the least key whose value doesn't have the column's type.
 pub(crate) fn filters_of(
     alloc: Global,
     fields: &[Field],
@@ -192,10 +192,10 @@ pub(crate) fn filters_of(
 {
     let entries = entries_of(filters);
     if let Some(name) = least_unknown(fields, entries) {
-        return Ok(Err(no_field(alloc, name.as_str())?));
+        return Ok(Err(no_field_error(alloc, name.as_str())?));
     }
-    match least_unread(alloc, fields, entries)? {
-        Some(name) => Ok(Err(not_of_type(alloc, name.as_str())?)),
+    match least_unreadable(alloc, fields, entries)? {
+        Some(name) => Ok(Err(type_error(alloc, name.as_str())?)),
         None => Ok(Ok(filters_in(alloc, fields, entries)?)),
     }
 }
@@ -212,11 +212,11 @@ fn is_id(id: u64, value: &Cell) -> bool
     }
 }
 
-// Whether the cell at this place is the value.
-fn is_at(cells: &[Cell], place: usize, value: &Cell) -> bool
-    ensures { result ≡ same_cell (cell_at cells.now place) value.now }
+// Whether the cell at this index is the value.
+fn is_at(cells: &[Cell], index: usize, value: &Cell) -> bool
+    ensures { result ≡ same_cell (cell_at cells.now index) value.now }
 {
-    match cells.get(place) {
+    match cells.get(index) {
         Some(cell) => cell.is_same(value),
         None => Cell::Null.is_same(value),
     }
@@ -227,7 +227,7 @@ fn has_value(row: &Row, column: Column, value: &Cell) -> bool
 {
     match column {
         Column::Id => is_id(row.id, value),
-        Column::Field(place) => is_at(row.cells.as_slice(), place, value),
+        Column::Field(index) => is_at(row.cells.as_slice(), index, value),
     }
 }
 

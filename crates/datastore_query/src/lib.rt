@@ -1,4 +1,5 @@
-//! Queries of tables: which rows pass a query's filters and words, and the page of them in the query's order.
+//! Queries of tables (CKAN's `datastore_search`): which rows pass a query's filters and words, and a page of these rows
+//! in the query's order.
 #![tactic(auto)]
 
 mod column;

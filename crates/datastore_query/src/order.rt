@@ -1,4 +1,4 @@
-//! Rows that are lent, and their order.
+//! The order of rows by the columns of a sort.
 ghost use Rattle.std.specs.Prelude.{◌≡◌};
 ghost use Rattle.portal_base.specs.Ordered.{IsAscending};
 ghost use Rattle.table_schema.specs.Order.{cell_cmp};
@@ -15,7 +15,7 @@ use std::cmp::Ordering;
 use std::marker::Model;
 use table_schema::Cell;
 
-/// A row that is lent, which contracts see as the row.
+/// A borrowed row. Contracts see it as the row.
 #[derive(Drop)]
 pub(crate) struct LentRow<'a> {
     row: &'a Row,
@@ -43,11 +43,11 @@ impl<'a> LentRow<'a> {
     }
 }
 
-fn compare_cells(one: &Row, other: &Row, place: usize) -> Ordering
-    ensures { result ≡ cell_cmp (cell_at one.now.cells place) (cell_at other.now.cells place) }
+fn compare_cells(one: &Row, other: &Row, index: usize) -> Ordering
+    ensures { result ≡ cell_cmp (cell_at one.now.cells index) (cell_at other.now.cells index) }
 {
     let (one, other) = (one.cells.as_slice(), other.cells.as_slice());
-    match (one.get(place), other.get(place)) {
+    match (one.get(index), other.get(index)) {
         (Some(one), Some(other)) => one.order(other),
         (Some(one), None) => one.order(&Cell::Null),
         (None, Some(other)) => Cell::Null.order(other),
@@ -60,7 +60,7 @@ fn compare_in(column: Column, one: &Row, other: &Row) -> Ordering
 {
     match column {
         Column::Id => one.compare(other),
-        Column::Field(place) => compare_cells(one, other, place),
+        Column::Field(index) => compare_cells(one, other, index),
     }
 }
 
@@ -73,7 +73,7 @@ fn compare_by(sort: &Sort, one: &Row, other: &Row) -> Ordering
     }
 }
 
-// How a row stands to another, by one column after another, and last by `_id`.
+// Compares two rows by one column after another, and last by `_id`.
 fn compare(sorts: &[Sort], one: &Row, other: &Row) -> Ordering
     ensures { result ≡ sorts_cmp sorts.now one.now other.now }
 {
@@ -92,7 +92,7 @@ fn compare_lent(sorts: &[Sort], one: &LentRow, other: &LentRow) -> Ordering
     compare(sorts, one.row(), other.row())
 }
 
-/// Sorts rows that were in the order of their `_id`s. It takes no memory.
+/// Sorts rows that are in ascending order of their `_id`. It takes no memory.
 pub(crate) fn put_in_order(rows: &mut Vec<LentRow>, sorts: &[Sort])
     requires { IsAscending row_cmp rows.old.items }
     ensures { rows.new.items ≡ in_order sorts.now rows.old.items }

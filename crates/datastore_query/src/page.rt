@@ -1,4 +1,4 @@
-//! What a query gives.
+//! The result of a query.
 
 use portal_base::seq::Seq;
 use portal_base::text::Text;
@@ -7,10 +7,10 @@ use table_schema::Cell;
 /// A page of rows.
 #[derive(Drop)]
 pub struct Page {
-    /// The names of its columns, in the query's order.
+    /// The names of its columns, in the order of the query.
     pub columns: Seq<Text>,
     /// Its rows, each with one cell for each column.
     pub rows: Seq<Seq<Cell>>,
-    /// How many rows there are on all pages.
+    /// The count of rows on all pages.
     pub total: u64,
 }

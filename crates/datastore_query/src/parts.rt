@@ -1,24 +1,24 @@
-//! What a query is made of.
+//! The parts of a query.
 
 use portal_base::json_value::Json;
 use portal_base::seq::Seq;
 use portal_base::text::Text;
 
-/// What a query is made of, as a caller gives it.
+/// The parts of a query, as the caller gives them (CKAN's `datastore_search`).
 #[derive(Drop)]
 pub struct Parts {
-    /// A dictionary of columns' names, each with the value that a row has there, or with a list of such values.
+    /// A JSON object: the name of a column, with the value or the list of values of which a row has one there.
     pub filters: Json,
-    /// Words that a row has in its cells.
+    /// The text whose words a row has in its cells.
     pub q: Text,
-    /// Whether of equal rows the first alone is given.
+    /// Whether the query returns only the first of equal rows.
     pub distinct: bool,
-    /// The names of the columns that are given: `_id` and all fields where there are none.
+    /// The names of the columns that the query returns. `None` stands for `_id` and all fields.
     pub fields: Option<Seq<Text>>,
-    /// Columns' names between commas, each with `asc`, `desc` or neither behind it.
+    /// The names of columns, separated by commas, each with `asc`, `desc` or nothing after it.
     pub sort: Text,
-    /// How many rows are given at most.
+    /// The limit of rows on the page.
     pub limit: u64,
-    /// How many rows stand before them.
+    /// The count of rows before the page.
     pub offset: u64,
 }

@@ -1,4 +1,4 @@
-//! Queries.
+//! The query: how it is read, and the page that it returns.
 ghost use Rattle.std.specs.Prelude.{◌≡◌, ◌++◌, All, IfErr, IfOk, IsTrue, Ok, drop, length, map, take};
 ghost use Rattle.std.specs.Prelude.{OnOk};
 ghost use Rattle.portal_base.specs.Ordered.{IsAscending};
@@ -7,8 +7,8 @@ ghost use Rattle.table_schema.specs.Values.{is_map};
 ghost use Rattle.datastore_table.specs.Cells.{same_cells};
 ghost use Rattle.datastore_table.specs.Rows.{row_cmp};
 ghost use Rattle.datastore_query.specs.Column.{column_name, projected};
-ghost use Rattle.datastore_query.specs.Query.{all_told, filtered_ids, firsts, IsFault, listing, page_rows};
-ghost use Rattle.datastore_query.specs.Query.{query_reading, told};
+ghost use Rattle.datastore_query.specs.Query.{query_errors, filtered_ids, firsts, IsFault, listing, page_rows};
+ghost use Rattle.datastore_query.specs.Query.{query_reading, part_errors};
 
 use crate::column::{Column, columns_of, names_of};
 use crate::fault::QueryFault;
@@ -16,7 +16,7 @@ use crate::filter::{Filter, filters_of, passes_filters};
 use crate::order::{LentRow, put_in_order};
 use crate::page::Page;
 use crate::parts::Parts;
-use crate::rows::{Cut, copies, firsts, projections, selected, taken};
+use crate::rows::{PageBounds, copies, firsts, page_of, projections, selected};
 use crate::sort::{Sort, sorts_of};
 use datastore_table::{Row, Table};
 use portal_base::seq::Seq;
@@ -26,7 +26,7 @@ use std::alloc::{AllocError, Global};
 use std::marker::Model;
 use table_schema::Cell;
 
-/// A query that was read on a table's schema. A contract sees what its parts were read as.
+/// A query that was read by a table's schema. A contract sees its parts as they were read.
 #[derive(Drop)]
 pub struct Query {
     filters: Seq<Filter>,
@@ -54,38 +54,38 @@ impl Model for Query {
     } };
 }
 
-// Adds what is told of a part, if anything is.
-fn tell<T: Drop>(
-    faults: &mut Vec<(Text, Text)>,
+// Adds the error of a part, if it has one.
+fn add_error<T: Drop>(
+    errors: &mut Vec<(Text, Text)>,
     part: &'static str,
     read: Result<T, Text>,
 ) -> Result<(), AllocError>
-    ensures { OnOk result (faults.new.items ≡ faults.old.items ++ told part.now read) }
+    ensures { OnOk result (errors.new.items ≡ errors.old.items ++ part_errors part.now read) }
 {
     if let Err(message) = read {
-        faults.push((Text::from_static(part), message))?;
+        errors.push((Text::from_static(part), message))?;
     }
     Ok(())
 }
 
-// What is told of the parts.
-fn all_told(
+// The errors of the parts, each with the name of its part.
+fn query_errors(
     alloc: Global,
     columns: Result<Seq<Column>, Text>,
     filters: Result<Seq<Filter>, Text>,
     sorts: Result<Seq<Sort>, Text>,
 ) -> Result<Seq<(Text, Text)>, AllocError>
-    ensures { IfOk result (λ faults. faults ≡ all_told columns filters sorts) }
+    ensures { IfOk result (λ errors. errors ≡ query_errors columns filters sorts) }
 {
-    let mut faults = Vec::new(alloc);
-    tell(&mut faults, "fields", columns)?;
-    tell(&mut faults, "filters", filters)?;
-    tell(&mut faults, "sort", sorts)?;
-    Ok(Seq::from(faults))
+    let mut errors = Vec::new(alloc);
+    add_error(&mut errors, "fields", columns)?;
+    add_error(&mut errors, "filters", filters)?;
+    add_error(&mut errors, "sort", sorts)?;
+    Ok(Seq::from(errors))
 }
 
 impl Query {
-    /// Reads a query of a table by the table's schema.
+    /// Reads a query by the table's schema. The error has each faulty part with its message, or is out of memory.
     pub fn read(alloc: Global, table: &Table, parts: &Parts) -> Result<Query, QueryFault>
         requires { IsTrue (is_map parts.now.filters) }
         ensures query { IfOk result (λ query. query_reading table.now.schema.fields parts.now ≡ Ok query) }
@@ -106,13 +106,13 @@ impl Query {
                 limit: parts.limit,
                 offset: parts.offset,
             }),
-            (columns, filters, sorts) => Err(QueryFault::Fields(all_told(
+            (columns, filters, sorts) => Err(QueryFault::Fields(query_errors(
                 alloc, columns, filters, sorts,
             )?)),
         }
     }
 
-    /// The page of the table's rows.
+    /// Runs the query on the table's rows and returns the page. The error is out of memory.
     #[tactic(auto, using(crate::proofs::ListedLemmas::page_values))]
     pub fn run(&self, alloc: Global, table: &Table) -> Result<Page, AllocError>
         ensures columns { IfOk result (λ page. page.columns
@@ -148,7 +148,7 @@ impl Query {
     }
 }
 
-// A page's rows, and how many there are on all pages.
+// The rows of a page, and the count of rows on all pages.
 #[derive(Drop)]
 struct Listed {
     rows: Seq<Seq<Cell>>,
@@ -156,31 +156,31 @@ struct Listed {
 }
 
 impl Query {
-    fn bounds(&self) -> Cut
+    fn bounds(&self) -> PageBounds
         ensures offset { result.offset ≡ self.now.offset }
         ensures limit { result.limit ≡ self.now.limit }
     {
-        Cut {
+        PageBounds {
             offset: self.offset,
             limit: self.limit,
         }
     }
 
-    // What is listed of these rows, which are in order.
-    #[tactic(auto, using(crate::proofs::RowLemmas::taken_mapped))]
-    fn plain(&self, alloc: Global, rows: &[LentRow]) -> Result<Listed, AllocError>
+    // The page of these rows, which are in order. Equal rows are all listed.
+    #[tactic(auto, using(crate::proofs::RowLemmas::page_of_mapped))]
+    fn with_duplicates(&self, alloc: Global, rows: &[LentRow]) -> Result<Listed, AllocError>
         ensures rows { IfOk result (λ listed. listed.rows ≡ take self.now.limit (drop self.now.offset
             (map (projected self.now.columns) rows.now))) }
         ensures total { IfOk result (λ listed. listed.total ≡ length (map (projected self.now.columns) rows.now)) }
     {
-        let page = projections(alloc, self.columns.as_slice(), taken(rows, self.bounds()))?;
+        let page = projections(alloc, self.columns.as_slice(), page_of(rows, self.bounds()))?;
         Ok(Listed {
             rows: Seq::from(page),
             total: rows.len() as u64,
         })
     }
 
-    // The same, of equal ones the first alone.
+    // The page of these rows, which are in order. Only the first of equal rows is listed.
     fn distinct(&self, alloc: Global, rows: &[LentRow]) -> Result<Listed, AllocError>
         ensures rows { IfOk result (λ listed. listed.rows ≡ take self.now.limit (drop self.now.offset
             (firsts same_cells (map (projected self.now.columns) rows.now)))) }
@@ -190,7 +190,7 @@ impl Query {
         let all = projections(alloc, self.columns.as_slice(), rows)?;
         let kept = firsts(alloc, all)?;
         Ok(Listed {
-            rows: copies(alloc, taken(kept.as_slice(), self.bounds()))?,
+            rows: copies(alloc, page_of(kept.as_slice(), self.bounds()))?,
             total: kept.len() as u64,
         })
     }
@@ -207,7 +207,7 @@ impl Query {
         if self.distinct {
             self.distinct(alloc, ordered.as_slice())
         } else {
-            self.plain(alloc, ordered.as_slice())
+            self.with_duplicates(alloc, ordered.as_slice())
         }
     }
 }

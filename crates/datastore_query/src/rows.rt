@@ -1,4 +1,4 @@
-//! The rows of a query: selected, in order, and cut to a page.
+//! The rows of a query: their selection, their cells, distinct rows and a page of them.
 ghost use Rattle.std.specs.Prelude.{◌≡◌, [], true, All, IfOk, IsTrue, OnOk, drop, filter, fold, map, nat_eq, take};
 ghost use Rattle.std.specs.HashMap.{get};
 ghost use Rattle.std.specs.List.{list_any};
@@ -6,7 +6,7 @@ ghost use Rattle.table_schema.specs.Printed.{IsValue};
 ghost use Rattle.datastore_table.specs.Cells.{same_cells};
 ghost use Rattle.datastore_table.specs.Index.{digest_of};
 ghost use Rattle.datastore_query.specs.Column.{projected};
-ghost use Rattle.datastore_query.specs.Distinct.{AreNoted};
+ghost use Rattle.datastore_query.specs.Distinct.{HaveDigests};
 ghost use Rattle.datastore_query.specs.Query.{firsts, is_selected, with_first};
 
 use crate::column::{Column, projected};
@@ -21,19 +21,19 @@ use std::alloc::{AllocError, Global};
 use std::collections::HashMap;
 use table_schema::Cell;
 
-/// A part of a list: so many items at most, behind some that are left out.
+/// The bounds of a page: it skips `offset` items and has at most `limit` items.
 #[derive(Clone, Copy)]
-pub(crate) struct Cut {
+pub(crate) struct PageBounds {
     pub offset: u64,
     pub limit: u64,
 }
 
-/// The items of a part.
-pub(crate) fn taken<T>(items: &[T], part: Cut) -> &[T]
-    ensures { result.now ≡ take part.limit (drop part.offset items.now) }
+/// The items within the bounds of a page.
+pub(crate) fn page_of<T>(items: &[T], bounds: PageBounds) -> &[T]
+    ensures { result.now ≡ take bounds.limit (drop bounds.offset items.now) }
 {
-    let behind = &items[items.len().min(part.offset as usize)..];
-    &behind[..behind.len().min(part.limit as usize)]
+    let after = &items[items.len().min(bounds.offset as usize)..];
+    &after[..after.len().min(bounds.limit as usize)]
 }
 
 // Whether a row passes the filters and has the words.
@@ -93,8 +93,8 @@ fn is_same(one: &[Cell], other: &[Cell]) -> bool
     if one.len() != other.len() {
         return false;
     }
-    for place in 0..one.len() {
-        if !one[place].is_same(&other[place]) {
+    for index in 0..one.len() {
+        if !one[index].is_same(&other[index]) {
             return false;
         }
     }
@@ -107,24 +107,24 @@ fn is_among(rows: &[Seq<Cell>], row: &[Cell]) -> bool
     rows.iter().any(|other| is_same(row, other.as_slice()))
 }
 
-// Whether the row at this place is equal to this one.
-fn is_at(rows: &[Seq<Cell>], place: usize, row: &[Cell]) -> bool
+// Whether there is a row at this index that is equal to this one.
+fn is_at(rows: &[Seq<Cell>], index: usize, row: &[Cell]) -> bool
     ensures { IsTrue result → list_any (same_cells row.now) rows.now ≡ true }
 {
-    match rows.get(place) {
+    match rows.get(index) {
         Some(other) => is_same(row, other.as_slice()),
         None => false,
     }
 }
 
-// Whether the row of this digest is among those that were kept, each of whose digests is noted with a place.
-fn is_kept(kept: &[Seq<Cell>], noted: &HashMap<u64, usize>, row: &[Cell], digest: u64) -> bool
-    requires noted { AreNoted kept.now (get nat_eq noted.now) }
+// Whether the row with this digest is among the kept rows. `by_digest` has the digest of each kept row, with an index.
+fn is_kept(kept: &[Seq<Cell>], by_digest: &HashMap<u64, usize>, row: &[Cell], digest: u64) -> bool
+    requires by_digest { HaveDigests kept.now (get nat_eq by_digest.now) }
     requires digest { digest ≡ digest_of [] row.now }
     ensures { result ≡ list_any (same_cells row.now) kept.now }
 {
-    match noted.get(&digest) {
-        Some(place) => is_at(kept, *place, row) || is_among(kept, row),
+    match by_digest.get(&digest) {
+        Some(index) => is_at(kept, *index, row) || is_among(kept, row),
         None => false,
     }
 }
@@ -132,30 +132,30 @@ fn is_kept(kept: &[Seq<Cell>], noted: &HashMap<u64, usize>, row: &[Cell], digest
 // Keeps the row, unless it is kept already.
 fn keep(
     kept: &mut Vec<Seq<Cell>>,
-    noted: &mut HashMap<u64, usize>,
+    by_digest: &mut HashMap<u64, usize>,
     row: Seq<Cell>,
 ) -> Result<(), AllocError>
-    requires { AreNoted kept.old.items (get nat_eq noted.old) }
+    requires { HaveDigests kept.old.items (get nat_eq by_digest.old) }
     ensures kept { OnOk result (kept.new.items ≡ with_first same_cells kept.old.items row) }
-    ensures noted { OnOk result (AreNoted kept.new.items (get nat_eq noted.new)) }
+    ensures by_digest { OnOk result (HaveDigests kept.new.items (get nat_eq by_digest.new)) }
 {
     let digest = cells_digest(row.as_slice());
-    if is_kept(kept.as_slice(), noted, row.as_slice(), digest) {
+    if is_kept(kept.as_slice(), by_digest, row.as_slice(), digest) {
         return Ok(());
     }
-    noted.insert(digest, kept.len())?;
+    by_digest.insert(digest, kept.len())?;
     kept.push(row)?;
     Ok(())
 }
 
-/// Of equal rows the first.
+/// The first of each group of equal rows, in the given order.
 pub(crate) fn firsts(alloc: Global, rows: Vec<Seq<Cell>>) -> Result<Vec<Seq<Cell>>, AllocError>
     ensures { IfOk result (λ kept. kept.items ≡ firsts same_cells rows.items) }
 {
     let mut kept = Vec::new(alloc);
-    let mut noted = HashMap::new(alloc);
+    let mut by_digest = HashMap::new(alloc);
     for row in rows {
-        keep(&mut kept, &mut noted, row)?;
+        keep(&mut kept, &mut by_digest, row)?;
     }
     Ok(kept)
 }

@@ -1,24 +1,25 @@
-//! The reading of a sort's text.
+//! Reads the text of a sort.
 ghost use Rattle.std.specs.Prelude.{◌≡◌, IfOk, None, flat_map, is_none, map, option_copied, option_to_list};
 ghost use Rattle.std.specs.List.{list_any};
-ghost use Rattle.datastore_query.specs.Sort.{first_unknown, is_unread, sort_of, sort_reading, sorts_in, unknown_name};
+ghost use Rattle.datastore_query.specs.Sort.{first_unknown, is_unreadable, sort_of, sort_reading, sorts_in};
+ghost use Rattle.datastore_query.specs.Sort.{unknown_name};
 ghost use Rattle.datastore_query.specs.SortText.{is_unclosed, part_reading, parts_of};
 
-use crate::column::{Column, column_of, no_field};
+use crate::column::{Column, column_of, no_field_error};
 use crate::sort_text::{Direction, directed, is_unclosed, name_of, split_at_comma};
 use portal_base::seq::Seq;
 use portal_base::text::Text;
 use std::alloc::{AllocError, Global};
 use table_schema::Field;
 
-/// One column that rows are sorted by.
+/// One column that rows are sorted by, and the direction.
 #[derive(Clone, Copy, Drop)]
 pub(crate) struct Sort {
     pub column: Column,
     pub direction: Direction,
 }
 
-/// A column's name, and which way rows are sorted by it.
+/// The name of a column that rows are sorted by, and the direction.
 #[derive(Drop)]
 pub(crate) struct SortName {
     pub name: Text,
@@ -38,7 +39,7 @@ fn part_of(alloc: Global, part: &str) -> Result<Option<SortName>, AllocError>
     Ok(Some(SortName { name, direction }))
 }
 
-// What the parts of a text are read as.
+// Reads each part of a text. A part that can't be read is `None`.
 #[tactic(auto, using(crate::proofs::PartLemmas::parts_from_last, crate::proofs::PartLemmas::parts_of_some))]
 fn parts_of(alloc: Global, text: &str) -> Result<Vec<Option<SortName>>, AllocError>
     ensures { IfOk result (λ parts. parts.items ≡ map part_reading (parts_of text.now)) }
@@ -48,9 +49,9 @@ fn parts_of(alloc: Global, text: &str) -> Result<Vec<Option<SortName>>, AllocErr
         return Ok(parts);
     }
     let mut rest = text;
-    while let Some((part, behind)) = split_at_comma(rest) {
+    while let Some((part, after)) = split_at_comma(rest) {
         parts.push(part_of(alloc, part)?)?;
-        rest = behind;
+        rest = after;
     }
     parts.push(part_of(alloc, rest)?)?;
     Ok(parts)
@@ -77,8 +78,8 @@ fn first_unknown<'a>(fields: &[Field], parts: &'a [Option<SortName>]) -> Option<
     None
 }
 
-fn is_unread(parts: &[Option<SortName>]) -> bool
-    ensures { result ≡ is_unread parts.now }
+fn is_unreadable(parts: &[Option<SortName>]) -> bool
+    ensures { result ≡ is_unreadable parts.now }
 {
     parts.iter().any(Option::is_none)
 }
@@ -114,8 +115,8 @@ fn sorts_in(
     Ok(Seq::from(sorts))
 }
 
-/// The columns that rows are sorted by, or what is told of the first name that no column has, and else of a part that
-/// can't be read.
+/// Reads the columns that rows are sorted by. The error is that of the first name that no column has. If each name has
+/// a column, it is that of a part that can't be read.
 pub(crate) fn sorts_of(
     alloc: Global,
     fields: &[Field],
@@ -125,9 +126,9 @@ pub(crate) fn sorts_of(
 {
     let parts = parts_of(alloc, text)?;
     if let Some(name) = first_unknown(fields, parts.as_slice()) {
-        return Ok(Err(no_field(alloc, name.as_str())?));
+        return Ok(Err(no_field_error(alloc, name.as_str())?));
     }
-    if is_unread(parts.as_slice()) {
+    if is_unreadable(parts.as_slice()) {
         return Ok(Err(Text::from_static("Sort is not readable")));
     }
     Ok(Ok(sorts_in(alloc, fields, parts.as_slice())?))

@@ -1,50 +1,50 @@
-//! The parts of a sort's text: between commas, each a name with a direction behind it or none.
+//! The parts of a sort's text. Commas separate the parts. Each part is a name, with or without a direction after it.
 ghost use Rattle.std.specs.Prelude.{◌≡◌, ◌<◌, ◌+◌, false, None, Some, length, take, drop, slice_index};
 ghost use Rattle.std.specs.Prelude.{IfSome, IfNone, IsUtf8, option_copied};
 ghost use Rattle.datastore_query.specs.SortText.{comma_from, directed, is_between_quotes};
-ghost use Rattle.datastore_query.specs.SortText.{is_unclosed, name_of, quoted_behind, without_word};
+ghost use Rattle.datastore_query.specs.SortText.{is_unclosed, name_of, quoted_after, without_word};
 
-/// Which way rows are sorted.
+/// The direction of a sort.
 #[derive(Clone, Copy, Debug, Drop, PartialEq, Eq)]
 pub enum Direction {
     Ascending,
     Descending,
 }
 
-// Whether one stands between double quotes behind this byte.
-fn quoted_behind(quoted: bool, byte: u8) -> bool
-    ensures { result ≡ quoted_behind quoted byte }
+// Whether the text after this byte is between double quotes.
+fn quoted_after(quoted: bool, byte: u8) -> bool
+    ensures { result ≡ quoted_after quoted byte }
 {
     if byte == b'"' { !quoted } else { quoted }
 }
 
-// The place of the first comma outside double quotes.
+// The position of the first comma outside double quotes.
 fn comma_in(text: &[u8]) -> Option<usize>
-    ensures place { result ≡ comma_from false text.now }
-    ensures within { IfSome result (λ place. place < length text.now) }
-    ensures comma { IfSome result (λ place. slice_index text.now place ≡ 44) }
+    ensures position { result ≡ comma_from false text.now }
+    ensures within { IfSome result (λ position. position < length text.now) }
+    ensures comma { IfSome result (λ position. slice_index text.now position ≡ 44) }
 {
     let mut quoted = false;
-    for (place, byte) in text.iter().enumerate() {
+    for (position, byte) in text.iter().enumerate() {
         if *byte == b',' && !quoted {
-            return Some(place);
+            return Some(position);
         }
-        quoted = quoted_behind(quoted, *byte);
+        quoted = quoted_after(quoted, *byte);
     }
     None
 }
 
-/// The text up to the first comma outside double quotes, and the text behind it.
+/// The text before the first comma outside double quotes, and the text after it.
 pub(crate) fn split_at_comma(text: &str) -> Option<(&str, &str)>
     ensures none { IfNone result (comma_from false text.now ≡ None) }
     ensures some { IfSome result (λ parts. comma_from false text.now ≡ Some (length parts.0.now)) }
     ensures front { IfSome result (λ parts. parts.0.now ≡ take (length parts.0.now) text.now) }
-    ensures behind { IfSome result (λ parts. parts.1.now ≡ drop (length parts.0.now + 1) text.now) }
+    ensures after { IfSome result (λ parts. parts.1.now ≡ drop (length parts.0.now + 1) text.now) }
     ensures shorter { IfSome result (λ parts. length parts.1.now < length text.now) }
     ensures utf8 { IfSome result (λ parts. IsUtf8 parts.1.now) }
 {
-    let place = comma_in(text.as_bytes())?;
-    Some((&text[..place], &text[place + 1..]))
+    let position = comma_in(text.as_bytes())?;
+    Some((&text[..position], &text[position + 1..]))
 }
 
 /// Whether the text leaves a double quote open.
@@ -53,12 +53,12 @@ pub(crate) fn is_unclosed(text: &[u8]) -> bool
 {
     let mut quoted = false;
     for byte in text {
-        quoted = quoted_behind(quoted, *byte);
+        quoted = quoted_after(quoted, *byte);
     }
     quoted
 }
 
-// The text in front of this word, where the text ends with white space and the word.
+// The text before this word, if the text ends with white space and the word. The white space is trimmed.
 fn without_word<'a>(text: &'a str, word: &str) -> Option<&'a str>
     ensures { option_copied result ≡ without_word word.now text.now }
 {
@@ -71,7 +71,7 @@ fn without_word<'a>(text: &'a str, word: &str) -> Option<&'a str>
     }
 }
 
-/// The text without the direction behind it, and the direction.
+/// The text without the direction at its end, and the direction, which is ascending by default.
 pub(crate) fn directed(text: &str) -> (&str, Direction)
     ensures text { result.0.now ≡ (directed text.now).name }
     ensures direction { result.1 ≡ (directed text.now).direction }
@@ -85,7 +85,7 @@ pub(crate) fn directed(text: &str) -> (&str, Direction)
     }
 }
 
-// Whether it begins and ends with a double quote and has no other.
+// Whether the text begins and ends with a double quote and has no other.
 fn is_between_quotes(text: &[u8]) -> bool
     ensures { result ≡ is_between_quotes text.now }
 {
@@ -95,7 +95,7 @@ fn is_between_quotes(text: &[u8]) -> bool
     }
 }
 
-/// The name, which may stand in double quotes.
+/// The name, without the double quotes that it may have around it.
 pub(crate) fn name_of(text: &str) -> &str
     ensures { result.now ≡ name_of text.now }
 {

@@ -1,4 +1,4 @@
-//! Words: which rows have each of a query's tokens in a cell.
+//! Words: which rows have each word of a query as a token of a cell.
 ghost use Rattle.std.specs.Prelude.{◌≡◌, ◌++◌, All, IfOk, OnOk, flat_map};
 ghost use Rattle.std.specs.List.{list_all, list_any};
 ghost use Rattle.std.specs.Str.{bytes_eq};

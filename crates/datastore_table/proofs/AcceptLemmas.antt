@@ -1,4 +1,4 @@
--- What a field reads of a record is a cell that it accepts.
+-- A field accepts each cell that it reads from a record.
 use Rattle.std.proofs.Common.{◌≡◌, ◌∙◌, ◌<◌, ◌≤◌, ℕ, zero, suc, ◌+◌, Bool, true, false, ◌&&◌, not, List, [], ◌∷◌, refl}
 use Rattle.std.proofs.Common.{ap}
 use Rattle.std.proofs.Common.{sym, subst, arith, Option, Some, None, Result, Ok, Err, nat_lt, nat_le, slice_get, ◌++◌}
@@ -174,59 +174,59 @@ cell-ok number field (Err why) c h = absurd (cc)
 
 -- ---- the cells of a record
 
--- Each cell that is kept for a field, of these from this place on, is one that the field accepts.
+-- Each field accepts the cell that is kept for it. The first of the fields has this column.
 abbrev pub AreKept : ℕ → List FieldValue → Option (List Cell) → Type 0
-AreKept place [] kept = Unit {0}
-AreKept place (field ∷ fields) kept =
-    ((k : Cell) → kept_at kept place ≡ Some k → is_accepted field k ≡ true) × AreKept (place + 1) fields kept
+AreKept column [] kept = Unit {0}
+AreKept column (field ∷ fields) kept =
+    ((k : Cell) → kept_at kept column ≡ Some k → is_accepted field k ≡ true) × AreKept (column + 1) fields kept
 
-accepted-each : (number : ℕ) (kept : Option (List Cell)) (given : Json) (place : ℕ) (fields : List FieldValue)
-    (cells : List Cell) → AreKept place fields kept → each_ok (cell_reading number kept given) place fields ≡ Ok cells
+accepted-each : (number : ℕ) (kept : Option (List Cell)) (given : Json) (column : ℕ) (fields : List FieldValue)
+    (cells : List Cell) → AreKept column fields kept → each_ok (cell_reading number kept given) column fields ≡ Ok cells
     → are_accepted fields cells ≡ true
-accepted-each number kept given place [] cells held h =
+accepted-each number kept given column [] cells held h =
     let same : [] ≡ cells = cc in
     subst (λ xs. are_accepted [] xs ≡ true) same refl
-accepted-each number kept given place (field ∷ fields) cells held h =
-    let one = bound-ok (cell_reading number kept given place field)
-    (λ c. each_ok (cell_reading number kept given) (place + 1) fields >>> λ cs. Ok (c ∷ cs)) cells h in
-    let rest = bound-ok (each_ok (cell_reading number kept given) (place + 1) fields)
+accepted-each number kept given column (field ∷ fields) cells held h =
+    let one = bound-ok (cell_reading number kept given column field)
+    (λ c. each_ok (cell_reading number kept given) (column + 1) fields >>> λ cs. Ok (c ∷ cs)) cells h in
+    let rest = bound-ok (each_ok (cell_reading number kept given) (column + 1) fields)
     (λ cs. Ok (one.0 ∷ cs)) cells one.2 in
-    let read : field_reading field (kept_at kept place) (member_of field.name given) ≡ Ok one.0 =
-    cell-ok number field (field_reading field (kept_at kept place) (member_of field.name given)) one.0 one.1 in
-    let first = accepted-field field (kept_at kept place) (member_of field.name given) one.0 held.0 read in
-    let later = accepted-each number kept given (place + 1) fields rest.0 held.1 rest.1 in
+    let read : field_reading field (kept_at kept column) (member_of field.name given) ≡ Ok one.0 =
+    cell-ok number field (field_reading field (kept_at kept column) (member_of field.name given)) one.0 one.1 in
+    let first = accepted-field field (kept_at kept column) (member_of field.name given) one.0 held.0 read in
+    let later = accepted-each number kept given (column + 1) fields rest.0 held.1 rest.1 in
     let same : (one.0 ∷ rest.0) ≡ cells = cc in
     subst (λ xs. are_accepted (field ∷ fields) xs ≡ true) same (both _ _ first later)
 
-kept-none : (place : ℕ) (fields : List FieldValue) → AreKept place fields None
-kept-none place [] = tt
-kept-none place (field ∷ fields) = (λ k h. absurd (cc), kept-none (place + 1) fields)
+kept-none : (column : ℕ) (fields : List FieldValue) → AreKept column fields None
+kept-none column [] = tt
+kept-none column (field ∷ fields) = (λ k h. absurd (cc), kept-none (column + 1) fields)
 
--- What stands behind some cells is what stands at a later place of all.
-get-behind : (before cells : List Cell) (c : Cell) (place : ℕ) → place ≡ length before
-    → slice_get (before ++ c ∷ cells) place ≡ Some c
-get-behind [] cells c zero e = refl
-get-behind [] cells c (suc place) e = absurd (cc)
-get-behind (b ∷ before) cells c zero e = absurd (cc)
-get-behind (b ∷ before) cells c (suc place) e = get-behind before cells c place (cc)
+-- The first cell after some cells is at the index of their count.
+get-after : (before cells : List Cell) (c : Cell) (column : ℕ) → column ≡ length before
+    → slice_get (before ++ c ∷ cells) column ≡ Some c
+get-after [] cells c zero e = refl
+get-after [] cells c (suc column) e = absurd (cc)
+get-after (b ∷ before) cells c zero e = absurd (cc)
+get-after (b ∷ before) cells c (suc column) e = get-after before cells c column (cc)
 
-kept-some : (before : List Cell) (fields : List FieldValue) (cells : List Cell) (place : ℕ) → place ≡ length before
-    → are_accepted fields cells ≡ true → AreKept place fields (Some (before ++ cells))
-kept-some before [] cells place e h = tt
-kept-some before (field ∷ fields) [] place e h = absurd (cc)
-kept-some before (field ∷ fields) (c ∷ cells) place e h =
+kept-some : (before : List Cell) (fields : List FieldValue) (cells : List Cell) (column : ℕ) → column ≡ length before
+    → are_accepted fields cells ≡ true → AreKept column fields (Some (before ++ cells))
+kept-some before [] cells column e h = tt
+kept-some before (field ∷ fields) [] column e h = absurd (cc)
+kept-some before (field ∷ fields) (c ∷ cells) column e h =
     let parts = both_hold (is_accepted field c) (are_accepted fields cells) h in
-    let longer : place + 1 ≡ length (before ++ c ∷ []) = omega (arith, e, length-append before (c ∷ [])) in
-    let rest : AreKept (place + 1) fields (Some ((before ++ c ∷ []) ++ cells)) =
-    kept-some (before ++ c ∷ []) fields cells (place + 1) longer parts.1 in (
-      λ k s. same k (sym (get-behind before cells c place e) ∙ s) parts.0,
-      subst (λ xs. AreKept (place + 1) fields (Some xs)) (append_assoc before (c ∷ []) cells) rest,
+    let longer : column + 1 ≡ length (before ++ c ∷ []) = omega (arith, e, length-append before (c ∷ [])) in
+    let rest : AreKept (column + 1) fields (Some ((before ++ c ∷ []) ++ cells)) =
+    kept-some (before ++ c ∷ []) fields cells (column + 1) longer parts.1 in (
+      λ k s. same k (sym (get-after before cells c column e) ∙ s) parts.0,
+      subst (λ xs. AreKept (column + 1) fields (Some xs)) (append_assoc before (c ∷ []) cells) rest,
     )
   where
     same : (k : Cell) → Some c ≡ Some k → is_accepted field c ≡ true → is_accepted field k ≡ true
     same k s t = let e : c ≡ k = cc in subst (λ x. is_accepted field x ≡ true) e t
 
--- The cells of a record are such as their fields accept, where those that are kept are.
+-- The fields accept the cells of a record if they accept the kept cells.
 pub accepted-cells : (number : ℕ) (fields : List FieldValue) (kept : Option (List Cell)) (given : Json)
     (cells : List Cell)
     → ((own : List Cell) → kept ≡ Some own → are_accepted fields own ≡ true)
@@ -236,7 +236,7 @@ accepted-cells number fields None given cells held h =
 accepted-cells number fields (Some own) given cells held h =
     accepted-each number (Some own) given 0 fields cells (kept-some [] fields own 0 refl (held own refl)) h
 
--- What a field accepts is a value.
+-- A cell that a field accepts is a value.
 pub accepted-value : (field : FieldValue) (c : Cell) → is_accepted field c ≡ true → IsValue c
 accepted-value field c h = by (is_null c) refl h
   where

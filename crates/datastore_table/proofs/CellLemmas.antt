@@ -1,4 +1,4 @@
--- Cells at places, one after another.
+-- Cells by column, and lists of cells that are compared pair by pair.
 use Rattle.std.proofs.Common.{◌≡◌, ◌≢◌, ◌∙◌, ℕ, ◌+◌, ◌<◌, Bool, true, false, ◌&&◌, List, [], ◌∷◌, length, drop}
 use Rattle.std.proofs.Common.{get_or, refl, ap, sym, arith}
 use Rattle.std.proofs.lemmas.List.{at_drop_more}
@@ -32,7 +32,7 @@ null_as_same (cell.Stamp z) = refl
 null_as_same (cell.Year n) = refl
 null_as_same (cell.YearMonth n m) = refl
 
--- Lists of unequal length aren't equal.
+-- Lists of different lengths aren't equal.
 pub pointwise-length : {A B : Type 0} (e : A → B → Bool) (xs : List A) (ys : List B) → length xs ≢ length ys
     → pointwise e xs ys ≡ false
 pointwise-length e [] [] n = absurd (n refl)
@@ -49,7 +49,7 @@ pub same-start : {A B : Type 0} (e : A → B → Bool) (xs : List A) (ys : List 
     → pointwise e xs ys ≡ pointwise e (drop 0 xs) (drop 0 ys)
 same-start e xs ys = refl
 
--- One more pair is looked at.
+-- One more pair is compared.
 pub same-next : {A B : Type 0} (e : A → B → Bool) (i : ℕ) (x : A) (y : B) (xs : List A) (ys : List B)
     → i < length xs → i < length ys → x ≡ get_or xs i x → y ≡ get_or ys i y
     → pointwise e (drop i xs) (drop i ys) ≡ (e x y && pointwise e (drop (i + 1) xs) (drop (i + 1) ys))

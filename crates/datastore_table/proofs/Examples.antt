@@ -12,7 +12,7 @@ use Rattle.table_schema.specs.Field.{FieldValue, SchemaValue}
 use Rattle.datastore_table.specs.declared.fault.TableFault.TheVariants as fault
 use Rattle.datastore_table.specs.declared.method.Method.TheVariants.{Insert, Update, Upsert}
 use Rattle.datastore_table.specs.declared.row.Row.{Row}
-use Rattle.datastore_table.specs.Batch.{cut_checked, cut_rows}
+use Rattle.datastore_table.specs.Batch.{delete_checked, cut_rows}
 use Rattle.datastore_table.specs.Meets.{meets_schema}
 use Rattle.datastore_table.specs.Put.{admitted, grown_length, put_records}
 use Rattle.datastore_table.specs.Table.{TableValue}
@@ -50,7 +50,7 @@ worked foreign = record {
   room = 0;
 }
 
--- A row keeps its `_id`, and a new one is found by the records behind it.
+-- A row keeps its `_id`, and later records find a new row.
 put_twice : put_records Upsert (pair (codes "c") (codes "y") ∷ pair (codes "c") (codes "z") ∷ []) (worked [])
     ≡ Ok (record {
       rows = row 1 (codes "a") (codes "x") ∷ row 4 (codes "b") (codes "a") ∷ row 5 (codes "c") (codes "z") ∷ [];
@@ -60,7 +60,7 @@ put_twice : put_records Upsert (pair (codes "c") (codes "y") ∷ pair (codes "c"
 unfolding constraint_fault
 put_twice = search (rules, the_lemmas)
 
--- An absent key keeps the cell.
+-- A field that the record lacks keeps its cell.
 kept : put_records Update (only (codes "a") ∷ []) (worked [])
     ≡ Ok (record { rows = (worked []).rows; next_id = 5; written = 1 ∷ [] })
 unfolding constraint_fault
@@ -70,13 +70,13 @@ taken : put_records Insert (pair (codes "c") [] ∷ pair (codes "a") [] ∷ []) 
 unfolding constraint_fault
 taken = search (rules, the_lemmas)
 
--- Two records of one new key and one of a key that is there: one row more.
+-- Two records with the same new key and one with a key that exists add one row.
 grown : grown_length Upsert (schema_of []) (worked []).rows
     (only (codes "c") ∷ pair (codes "c") [] ∷ only (codes "a") ∷ []) ≡ 3
 unfolding constraint_fault
 grown = search (rules, the_lemmas)
 
--- `x` is no key.
+-- No row has the key `x`.
 not_met : meets_schema (schema_of (to_key ∷ [])) (worked []).rows ≡ false
 unfolding constraint_fault
 not_met = refl
@@ -86,15 +86,15 @@ unfolding constraint_fault
 met = refl
 
 -- The row with the key `b` refers to the first.
-referred : cut_checked (1 ∷ []) (worked (to_key ∷ [])) ≡ Err (fault.Referred 1)
+referred : delete_checked (1 ∷ []) (worked (to_key ∷ [])) ≡ Err (fault.Referred 1)
 referred = refl
 
 left : cut_rows (1 ∷ 9 ∷ []) (worked []).rows ≡ row 4 (codes "b") (codes "a") ∷ []
 left = refl
 
--- ---- how many rows a table takes
+-- ---- the limit of rows
 
--- A batch that would leave 1,000,000 rows is admitted, whatever they are, and one with a row more isn't.
+-- A batch that leaves 1,000,000 rows is admitted. A batch that leaves one more is refused.
 fits : (schema : SchemaValue) (rows : List Row) (given : Json) → length rows ≡ 999999
     → admitted Insert (given ∷ []) schema rows ≡ Ok tt
 fits schema rows given all = rw all refl

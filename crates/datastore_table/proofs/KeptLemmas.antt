@@ -1,4 +1,4 @@
--- Each row of a table stays one that its schema accepts.
+-- Batches and removals keep a table valid.
 use Rattle.std.proofs.Common.{◌≡◌, ℕ, Bool, true, false, ◌&&◌, not, cond, List, [], ◌∷◌, filter, find, Option, Some}
 use Rattle.std.proofs.Common.{None, Ok}
 use Rattle.std.proofs.Common.{Result, refl, subst, sym, All, if◌then◌else◌, ◌||◌, ◌+◌, arith, inl}
@@ -6,34 +6,36 @@ use Rattle.std.specs.List.{list_all}
 use Rattle.std.specs.Ordering.{is_lt}
 use Rattle.lexical_forms.specs.Digits.{is_empty}
 use Rattle.portal_base.specs.declared.json_value.Json.{Json}
-use Rattle.portal_base.specs.Ordered.{dropped, inserted, placed}
+use Rattle.portal_base.specs.Ordered.{dropped, inserted, upserted}
 use Rattle.table_schema.specs.declared.cell.Cell.{Cell}
 use Rattle.table_schema.specs.Field.{FieldValue, SchemaValue}
 use Rattle.datastore_table.specs.declared.fault.TableFault.{TableFault}
 use Rattle.datastore_table.specs.declared.method.Method.{Method}
 use Rattle.datastore_table.specs.declared.method.Method.TheVariants as method
 use Rattle.datastore_table.specs.declared.row.Row.{Row}
-use Rattle.datastore_table.specs.Batch.{cut_checked, cut_rows}
+use Rattle.datastore_table.specs.Batch.{delete_checked, cut_rows}
 use Rattle.datastore_table.specs.References.{is_self}
 use Rattle.datastore_table.specs.Table.{IsNumbered}
 use Rattle.table_schema.specs.declared.foreign.Foreign.{Foreign}
 use Rattle.datastore_table.specs.Cells.{has_null, has_null_at}
-use Rattle.datastore_table.specs.Meets.{IsTable, are_accepted, is_accepted, is_numbered, is_held_by, is_restorable}
+use Rattle.datastore_table.specs.Meets.{IsTable, are_accepted, is_accepted, is_numbered, keeps_self_reference}
+use Rattle.datastore_table.specs.Meets.{is_restorable}
 use Rattle.datastore_table.specs.Meets.{keys_apart, meets_schema}
 use Rattle.datastore_table.specs.Meets.{row_meets, uniques_apart}
-use Rattle.datastore_table.specs.Put.{Worked, begun, kept_cells, put_record, put_records, row_id, tried_record}
+use Rattle.datastore_table.specs.Put.{Worked, begun, kept_cells, put_record, put_records, row_id, validated_record}
 use Rattle.datastore_table.specs.Put.{with_cells, written_row}
 use Rattle.datastore_table.specs.Record.{key_of}
 use Rattle.datastore_table.specs.Rows.{has_cells, has_id, row_at, row_cmp, row_with}
 use Rattle.datastore_table.specs.Table.{TableValue}
 use Rattle.datastore_table.proofs.AcceptLemmas.{accepted-cells, accepted-value}
 use Rattle.datastore_table.proofs.MeetLemmas.{numbered_from}
-use Rattle.datastore_table.proofs.NumberLemmas.{IsNumbered-cut, put_record-numbered}
-use Rattle.datastore_table.proofs.HeldLemmas.{HoldsOn, Stems, cut-held, put_record-holds, put_record-stems, selves-held}
-use Rattle.datastore_table.proofs.ApartLemmas.{cut-keys, cut-uniques, put_record-keys, put_record-uniques}
+use Rattle.datastore_table.proofs.NumberLemmas.{IsNumbered-delete, put_record-numbered}
+use Rattle.datastore_table.proofs.ReferenceLemmas.{KeepsKeys, Stems, delete-held, put_record-holds, put_record-stems}
+use Rattle.datastore_table.proofs.ReferenceLemmas.{self_references-held}
+use Rattle.datastore_table.proofs.ApartLemmas.{delete-keys, delete-uniques, put_record-keys, put_record-uniques}
 use Rattle.std.proofs.lemmas.List.Elements.{All-cons, All-nil}
 use Rattle.table_schema.specs.Printed.{IsValue}
-use Rattle.datastore_table.proofs.PutLemmas.{put_records-keeps, tried_on-parts}
+use Rattle.datastore_table.proofs.PutLemmas.{put_records-keeps, validated_against-parts}
 use Rattle.datastore_table.proofs.ResultLemmas.{bound-ok}
 use Rattle.datastore_table.proofs.RowLemmas.{both_hold}
 
@@ -61,7 +63,7 @@ all-inserted p row (r ∷ rows) here h =
     by first rest more false = rw (here, first, rest) refl
 
 all-placed : (p : Row → Bool) (row : Row) (rows : List Row) → p row ≡ true → list_all p rows ≡ true
-    → list_all p (placed row_cmp row rows) ≡ true
+    → list_all p (upserted row_cmp row rows) ≡ true
 all-placed p row rows here h = all-inserted p row (dropped (λ r. row_cmp r row) rows) here (all-filter p _ rows h)
 
 all-found : {X : Type 0} (p q : X → Bool) (x : X) (xs : List X) → list_all p xs ≡ true → find q xs ≡ Some x → p x ≡ true
@@ -96,22 +98,22 @@ put_record-meets : (method : Method) (schema : SchemaValue) (number : ℕ) (give
     → list_all (row_meets schema) after.rows ≡ true
 put_record-meets method schema number given work after meets h =
     let row = row_with schema.key (key_of schema given) work.rows in
-    let tried = bound-ok (tried_record method schema number given work.rows)
+    let validated = bound-ok (validated_record method schema number given work.rows)
     (λ (t : Option ℕ × List Cell). Ok (with_cells t.0 t.1 work)) after h in
-    let parts = tried_on-parts method schema number given row work.rows tried.0 tried.1 in
-    let cells : are_accepted schema.fields tried.0.1 ≡ true =
-    accepted-cells number schema.fields (kept_cells method row) given tried.0.1
+    let parts = validated_against-parts method schema number given row work.rows validated.0 validated.1 in
+    let cells : are_accepted schema.fields validated.0.1 ≡ true =
+    accepted-cells number schema.fields (kept_cells method row) given validated.0.1
     (λ own e. let kept = kept-row method row own e in
     let whole = all-row_with (row_meets schema) schema.key (key_of schema given) work.rows meets kept.0 kept.1 in
     subst (λ cs. are_accepted schema.fields cs ≡ true) kept.2
     (both_hold (are_accepted schema.fields kept.0.cells) (not (has_null_at schema.key kept.0.cells)) whole).0)
     parts.cells in
-    let here : row_meets schema (written_row (row_id tried.0.0 work.next_id) tried.0.1) ≡ true =
+    let here : row_meets schema (written_row (row_id validated.0.0 work.next_id) validated.0.1) ≡ true =
     rw (cells, parts.key) refl in
-    let made : with_cells tried.0.0 tried.0.1 work ≡ after =
-    alike (with_cells tried.0.0 tried.0.1 work) after tried.2 in
+    let made : with_cells validated.0.0 validated.0.1 work ≡ after =
+    alike (with_cells validated.0.0 validated.0.1 work) after validated.2 in
     subst (λ (w : Worked). list_all (row_meets schema) w.rows ≡ true) made
-    (all-placed (row_meets schema) (written_row (row_id tried.0.0 work.next_id) tried.0.1) work.rows here meets)
+    (all-placed (row_meets schema) (written_row (row_id validated.0.0 work.next_id) validated.0.1) work.rows here meets)
   where
     R : Type 0
     R = Result Worked TableFault
@@ -123,20 +125,21 @@ cut_rows-meets : (schema : SchemaValue) (ids : List ℕ) (rows : List Row) → l
     → list_all (row_meets schema) (cut_rows ids rows) ≡ true
 cut_rows-meets schema ids rows meets = all-filter (row_meets schema) _ rows meets
 
--- The parts of what meets a schema.
+-- The parts of meeting a schema.
 pub record HasMet (schema : SchemaValue) (rows : List Row) : Type 0 where
   pub accepted : list_all (row_meets schema) rows ≡ true
   pub keys : keys_apart schema.key rows ≡ true
   pub uniques : uniques_apart 0 schema.fields rows ≡ true
-  pub held : list_all (is_held_by schema.key rows) schema.foreign ≡ true
+  pub held : list_all (keeps_self_reference schema.key rows) schema.foreign ≡ true
 
 pub met-parts : (schema : SchemaValue) (rows : List Row) → meets_schema schema rows ≡ true → HasMet schema rows
 met-parts schema rows h =
     let meets = both_hold (list_all (row_meets schema) rows) (keys_apart schema.key rows
-    && (uniques_apart 0 schema.fields rows && list_all (is_held_by schema.key rows) schema.foreign)) h in
+    && (uniques_apart 0 schema.fields rows && list_all (keeps_self_reference schema.key rows) schema.foreign)) h in
     let keys = both_hold (keys_apart schema.key rows)
-    (uniques_apart 0 schema.fields rows && list_all (is_held_by schema.key rows) schema.foreign) meets.1 in
-    let uniques = both_hold (uniques_apart 0 schema.fields rows) (list_all (is_held_by schema.key rows) schema.foreign)
+    (uniques_apart 0 schema.fields rows && list_all (keeps_self_reference schema.key rows) schema.foreign) meets.1 in
+    let uniques = both_hold (uniques_apart 0 schema.fields rows)
+    (list_all (keeps_self_reference schema.key rows) schema.foreign)
     keys.1 in
     record { accepted = meets.0; keys = keys.0; uniques = uniques.0; held = uniques.1 }
 
@@ -174,22 +177,22 @@ pub rows-values : (schema : SchemaValue) (rows : List Row) → meets_schema sche
     → All (λ row. All IsValue row.cells) rows
 rows-values schema rows h = all-values schema rows (met-parts schema rows h).accepted
 
--- What can be restored is a table.
+-- Rows that can be restored are those of a valid table.
 pub restorable-table : (schema : SchemaValue) (rows : List Row) (next_id : ℕ) → is_restorable schema rows next_id ≡ true
     → IsTable schema rows next_id
 restorable-table schema rows next_id h =
     let parts = both_hold (is_numbered rows next_id) (meets_schema schema rows) h in
     record { numbered = numbered_from rows next_id parts.0; meets = parts.1 }
 
-uniques-none : (place : ℕ) (fields : List FieldValue) → uniques_apart place fields [] ≡ true
-uniques-none place [] = refl
-uniques-none place (field ∷ fields) = rw (uniques-none (place + 1) fields) (by field.constraints.unique)
+uniques-none : (column : ℕ) (fields : List FieldValue) → uniques_apart column fields [] ≡ true
+uniques-none column [] = refl
+uniques-none column (field ∷ fields) = rw (uniques-none (column + 1) fields) (by field.constraints.unique)
   where
     by : (b : Bool) → ((not b || true) && true) ≡ true
     by true = refl
     by false = refl
 
-held-none : (key : List ℕ) (foreigns : List Foreign) → list_all (is_held_by key []) foreigns ≡ true
+held-none : (key : List ℕ) (foreigns : List Foreign) → list_all (keeps_self_reference key []) foreigns ≡ true
 held-none key [] = refl
 held-none key (foreign ∷ foreigns) = rw (held-none key foreigns) (by (is_self foreign))
   where
@@ -197,7 +200,7 @@ held-none key (foreign ∷ foreigns) = rw (held-none key foreigns) (by (is_self 
     by true = refl
     by false = refl
 
--- A table without rows is one.
+-- A table without rows is valid.
 pub empty-table : (schema : SchemaValue) (rows : List Row) → rows ≡ [] → IsTable schema rows 1
 empty-table schema rows none = subst (λ r. IsTable schema r 1) (sym none) (record {
   numbered = record { ascending = tt; within = tt; next = omega arith };
@@ -213,14 +216,14 @@ empty-table schema rows none = subst (λ r. IsTable schema r 1) (sym none) (reco
     by true = refl
     by false = refl
 
--- A table at work, whose references are looked at behind the batch.
+-- A table during a batch. Its self references are checked after the batch.
 record AtWork (schema : SchemaValue) (old : List Row) (work : Worked) : Type 0 where
   pub numbered : IsNumbered work.rows work.next_id
   pub meets : list_all (row_meets schema) work.rows ≡ true
   pub keys : keys_apart schema.key work.rows ≡ true
   pub uniques : uniques_apart 0 schema.fields work.rows ≡ true
   pub stems : Stems old work
-  pub holds : HoldsOn schema.key old work.rows
+  pub holds : KeepsKeys schema.key old work.rows
 
 put_record-work : (method : Method) (schema : SchemaValue) (old : List Row) (number : ℕ) (given : Json)
     (work after : Worked) → AtWork schema old work → put_record method schema number given work ≡ Ok after
@@ -234,7 +237,7 @@ put_record-work method schema old number given work after at h = record {
   holds = put_record-holds method schema number given work after old at.numbered at.holds h;
 }
 
--- A batch leaves a table.
+-- A batch leaves a valid table.
 pub put_records-table : (method : Method) (records : List Json) (table : TableValue) (after : Worked)
     → IsTable table.schema table.rows table.next_id → put_records method records table ≡ Ok after
     → IsTable table.schema after.rows after.next_id
@@ -258,24 +261,24 @@ put_records-table method records table after whole h =
         accepted = at.meets;
         keys = at.keys;
         uniques = at.uniques;
-        held = selves-held table.schema.key table.rows after.rows after.written at.numbered.ascending
+        held = self_references-held table.schema.key table.rows after.rows after.written at.numbered.ascending
             at.stems at.holds 0
             table.schema.foreign kept.0 met.held kept.2;
       });
     }
 
--- So does a removal that breaks no reference.
+-- A removal that breaks no self reference leaves a valid table.
 pub cut_rows-table : (ids : List ℕ) (table : TableValue) → IsTable table.schema table.rows table.next_id
-    → cut_checked ids table ≡ Ok tt → IsTable table.schema (cut_rows ids table.rows) table.next_id
+    → delete_checked ids table ≡ Ok tt → IsTable table.schema (cut_rows ids table.rows) table.next_id
 cut_rows-table ids table whole h =
     let met = met-parts table.schema table.rows whole.meets in
     let up = whole.numbered.ascending in
     record {
-      numbered = IsNumbered-cut ids table.rows table.next_id whole.numbered;
+      numbered = IsNumbered-delete ids table.rows table.next_id whole.numbered;
       meets = parts-met table.schema (cut_rows ids table.rows) (record {
         accepted = cut_rows-meets table.schema ids table.rows met.accepted;
-        keys = cut-keys table.schema.key ids table.rows up met.keys;
-        uniques = cut-uniques 0 table.schema.fields ids table.rows up met.uniques;
-        held = cut-held table.schema.key ids table.rows 0 table.schema.foreign tt met.held h;
+        keys = delete-keys table.schema.key ids table.rows up met.keys;
+        uniques = delete-uniques 0 table.schema.fields ids table.rows up met.uniques;
+        held = delete-held table.schema.key ids table.rows 0 table.schema.foreign tt met.held h;
       });
     }

@@ -1,16 +1,16 @@
--- Keys and unique values stay apart.
+-- Keys and unique values stay distinct.
 use Rattle.std.proofs.Common.{◌≡◌, ◌∙◌, ◌⊎◌, inl, inr, ℕ, ◌+◌, Bool, true, false, ◌||◌, not, List, [], ◌∷◌}
 use Rattle.std.proofs.Common.{find, filter, Option, Some, None, Result, Ok, ap, ap₂, refl, subst, sym}
 use Rattle.std.proofs.Common.{slice_get, rules, arith, zero, suc, add-zero}
 use Rattle.std.proofs.lemmas.Cmp.{tied_itself}
 use Rattle.std.specs.List.{list_any}
 use Rattle.std.specs.declared.cmp.Ordering.TheVariants.{Less, Equal}
-use Rattle.portal_base.specs.Ordered.{IsAscending, placed}
+use Rattle.portal_base.specs.Ordered.{IsAscending, upserted}
 use Rattle.std.specs.Ordering.{is_eq, nat_cmp}
 use Rattle.std.proofs.lemmas.Cmp.{nat_cmp_total}
 use Rattle.portal_base.proofs.Filtered.{IsIn-filter}
 use Rattle.portal_base.proofs.Inserted.{both_false}
-use Rattle.portal_base.proofs.Placed.{IsIn-placed}
+use Rattle.portal_base.proofs.Upserted.{IsIn-upserted}
 use Rattle.portal_base.proofs.Unique.{IsIn, below_in}
 use Rattle.table_schema.specs.Order.{same_cell}
 use Rattle.table_schema.specs.declared.cell.Cell.{Cell}
@@ -52,7 +52,7 @@ cells-itself (x ∷ xs) = rw (same_cell-itself x, cells-itself xs) refl
 
 -- ---- rows of which no two are alike
 
--- Rows that are alike are one.
+-- Two rows that are alike are the same row.
 abbrev pub AreOne : (Row → Row → Bool) → List Row → Type 0
 AreOne like rows = (a b : Row) → IsIn a rows → IsIn b rows → like a b ≡ true → a.id ≡ b.id
 
@@ -106,12 +106,12 @@ one_apart like (row ∷ rows) up one =
     by b m true l = absurd (below_other row b (below_in row_cmp row b rows up.0 m) (one row b (inl refl) (inr m) l))
     by b m false l = l
 
--- A row that is like no other one keeps them apart.
+-- A new row that is like no other row keeps the rows distinct.
 pub one-placed : (like : Row → Row → Bool) → ((a b : Row) → like a b ≡ true → like b a ≡ true) → (row : Row)
     (rows : List Row) → AreOne like rows → ((b : Row) → IsIn b rows → like row b ≡ true → b.id ≡ row.id)
-    → AreOne like (placed row_cmp row rows)
+    → AreOne like (upserted row_cmp row rows)
 one-placed like turned row rows one new a b m n l =
-    by (IsIn-placed row_cmp row a rows m) (IsIn-placed row_cmp row b rows n) l
+    by (IsIn-upserted row_cmp row a rows m) (IsIn-upserted row_cmp row b rows n) l
   where
     by : (a ≡ row) ⊎ (IsIn a rows × (is_eq (row_cmp a row) ≡ false))
         → (b ≡ row) ⊎ (IsIn b rows × (is_eq (row_cmp b row) ≡ false)) → like a b ≡ true → a.id ≡ b.id
@@ -122,7 +122,7 @@ one-placed like turned row rows one new a b m n l =
         new a k.0 (turned a row (ap (like a) (sym f) ∙ h)) ∙ ap (λ (r : Row). r.id) (sym f)
     by (inr k) (inr j) h = one a b k.0 j.0 h
 
--- What is taken out of rows leaves them apart.
+-- A deletion keeps the rows distinct.
 pub one-filter : (like : Row → Row → Bool) (keeps : Row → Bool) (rows : List Row) → AreOne like rows
     → AreOne like (filter keeps rows)
 one-filter like keeps rows one a b m n l =
@@ -135,16 +135,16 @@ key_turned key a b h =
     let same : cells_at key b.cells ≡ cells_at key a.cells = cells-is (cells_at key b.cells) (cells_at key a.cells) h in
     ap (same_cells (cells_at key a.cells)) same ∙ cells-itself (cells_at key a.cells)
 
-pub cell_turned : (place : ℕ) (a b : Row) → has_cell_of place a b ≡ true → has_cell_of place b a ≡ true
-cell_turned place a b h =
-    let parts = both_hold (not (is_null (cell_at a.cells place)))
-    (same_cell (cell_at b.cells place) (cell_at a.cells place)) h in
-    let same : cell_at b.cells place ≡ cell_at a.cells place =
-    same_cell-is (cell_at b.cells place) (cell_at a.cells place) parts.1 in
-    let some : not (is_null (cell_at b.cells place)) ≡ true = ap (λ c. not (is_null c)) same ∙ parts.0 in
-    rw (some, same) (same_cell-itself (cell_at a.cells place))
+pub cell_turned : (column : ℕ) (a b : Row) → has_cell_of column a b ≡ true → has_cell_of column b a ≡ true
+cell_turned column a b h =
+    let parts = both_hold (not (is_null (cell_at a.cells column)))
+    (same_cell (cell_at b.cells column) (cell_at a.cells column)) h in
+    let same : cell_at b.cells column ≡ cell_at a.cells column =
+    same_cell-is (cell_at b.cells column) (cell_at a.cells column) parts.1 in
+    let some : not (is_null (cell_at b.cells column)) ≡ true = ap (λ c. not (is_null c)) same ∙ parts.0 in
+    rw (some, same) (same_cell-itself (cell_at a.cells column))
 
--- A row with a key that another row has, if one has it, on that row's place, is like no other.
+-- A written row that replaces the row with its key, or has a key that no row has, is like no other row.
 pub key_new : (key : List ℕ) (cells : List Cell) (next_id : ℕ) (rows : List Row) → IsAscending row_cmp rows
     → AreOne (has_key_of key) rows → is_empty key ≡ false → has_null (cells_at key cells) ≡ false
     → (b : Row) → IsIn b rows
@@ -164,7 +164,7 @@ key_new key cells next_id rows up one some full b m like = by (find (has_cells k
         let first = found-least row_cmp row_cmp_total (has_cells key own) r rows up e in
         let same : cells_at key r.cells ≡ own = cells-is (cells_at key r.cells) own first.passes in
         let alike : has_key_of key r b ≡ true = ap (λ cs. has_cells key cs b) same ∙ like in
-        sym (one r b first.stands m alike) ∙ sym (ap (λ x. row_id (id_of x) next_id) (is_found ∙ e))
+        sym (one r b first.is_there m alike) ∙ sym (ap (λ x. row_id (id_of x) next_id) (is_found ∙ e))
 
 -- ---- the key of a record's cells
 
@@ -207,7 +207,7 @@ null_read field c h = by field.constraints.required h
     by true e = absurd (cc)
     by false e = let same : cell.Null ≡ c = cc in subst (λ x. is_null x ≡ true) same refl
 
--- A cell that isn't Null, of a field that keeps none, is the one that the record's key has there.
+-- If a field keeps no cell and its cell isn't Null, that cell is in the record's key.
 pub read_key : (field : FieldValue) (keep : Option Cell) (value : Option Json) (c : Cell)
     → (value ≡ None → keep ≡ None) → field_reading field keep value ≡ Ok c → is_null c ≡ false
     → value_or_null field value ≡ c

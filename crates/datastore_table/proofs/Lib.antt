@@ -1,19 +1,19 @@
 pub mod AcceptLemmas
 pub mod ApartLemmas
 pub mod CellLemmas
-pub mod CutLemmas
+pub mod DeleteLemmas
 mod Examples
-pub mod FoundLemmas
-pub mod HeldLemmas
 pub mod KeptLemmas
 pub mod KeyLemmas
+pub mod LookupLemmas
 pub mod MeetLemmas
 pub mod Merged
 pub mod NumberLemmas
 pub mod PutLemmas
+pub mod ReferenceLemmas
 pub mod RestoredLemmas
 pub mod ResultLemmas
 pub mod RowLemmas
 pub mod SearchLemmas
-pub mod StockLemmas
+pub mod StoreLemmas
 pub mod WorkLemmas

@@ -1,4 +1,4 @@
--- Items put one after another into a list in order: what stands in it then, and what is found there.
+-- Items that are put one after another into a sorted list: what the list contains then, and what a search finds.
 use Rattle.std.proofs.Common.{◌≡◌, Bool, true, false, not, cond, ◌&&◌, ◌||◌, List, [], ◌∷◌, Option, Some, None, refl}
 use Rattle.std.proofs.Common.{sym}
 use Rattle.std.proofs.Common.{ap, ◌∙◌, ◌⊎◌, inl, inr, subst, fold, find, is_some, ap₂, if◌then◌else◌}
@@ -8,16 +8,16 @@ use Rattle.std.specs.Ordering.{is_eq, is_lt, ordering_reverse}
 use Rattle.std.specs.declared.cmp.Ordering.{Ordering}
 use Rattle.std.specs.declared.cmp.Ordering.TheVariants.{Less, Equal, Greater}
 use Rattle.std.proofs.lemmas.Cmp.{alike_right, tied_itself}
-use Rattle.portal_base.specs.Ordered.{IsBelowAll, IsAscending, placed}
+use Rattle.portal_base.specs.Ordered.{IsBelowAll, IsAscending, upserted}
 use Rattle.portal_base.proofs.Inserted.{both_false}
-use Rattle.portal_base.proofs.Placed.{IsAscending-placed, IsIn-placed, placed-IsIn, placed-IsIn_other}
+use Rattle.portal_base.proofs.Upserted.{IsAscending-upserted, IsIn-upserted, upserted-IsIn, upserted-IsIn_other}
 use Rattle.portal_base.proofs.Unique.{IsIn, below_in, unique}
 use Rattle.portal_base.proofs.Removed.{is_eq_true}
 use Rattle.datastore_table.specs.Rows.{earlier}
 
--- the items put into a list, each in place of what is like it
+-- the list after the items were put into it, each in place of the item that is like it
 abbrev pub merged : {X : Type 0} → (X → X → Ordering) → List X → List X → List X
-merged cmp ws xs = fold (λ others w. placed cmp w others) xs ws
+merged cmp ws xs = fold (λ others w. upserted cmp w others) xs ws
 
 -- z is like none of the items
 abbrev pub IsApart : {X : Type 0} → (X → X → Ordering) → X → List X → Type 0
@@ -27,14 +27,14 @@ pub IsAscending-merged : {X : Type 0} (cmp : X → X → Ordering) (o : IsTotalO
     → IsAscending cmp xs → IsAscending cmp (merged cmp ws xs)
 IsAscending-merged cmp o [] xs up = up
 IsAscending-merged cmp o (w ∷ ws) xs up =
-    IsAscending-merged cmp o ws (placed cmp w xs) (IsAscending-placed cmp o w xs up)
+    IsAscending-merged cmp o ws (upserted cmp w xs) (IsAscending-upserted cmp o w xs up)
 
--- ---- what stands there
+-- ---- what the list contains
 
 pub IsIn-merged : {X : Type 0} (cmp : X → X → Ordering) (z : X) (ws xs : List X)
     → IsIn z (merged cmp ws xs) → IsIn z ws ⊎ (IsIn z xs × IsApart cmp z ws)
 IsIn-merged cmp z [] xs m = inr (m, λ w n. absurd n)
-IsIn-merged {X} cmp z (w ∷ ws) xs m = split (IsIn-merged cmp z ws (placed cmp w xs) m)
+IsIn-merged {X} cmp z (w ∷ ws) xs m = split (IsIn-merged cmp z ws (upserted cmp w xs) m)
   where
     apart : is_eq (cmp z w) ≡ false → IsApart cmp z ws → (v : X) → IsIn v (w ∷ ws) → is_eq (cmp z v) ≡ false
     apart other rest v (inl e) = ap (λ u. is_eq (cmp z u)) e ∙ other
@@ -45,16 +45,16 @@ IsIn-merged {X} cmp z (w ∷ ws) xs m = split (IsIn-merged cmp z ws (placed cmp 
     further (inl e) rest = inl (inl e)
     further (inr n) rest = inr (n.0, apart n.1 rest)
 
-    split : IsIn z ws ⊎ (IsIn z (placed cmp w xs) × IsApart cmp z ws)
+    split : IsIn z ws ⊎ (IsIn z (upserted cmp w xs) × IsApart cmp z ws)
         → IsIn z (w ∷ ws) ⊎ (IsIn z xs × IsApart cmp z (w ∷ ws))
     split (inl n) = inl (inr n)
-    split (inr n) = further (IsIn-placed cmp w z xs n.0) n.1
+    split (inr n) = further (IsIn-upserted cmp w z xs n.0) n.1
 
 pub merged-IsIn_other : {X : Type 0} (cmp : X → X → Ordering) (z : X) (ws xs : List X) → IsIn z xs
     → IsApart cmp z ws → IsIn z (merged cmp ws xs)
 merged-IsIn_other cmp z [] xs m apart = m
 merged-IsIn_other cmp z (w ∷ ws) xs m apart =
-    merged-IsIn_other cmp z ws (placed cmp w xs) (placed-IsIn_other cmp w z xs m (apart w (inl refl)))
+    merged-IsIn_other cmp z ws (upserted cmp w xs) (upserted-IsIn_other cmp w z xs m (apart w (inl refl)))
     (λ v n. apart v (inr n))
 
 pub below_apart : {X : Type 0} (cmp : X → X → Ordering) (w : X) (ws : List X) → IsBelowAll cmp w ws → IsApart cmp w ws
@@ -64,69 +64,69 @@ pub merged-IsIn : {X : Type 0} (cmp : X → X → Ordering) (z : X) (ws xs : Lis
     → IsIn z (merged cmp ws xs)
 merged-IsIn cmp z [] xs up m = absurd m
 merged-IsIn {X} cmp z (w ∷ ws) xs up (inl e) =
-    subst (λ v. IsIn v (merged cmp ws (placed cmp w xs))) (sym e)
-    (merged-IsIn_other cmp w ws (placed cmp w xs) (placed-IsIn cmp w xs) (below_apart cmp w ws up.0))
-merged-IsIn cmp z (w ∷ ws) xs up (inr m) = merged-IsIn cmp z ws (placed cmp w xs) up.1 m
+    subst (λ v. IsIn v (merged cmp ws (upserted cmp w xs))) (sym e)
+    (merged-IsIn_other cmp w ws (upserted cmp w xs) (upserted-IsIn cmp w xs) (below_apart cmp w ws up.0))
+merged-IsIn cmp z (w ∷ ws) xs up (inr m) = merged-IsIn cmp z ws (upserted cmp w xs) up.1 m
 
 -- ---- one more
 
--- What is apart from an item is apart from what is like that.
+-- What is unlike an item is unlike whatever is like that item.
 apart_like : {X : Type 0} (cmp : X → X → Ordering) (o : IsTotalOrder cmp) (z x w : X) → is_eq (cmp z x) ≡ false
     → is_eq (cmp w x) ≡ true → is_eq (cmp z w) ≡ false
 apart_like cmp o z x w other like =
     ap is_eq (alike_right o w x z (is_eq_true (cmp w x) like)) ∙ other
 
 IsApart-placed : {X : Type 0} (cmp : X → X → Ordering) (z x : X) (ws : List X) → is_eq (cmp z x) ≡ false
-    → IsApart cmp z ws → IsApart cmp z (placed cmp x ws)
-IsApart-placed {X} cmp z x ws other apart w m = by (IsIn-placed cmp x w ws m)
+    → IsApart cmp z ws → IsApart cmp z (upserted cmp x ws)
+IsApart-placed {X} cmp z x ws other apart w m = by (IsIn-upserted cmp x w ws m)
   where
     by : (w ≡ x) ⊎ (IsIn w ws × (is_eq (cmp w x) ≡ false)) → is_eq (cmp z w) ≡ false
     by (inl e) = ap (λ v. is_eq (cmp z v)) e ∙ other
     by (inr n) = apart w n.0
 
 placed-IsApart : {X : Type 0} (cmp : X → X → Ordering) (o : IsTotalOrder cmp) (z x : X) (ws : List X)
-    → IsApart cmp z (placed cmp x ws) → IsApart cmp z ws
+    → IsApart cmp z (upserted cmp x ws) → IsApart cmp z ws
 placed-IsApart {X} cmp o z x ws apart w m = by (is_eq (cmp w x)) refl
   where
     by : (b : Bool) → is_eq (cmp w x) ≡ b → is_eq (cmp z w) ≡ false
-    by true e = apart_like cmp o z x w (apart x (placed-IsIn cmp x ws)) e
-    by false e = apart w (placed-IsIn_other cmp x w ws m e)
+    by true e = apart_like cmp o z x w (apart x (upserted-IsIn cmp x ws)) e
+    by false e = apart w (upserted-IsIn_other cmp x w ws m e)
 
--- To put one more into the items is to put it behind them.
+-- To put one more into the items is to put it into the list after them.
 pub merged-placed : {X : Type 0} (cmp : X → X → Ordering) (o : IsTotalOrder cmp) (x : X) (ws xs : List X)
     → IsAscending cmp ws → IsAscending cmp xs
-    → merged cmp (placed cmp x ws) xs ≡ placed cmp x (merged cmp ws xs)
+    → merged cmp (upserted cmp x ws) xs ≡ upserted cmp x (merged cmp ws xs)
 merged-placed {X} cmp o x ws xs uw ux =
-    unique cmp o (merged cmp (placed cmp x ws) xs) (placed cmp x (merged cmp ws xs))
-    (IsAscending-merged cmp o (placed cmp x ws) xs ux)
-    (IsAscending-placed cmp o x (merged cmp ws xs) (IsAscending-merged cmp o ws xs ux))
-    (λ z m. to z (IsIn-merged cmp z (placed cmp x ws) xs m)) (λ z m. from z (IsIn-placed cmp x z (merged cmp ws xs) m))
+    unique cmp o (merged cmp (upserted cmp x ws) xs) (upserted cmp x (merged cmp ws xs))
+    (IsAscending-merged cmp o (upserted cmp x ws) xs ux)
+    (IsAscending-upserted cmp o x (merged cmp ws xs) (IsAscending-merged cmp o ws xs ux))
+    (λ z m. to z (IsIn-merged cmp z (upserted cmp x ws) xs m)) (λ z m. from z (IsIn-upserted cmp x z (merged cmp ws xs) m))
   where
-    to_written : (z : X) → (z ≡ x) ⊎ (IsIn z ws × (is_eq (cmp z x) ≡ false)) → IsIn z (placed cmp x (merged cmp ws xs))
-    to_written z (inl e) = subst (λ v. IsIn v (placed cmp x (merged cmp ws xs))) (sym e)
-        (placed-IsIn cmp x (merged cmp ws xs))
-    to_written z (inr n) = placed-IsIn_other cmp x z (merged cmp ws xs) (merged-IsIn cmp z ws xs uw n.0) n.1
+    to_written : (z : X) → (z ≡ x) ⊎ (IsIn z ws × (is_eq (cmp z x) ≡ false)) → IsIn z (upserted cmp x (merged cmp ws xs))
+    to_written z (inl e) = subst (λ v. IsIn v (upserted cmp x (merged cmp ws xs))) (sym e)
+        (upserted-IsIn cmp x (merged cmp ws xs))
+    to_written z (inr n) = upserted-IsIn_other cmp x z (merged cmp ws xs) (merged-IsIn cmp z ws xs uw n.0) n.1
 
-    to : (z : X) → IsIn z (placed cmp x ws) ⊎ (IsIn z xs × IsApart cmp z (placed cmp x ws))
-        → IsIn z (placed cmp x (merged cmp ws xs))
-    to z (inl m) = to_written z (IsIn-placed cmp x z ws m)
-    to z (inr n) = placed-IsIn_other cmp x z (merged cmp ws xs)
-        (merged-IsIn_other cmp z ws xs n.0 (placed-IsApart cmp o z x ws n.1)) (n.1 x (placed-IsIn cmp x ws))
+    to : (z : X) → IsIn z (upserted cmp x ws) ⊎ (IsIn z xs × IsApart cmp z (upserted cmp x ws))
+        → IsIn z (upserted cmp x (merged cmp ws xs))
+    to z (inl m) = to_written z (IsIn-upserted cmp x z ws m)
+    to z (inr n) = upserted-IsIn_other cmp x z (merged cmp ws xs)
+        (merged-IsIn_other cmp z ws xs n.0 (placed-IsApart cmp o z x ws n.1)) (n.1 x (upserted-IsIn cmp x ws))
 
     from_others : (z : X) → is_eq (cmp z x) ≡ false → IsIn z ws ⊎ (IsIn z xs × IsApart cmp z ws)
-        → IsIn z (merged cmp (placed cmp x ws) xs)
+        → IsIn z (merged cmp (upserted cmp x ws) xs)
     from_others z other (inl m) =
-        merged-IsIn cmp z (placed cmp x ws) xs (IsAscending-placed cmp o x ws uw) (placed-IsIn_other cmp x z ws m other)
+        merged-IsIn cmp z (upserted cmp x ws) xs (IsAscending-upserted cmp o x ws uw) (upserted-IsIn_other cmp x z ws m other)
     from_others z other (inr n) =
-        merged-IsIn_other cmp z (placed cmp x ws) xs n.0 (IsApart-placed cmp z x ws other n.1)
+        merged-IsIn_other cmp z (upserted cmp x ws) xs n.0 (IsApart-placed cmp z x ws other n.1)
 
     from : (z : X) → (z ≡ x) ⊎ (IsIn z (merged cmp ws xs) × (is_eq (cmp z x) ≡ false))
-        → IsIn z (merged cmp (placed cmp x ws) xs)
-    from z (inl e) = subst (λ v. IsIn v (merged cmp (placed cmp x ws) xs)) (sym e)
-        (merged-IsIn cmp x (placed cmp x ws) xs (IsAscending-placed cmp o x ws uw) (placed-IsIn cmp x ws))
+        → IsIn z (merged cmp (upserted cmp x ws) xs)
+    from z (inl e) = subst (λ v. IsIn v (merged cmp (upserted cmp x ws) xs)) (sym e)
+        (merged-IsIn cmp x (upserted cmp x ws) xs (IsAscending-upserted cmp o x ws uw) (upserted-IsIn cmp x ws))
     from z (inr n) = from_others z n.1 (IsIn-merged cmp z ws xs n.0)
 
--- ---- what is found there
+-- ---- what a search finds
 
 true_false : {A : Type 0} (b : Bool) → b ≡ true → b ≡ false → A
 true_false b t f = absurd (cc)
@@ -149,9 +149,9 @@ find-nothing p [] none = refl
 find-nothing p (x ∷ xs) none =
     ap (λ b. cond b (Some x) (find p xs)) (none x (inl refl)) ∙ find-nothing p xs (λ z n. none z (inr n))
 
--- The item that is found is there, passes, and is the least that does.
+-- The item is in the list, passes the test, and is the least that passes it.
 pub record IsLeast {X : Type 0} (cmp : X → X → Ordering) (p : X → Bool) (xs : List X) (a : X) : Type 0 where
-  pub stands : IsIn a xs
+  pub is_there : IsIn a xs
   pub passes : p a ≡ true
   pub least : (z : X) → IsIn z xs → p z ≡ true → is_lt (cmp z a) ≡ false
 
@@ -167,7 +167,7 @@ found-least {X} cmp o p a (x ∷ xs) up h = by (λ s. found-least cmp o p a xs u
 
     later : IsLeast cmp p xs a → p x ≡ false → IsLeast cmp p (x ∷ xs) a
     later rest fails = record {
-      stands = inr rest.stands;
+      is_there = inr rest.is_there;
       passes = rest.passes;
       least = last;
     }
@@ -180,7 +180,7 @@ found-least {X} cmp o p a (x ∷ xs) up h = by (λ s. found-least cmp o p a xs u
         → IsLeast cmp p (x ∷ xs) a
     by more true e s =
         let same : x ≡ a = cc in
-        record { stands = inl (sym same); passes = ap p (sym same) ∙ e; least = here_least same }
+        record { is_there = inl (sym same); passes = ap p (sym same) ∙ e; least = here_least same }
     by more false e s = later (more s) e
 
 pub found-nothing : {X : Type 0} (p : X → Bool) (xs : List X) → find p xs ≡ None → (z : X) → IsIn z xs → p z ≡ false
@@ -226,7 +226,7 @@ is_lt_true Less h = refl
 is_lt_true Equal h = absurd (cc)
 is_lt_true Greater h = absurd (cc)
 
--- What isn't below an item isn't below what that isn't below.
+-- If z isn't below b, and b isn't below a, z isn't below a.
 not_below_through : {X : Type 0} (cmp : X → X → Ordering) (o : IsTotalOrder cmp) (z b a : X)
     → is_lt (cmp z b) ≡ false → is_lt (cmp b a) ≡ false → is_lt (cmp z a) ≡ false
 not_below_through {X} cmp o z b a zb ba = by (is_lt (cmp z a)) refl
@@ -242,7 +242,7 @@ not_below_through {X} cmp o z b a zb ba = by (is_lt (cmp z a)) refl
     by true e = step (is_lt_true (cmp z a) e) (cmp z b) refl
     by false e = e
 
--- What isn't below an item isn't below what is below that.
+-- If z isn't below b, and a is below b, z isn't below a.
 not_below_less : {X : Type 0} (cmp : X → X → Ordering) (o : IsTotalOrder cmp) (z b a : X)
     → is_lt (cmp z a) ≡ false → is_lt (cmp b a) ≡ true → is_lt (cmp z b) ≡ false
 not_below_less {X} cmp o z b a za ba = by (is_lt (cmp z b)) refl
@@ -253,7 +253,8 @@ not_below_less {X} cmp o z b a za ba = by (is_lt (cmp z b)) refl
         (ap is_lt (o.trans z b a (is_lt_true (cmp z b) e) (is_lt_true (cmp b a) ba))) za
     by false e = e
 
--- The first item that passes is the first of those that were put or of the others that still stand.
+-- The first item that passes is the lesser of two: the first that was put, and the first of the others that no item
+-- replaced.
 pub find-merged : {X : Type 0} (cmp : X → X → Ordering) (o : IsTotalOrder cmp) (p : X → Bool) (ws xs : List X)
     → IsAscending cmp ws → IsAscending cmp xs
     → find p (merged cmp ws xs) ≡ earlier cmp (find p ws) (find (passes_apart cmp p ws) xs)
@@ -304,13 +305,13 @@ find-merged {X} cmp o p ws xs uw ux = by (find p ws) refl (find q xs) refl
     is_put_there : (a : X) → IsLeast cmp p ws a → ((z : X) → IsIn z all → p z ≡ true → is_lt (cmp z a) ≡ false)
         → find p all ≡ Some a
     is_put_there a fa least =
-        find-least cmp p a all up (merged-IsIn cmp a ws xs uw fa.stands) fa.passes least
+        find-least cmp p a all up (merged-IsIn cmp a ws xs uw fa.is_there) fa.passes least
 
     is_other_there : (b : X) → IsLeast cmp q xs b → ((z : X) → IsIn z all → p z ≡ true → is_lt (cmp z b) ≡ false)
         → find p all ≡ Some b
     is_other_there b fb least =
         let both = both_true (p b) (list_any (λ w. is_eq (cmp b w)) ws) fb.passes in
-        find-least cmp p b all up (merged-IsIn_other cmp b ws xs fb.stands (IsApart-list_any cmp b ws both.1))
+        find-least cmp p b all up (merged-IsIn_other cmp b ws xs fb.is_there (IsApart-list_any cmp b ws both.1))
         both.0 least
 
     of_two : (a b : X) → IsLeast cmp p ws a → IsLeast cmp q xs b → (t : Bool) → is_lt (cmp b a) ≡ t
@@ -354,7 +355,7 @@ is_some-earlier {X} cmp (Some a) (Some b) = by (is_lt (cmp b a))
     by true = refl
     by false = refl
 
--- One of all passes where one of those that were put does, or one of the others that still stand.
+-- An item passes if one that was put passes, or one of the others that no item replaced.
 pub list_any-merged : {X : Type 0} (cmp : X → X → Ordering) (o : IsTotalOrder cmp) (p : X → Bool) (ws xs : List X)
     → IsAscending cmp ws → IsAscending cmp xs
     → list_any p (merged cmp ws xs) ≡ (list_any p ws || list_any (passes_apart cmp p ws) xs)

@@ -5,9 +5,9 @@ use Rattle.std.proofs.Common.{Result, Ok, ap, refl, subst, sym, arith, if◌then
 use Rattle.std.specs.Ordering.{is_lt}
 use Rattle.lexical_forms.specs.Digits.{is_empty}
 use Rattle.portal_base.specs.declared.json_value.Json.{Json}
-use Rattle.portal_base.specs.Ordered.{dropped, inserted, placed}
+use Rattle.portal_base.specs.Ordered.{dropped, inserted, upserted}
 use Rattle.portal_base.proofs.Filtered.{IsAscending-filter}
-use Rattle.portal_base.proofs.Placed.{IsAscending-placed}
+use Rattle.portal_base.proofs.Upserted.{IsAscending-upserted}
 use Rattle.table_schema.specs.declared.cell.Cell.{Cell}
 use Rattle.table_schema.specs.Field.{SchemaValue}
 use Rattle.datastore_table.specs.declared.fault.TableFault.{TableFault}
@@ -16,12 +16,12 @@ use Rattle.datastore_table.specs.declared.row.Row.{Row}
 use Rattle.datastore_table.specs.Batch.{cut_rows}
 use Rattle.datastore_table.specs.Cells.{has_null}
 use Rattle.datastore_table.specs.Put.{Worked, id_of, put_record}
-use Rattle.datastore_table.specs.Put.{tried_record, with_cells, written_row}
+use Rattle.datastore_table.specs.Put.{validated_record, with_cells, written_row}
 use Rattle.datastore_table.specs.Record.{key_of}
 use Rattle.datastore_table.specs.Rows.{has_cells, row_cmp, row_cmp_total, row_with}
 use Rattle.datastore_table.specs.Table.{AreWithin, IsNumbered}
 use Rattle.datastore_table.proofs.ResultLemmas.{bound-ok}
-use Rattle.datastore_table.proofs.PutLemmas.{tried_on-parts}
+use Rattle.datastore_table.proofs.PutLemmas.{validated_against-parts}
 
 AreWithin-filter : (n : ℕ) (p : Row → Bool) (rows : List Row) → AreWithin n rows → AreWithin n (filter p rows)
 AreWithin-filter n p [] within = tt
@@ -59,16 +59,16 @@ found-within n p r (row ∷ rows) within h = by (found-within n p r rows within.
     by more false s = more s
 
 IsNumbered-placed : (rows : List Row) (n m : ℕ) (row : Row) → IsNumbered rows n → 1 ≤ row.id → row.id < m → n ≤ m
-    → AreWithin m rows → IsNumbered (placed row_cmp row rows) m
+    → AreWithin m rows → IsNumbered (upserted row_cmp row rows) m
 IsNumbered-placed rows n m row numbered low high more within = record {
-  ascending = IsAscending-placed row_cmp row_cmp_total row rows numbered.ascending;
+  ascending = IsAscending-upserted row_cmp row_cmp_total row rows numbered.ascending;
   within = AreWithin-inserted m row (dropped (λ r. row_cmp r row) rows) low high (AreWithin-filter m _ rows within);
   next = omega (arith, numbered.next);
 }
 
--- What is left after some rows were taken out is numbered.
-pub IsNumbered-cut : (ids : List ℕ) (rows : List Row) (n : ℕ) → IsNumbered rows n → IsNumbered (cut_rows ids rows) n
-IsNumbered-cut ids rows n numbered = record {
+-- The remaining rows after a deletion are numbered.
+pub IsNumbered-delete : (ids : List ℕ) (rows : List Row) (n : ℕ) → IsNumbered rows n → IsNumbered (cut_rows ids rows) n
+IsNumbered-delete ids rows n numbered = record {
   ascending = IsAscending-filter row_cmp _ rows numbered.ascending;
   within = AreWithin-filter n _ rows numbered.within;
   next = numbered.next;
@@ -99,13 +99,15 @@ pub put_record-numbered : (method : Method) (schema : SchemaValue) (number : ℕ
     → IsNumbered after.rows after.next_id
 put_record-numbered method schema number given work after numbered h =
     let row = row_with schema.key (key_of schema given) work.rows in
-    let tried = bound-ok (tried_record method schema number given work.rows)
+    let validated = bound-ok (validated_record method schema number given work.rows)
     (λ (t : Option ℕ × List Cell). Ok (with_cells t.0 t.1 work)) after h in
-    let id : tried.0.0 ≡ id_of row = (tried_on-parts method schema number given row work.rows tried.0 tried.1).id in
-    let made : with_cells (id_of row) tried.0.1 work ≡ after =
-    ap (λ i. with_cells i tried.0.1 work) (sym id) ∙ same (with_cells tried.0.0 tried.0.1 work) after tried.2 in
+    let id : validated.0.0
+    ≡ id_of row = (validated_against-parts method schema number given row work.rows validated.0 validated.1).id in
+    let made : with_cells (id_of row) validated.0.1 work ≡ after =
+    ap (λ i. with_cells i validated.0.1 work) (sym id) ∙ same (with_cells validated.0.0 validated.0.1 work) after
+    validated.2 in
     subst (λ (w : Worked). IsNumbered w.rows w.next_id) made
-    (with_cells-numbered work row tried.0.1 numbered
+    (with_cells-numbered work row validated.0.1 numbered
     (row_with-within work.next_id schema.key (key_of schema given) work.rows numbered.within))
   where
     R : Type 0

@@ -5,7 +5,7 @@ use Rattle.std.proofs.Common.{Result, Ok, Err, append-nil}
 use Rattle.std.proofs.lemmas.List.{at_drop_more}
 use Rattle.datastore_table.specs.Results.{◌>>>◌, each_ok, in_turn}
 
--- what the items give, behind what was given before
+-- the results of the items, appended to the results before
 abbrev pub each_on : {A B E : Type 0} → (ℕ → A → Result B E) → ℕ → List B → List A → Result (List B) E
 each_on f number before xs = each_ok f number xs >>> λ ys. Ok (before ++ ys)
 
@@ -59,7 +59,7 @@ in_turn-fault {A} {S} {E} f n i xs x s fault lt is e =
     ∙ ap (λ a. in_turn f n (a ∷ drop (i + 1) xs) s) (sym is)
     ∙ ap (λ (r : Result S E). r >>> in_turn f (n + 1) (drop (i + 1) xs)) e
 
--- Where the whole succeeds, so does its first part.
+-- If a sequence succeeds, so does its first part.
 pub bound-ok : {A B E : Type 0} (r : Result A E) (f : A → Result B E) (y : B) → (r >>> f) ≡ Ok y
     → (x : A) × (r ≡ Ok x) × (f x ≡ Ok y)
 bound-ok (Err fault) f y h = absurd (cc)

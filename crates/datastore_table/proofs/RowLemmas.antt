@@ -1,4 +1,4 @@
--- What is found among rows after some were written.
+-- What is found among the current rows, of which some were written.
 use Rattle.std.proofs.Common.{◌≡◌, ◌∙◌, ap, ℕ, Bool, true, false, ◌&&◌, ◌||◌, not, List, Option, Some, None, find, refl}
 use Rattle.std.proofs.Common.{if◌then◌else◌, ◌==◌}
 use Rattle.std.proofs.Common.{cond, sym, ap₂, arith, [], ◌∷◌}
@@ -12,7 +12,7 @@ use Rattle.lexical_forms.specs.Digits.{is_empty}
 use Rattle.table_schema.specs.declared.cell.Cell.{Cell}
 use Rattle.datastore_table.specs.declared.row.Row.{Row}
 use Rattle.datastore_table.specs.Cells.{has_null, is_null}
-use Rattle.datastore_table.specs.References.{is_held}
+use Rattle.datastore_table.specs.References.{key_exists}
 use Rattle.datastore_table.specs.Rows.{earlier, has_cells, has_id, has_like, is_taken, row_at, row_cmp, row_with}
 use Rattle.datastore_table.specs.Rows.{row_cmp_total, rows_after, takes_cell}
 use Rattle.datastore_table.proofs.Merged.{find-merged, list_any-merged}
@@ -25,40 +25,40 @@ find-none : {X : Type 0} (p : X → Bool) → ((x : X) → p x ≡ false) → (x
 find-none p e [] = refl
 find-none p e (x ∷ xs) = ap (λ b. cond b (Some x) (find p xs)) (e x) ∙ find-none p e xs
 
-pub find_standing : (places : List ℕ) (cells : List Cell) (written rows : List Row)
+pub find_current : (columns : List ℕ) (cells : List Cell) (written rows : List Row)
     → IsAscending row_cmp written → IsAscending row_cmp rows
-    → (is_empty places || has_null cells) ≡ false
-    → row_with places cells (rows_after written rows)
-    ≡ earlier row_cmp (find (has_cells places cells) written)
-    (find (λ row. has_cells places cells row && not (has_like written row)) rows)
-find_standing places cells written rows uw ur some =
-    ap (λ b. if b then None else find (has_cells places cells) (rows_after written rows)) some
-    ∙ find-merged row_cmp row_cmp_total (has_cells places cells) written rows uw ur
+    → (is_empty columns || has_null cells) ≡ false
+    → row_with columns cells (rows_after written rows)
+    ≡ earlier row_cmp (find (has_cells columns cells) written)
+    (find (λ row. has_cells columns cells row && not (has_like written row)) rows)
+find_current columns cells written rows uw ur some =
+    ap (λ b. if b then None else find (has_cells columns cells) (rows_after written rows)) some
+    ∙ find-merged row_cmp row_cmp_total (has_cells columns cells) written rows uw ur
 
-pub any_standing : (p : Row → Bool) (written rows : List Row) → IsAscending row_cmp written → IsAscending row_cmp rows
+pub any_current : (p : Row → Bool) (written rows : List Row) → IsAscending row_cmp written → IsAscending row_cmp rows
     → list_any p (rows_after written rows)
     ≡ (list_any p written || list_any (λ row. p row && not (has_like written row)) rows)
-any_standing p written rows uw ur = list_any-merged row_cmp row_cmp_total p written rows uw ur
+any_current p written rows uw ur = list_any-merged row_cmp row_cmp_total p written rows uw ur
 
-pub taken_standing : (except : Option ℕ) (place : ℕ) (c : Cell) (written rows : List Row)
+pub taken_current : (except : Option ℕ) (column : ℕ) (c : Cell) (written rows : List Row)
     → IsAscending row_cmp written → IsAscending row_cmp rows
-    → is_taken except place c (rows_after written rows)
-    ≡ (not (is_null c) && (list_any (takes_cell except place c) written
-    || list_any (λ row. takes_cell except place c row && not (has_like written row)) rows))
-taken_standing except place c written rows uw ur =
-    ap (λ b. not (is_null c) && b) (any_standing (takes_cell except place c) written rows uw ur)
+    → is_taken except column c (rows_after written rows)
+    ≡ (not (is_null c) && (list_any (takes_cell except column c) written
+    || list_any (λ row. takes_cell except column c row && not (has_like written row)) rows))
+taken_current except column c written rows uw ur =
+    ap (λ b. not (is_null c) && b) (any_current (takes_cell except column c) written rows uw ur)
 
-pub held_standing : (key : List ℕ) (cells : List Cell) (written rows : List Row)
+pub exists_current : (key : List ℕ) (cells : List Cell) (written rows : List Row)
     → IsAscending row_cmp written → IsAscending row_cmp rows
-    → is_held key cells (rows_after written rows)
+    → key_exists key cells (rows_after written rows)
     ≡ (list_any (has_cells key cells) written
     || list_any (λ row. has_cells key cells row && not (has_like written row)) rows)
-held_standing key cells written rows uw ur = any_standing (has_cells key cells) written rows uw ur
+exists_current key cells written rows uw ur = any_current (has_cells key cells) written rows uw ur
 
 pub same_id : (a b : ℕ) → is_eq (nat_cmp a b) ≡ (a == b)
 same_id a b = unsigned_tied a b
 
--- A row of that `_id` is like each other of it.
+-- Rows with the same `_id` are alike.
 has_like-at : (id : ℕ) (z a : Row) (ws : List Row) → find (has_id id) ws ≡ Some a → has_id id z ≡ true
     → has_like ws z ≡ true
 has_like-at id z a [] found at = absurd (cc)
@@ -99,10 +99,10 @@ apart-test id ws z apart = by (has_id id z) refl
         and_true false = refl
     by false e = ap (λ c. c && not (has_like ws z)) e ∙ sym e
 
--- The row of an `_id` is the one that was written, or else the one that stood there.
-pub standing_at : (id : ℕ) (written rows : List Row) → IsAscending row_cmp written → IsAscending row_cmp rows
+-- The current row with an `_id` is the written row, or otherwise the earlier row.
+pub current_at : (id : ℕ) (written rows : List Row) → IsAscending row_cmp written → IsAscending row_cmp rows
     → row_at id (rows_after written rows) ≡ option_or (row_at id written) (row_at id rows)
-standing_at id written rows uw ur =
+current_at id written rows uw ur =
     find-merged row_cmp row_cmp_total (has_id id) written rows uw ur ∙ by (find (has_id id) written) refl
   where
     q : Row → Bool

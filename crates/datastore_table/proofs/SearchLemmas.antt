@@ -1,4 +1,4 @@
--- Where an item stands among others in order, as a search by halves finds it.
+-- The index that a binary search finds for an item among others in order.
 use Rattle.std.proofs.Common.{◌≡◌, ◌<◌, ◌≤◌, ℕ, zero, suc, Bool, true, false, List, [], ◌∷◌, length, get_or, ap, sym}
 use Rattle.std.proofs.Common.{arith}
 use Rattle.std.proofs.lemmas.List.Sums.{prefix_len_is}
@@ -17,7 +17,7 @@ below_at cmp x d [] below j lt = absurd (omega (arith, lt))
 below_at cmp x d (y ∷ ys) below zero lt = below.0
 below_at cmp x d (y ∷ ys) below (suc j) lt = below_at cmp x d ys below.1 j (omega (arith, lt))
 
--- What is below an item stands before all that isn't.
+-- The items below an item come before all others.
 pub below_first : {X : Type 0} (cmp : X → X → Ordering) (o : IsTotalOrder cmp) (x : X) (xs : List X)
     → IsAscending cmp xs → IsPartitionedBy (λ y. is_lt (cmp y x)) xs
 below_first cmp o x [] up i j d le lt h = absurd (omega (arith, lt))
@@ -30,8 +30,8 @@ below_first cmp o x (y ∷ ys) up (suc i) zero d le lt h = absurd (omega (arith,
 below_first cmp o x (y ∷ ys) up (suc i) (suc j) d le lt h =
     below_first cmp o x ys up.1 i j d (omega (arith, le)) (omega (arith, lt)) h
 
--- The place that divides them is how many are below.
-pub place_is : {X : Type 0} (p : X → Bool) (xs : List X) (d : X) (i : ℕ) → i ≤ length xs
+-- The partition point is the count of items below.
+pub index_is : {X : Type 0} (p : X → Bool) (xs : List X) (d : X) (i : ℕ) → i ≤ length xs
     → IsPartitionPoint (λ y. p y ≡ true) (λ y. p y ≡ false) xs i → i ≡ prefix_len p xs
-place_is p xs d i within point =
+index_is p xs d i within point =
     sym (prefix_len_is p xs i d within (λ k lt. point.0 k d (omega arith) lt) (λ lt. point.1 i d (omega arith) lt))

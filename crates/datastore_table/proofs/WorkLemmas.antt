@@ -5,7 +5,7 @@ use Rattle.std.proofs.Common.{Bool, true, false, ◌==◌, ◌&&◌, ◌||◌, n
 use Rattle.std.specs.List.{list_any}
 use Rattle.std.proofs.lemmas.List.Folds.{list_any-append}
 use Rattle.portal_base.proofs.Inserted.{list_any-same}
-use Rattle.portal_base.specs.Ordered.{IsAscending, placed}
+use Rattle.portal_base.specs.Ordered.{IsAscending, upserted}
 use Rattle.portal_base.specs.declared.json_value.Json.{Json}
 use Rattle.table_schema.specs.declared.cell.Cell.{Cell}
 use Rattle.table_schema.specs.Field.{SchemaValue}
@@ -18,12 +18,12 @@ use Rattle.datastore_table.specs.Put.{Worked, next_after, put_from, put_record, 
 use Rattle.datastore_table.specs.Rows.{has_id, has_like, row_cmp, row_cmp_total}
 use Rattle.datastore_table.proofs.Merged.{merged-placed}
 use Rattle.datastore_table.proofs.ResultLemmas.{in_turn-next, in_turn-fault}
-use Rattle.datastore_table.proofs.RowLemmas.{any_standing, apart-test, unlike-at}
+use Rattle.datastore_table.proofs.RowLemmas.{any_current, apart-test, unlike-at}
 
--- To write a row is to put it among the rows as they stand.
+-- Writing a row puts it among the current rows.
 pub worked-with_cells : (rows : List Row) → IsAscending row_cmp rows → (w v : Written) → IsAscending row_cmp w.changed
     → (id : Option ℕ) (cells : List Cell)
-    → v.changed ≡ placed row_cmp (written_row (row_id id w.next_id) cells) w.changed
+    → v.changed ≡ upserted row_cmp (written_row (row_id id w.next_id) cells) w.changed
     → v.next_id ≡ next_after id w.next_id → v.written ≡ w.written ++ row_id id w.next_id ∷ []
     → worked_on rows v ≡ with_cells id cells (worked_on rows w)
 worked-with_cells rows ur w v uw id cells changed next written =
@@ -44,11 +44,11 @@ or_false : (b : Bool) → (b || false) ≡ b
 or_false true = refl
 or_false false = refl
 
--- The rows stay those of these `_id`s, where one more is put among them with its own.
+-- If a row is put among rows with exactly these `_id`s, the rows have these `_id`s and that of the row.
 pub AreThoseOf-placed : (row : Row) (ids : List ℕ) (rows : List Row) → IsAscending row_cmp rows
-    → AreThoseOf ids rows → AreThoseOf (ids ++ row.id ∷ []) (placed row_cmp row rows)
+    → AreThoseOf ids rows → AreThoseOf (ids ++ row.id ∷ []) (upserted row_cmp row rows)
 AreThoseOf-placed row ids rows up those id =
-    any_standing (has_id id) (row ∷ []) rows (tt, tt) up
+    any_current (has_id id) (row ∷ []) rows (tt, tt) up
     ∙ joined (has_id id row) (is_among ids id) (list_any others rows)
     (λ e. list_any-same others (has_id id) (λ z. apart-test id (row ∷ []) z (unlike-at id z (row ∷ []) (none e))) rows
     ∙ those id)
@@ -78,7 +78,7 @@ put_from-fault method schema i records given w fault lt is (inl e) = inl e
 put_from-fault method schema i records given w fault lt is (inr e) =
     inr (in_turn-fault (put_record method schema) (i + 1) i records given w fault lt is e)
 
--- A call gave up with the fault of a reading.
+-- A call returned the fault of a reading.
 pub err_of : {A B : Type 0} (result : Result A TableFault) (fault : TableFault) (reading : Result B TableFault)
     → IsErrAnd result (λ e. e ≡ fault) → (fault ≡ OutOfMemory) ⊎ (reading ≡ Err fault)
     → IfErr result (λ e. (e ≡ OutOfMemory) ⊎ (reading ≡ Err e))

@@ -21,7 +21,7 @@ use Rattle.datastore_table.specs.Table.{IsNumbered}
 
 -- ---- one row
 
--- a value that some type of fields has
+-- the cell is within the range of its type
 abbrev pub is_value : Cell → Bool
 is_value (cell.Number billionths) = nat_lt (unsigned_abs billionths) (10 ^ 27)
 is_value (cell.Date day) = int_le (negsuc 719527) day && int_le day (pos 2932896)
@@ -35,7 +35,7 @@ abbrev pub is_of_kind : Kind → Option Kind → Bool
 is_of_kind kind None = false
 is_of_kind kind (Some own) = same_kind own kind
 
--- Null, unless the field is required; or a value of the field's type that keeps its constraints
+-- Null if the field isn't required; or a value of the field's type that meets its constraints
 abbrev pub is_accepted : FieldValue → Cell → Bool
 is_accepted field c =
     if is_null c then not field.constraints.required
@@ -48,13 +48,13 @@ are_accepted [] [] = true
 are_accepted (field ∷ fields) (c ∷ cells) = is_accepted field c && are_accepted fields cells
 are_accepted fields cells = false
 
--- and none in the key is Null
+-- The fields accept the row's cells, and no cell of the primary key is Null.
 abbrev pub row_meets : SchemaValue → Row → Bool
 row_meets schema row = are_accepted schema.fields row.cells && not (has_null_at schema.key row.cells)
 
 -- ---- two rows
 
--- no row is like an earlier one
+-- no row is like a later one
 abbrev pub are_apart : (Row → Row → Bool) → List Row → Bool
 are_apart like [] = true
 are_apart like (row ∷ rows) = not (list_any (like row) rows) && are_apart like rows
@@ -67,54 +67,54 @@ has_key_of key row other = has_cells key (cells_at key row.cells) other
 abbrev pub keys_apart : List ℕ → List Row → Bool
 keys_apart key rows = is_empty key || are_apart (has_key_of key) rows
 
--- Two rows have equal cells at this place, which aren't Null.
+-- Two rows have equal cells in this column, which aren't Null.
 abbrev pub has_cell_of : ℕ → Row → Row → Bool
-has_cell_of place row other =
-    not (is_null (cell_at row.cells place)) && takes_cell None place (cell_at row.cells place) other
+has_cell_of column row other =
+    not (is_null (cell_at row.cells column)) && takes_cell None column (cell_at row.cells column) other
 
--- no two rows do so in a unique field, of these from this place on
+-- No two rows have equal cells other than Null in a unique field. The first of the fields has this column.
 abbrev pub uniques_apart : ℕ → List FieldValue → List Row → Bool
-uniques_apart place [] rows = true
-uniques_apart place (field ∷ fields) rows =
-    (not field.constraints.unique || are_apart (has_cell_of place) rows) && uniques_apart (place + 1) fields rows
+uniques_apart column [] rows = true
+uniques_apart column (field ∷ fields) rows =
+    (not field.constraints.unique || are_apart (has_cell_of column) rows) && uniques_apart (column + 1) fields rows
 
--- ---- references of the table to itself
+-- ---- self references: foreign keys to the table itself
 
--- each row that refers to one refers to one that is there
-abbrev pub is_held_by : List ℕ → List Row → Foreign → Bool
-is_held_by key rows foreign = not (is_self foreign)
+-- the foreign key is no self reference, or each row refers by it to a row of the table or to nothing
+abbrev pub keeps_self_reference : List ℕ → List Row → Foreign → Bool
+keeps_self_reference key rows foreign = not (is_self foreign)
     || list_all (λ row. not (is_broken foreign.fields key rows row)) rows
 
--- ---- all of it
+-- ---- the whole table
 
 abbrev pub meets_schema : SchemaValue → List Row → Bool
 meets_schema schema rows =
     list_all (row_meets schema) rows
     && (keys_apart schema.key rows
-    && (uniques_apart 0 schema.fields rows && list_all (is_held_by schema.key rows) schema.foreign))
+    && (uniques_apart 0 schema.fields rows && list_all (keeps_self_reference schema.key rows) schema.foreign))
 
--- The `_id`s ascend from above this one to below the next one.
+-- The `_id`s ascend. Each is above `low` and below `next_id`.
 abbrev pub ascend_from : ℕ → ℕ → List Row → Bool
 ascend_from low next_id [] = true
 ascend_from low next_id (row ∷ rows) =
     (nat_lt low row.id && nat_lt row.id next_id) && ascend_from row.id next_id rows
 
--- They ascend from 1 or more, and the next one is at least 1.
+-- The `_id`s ascend. Each is at least 1 and below `next_id`, which is at least 1.
 abbrev pub is_numbered : List Row → ℕ → Bool
 is_numbered rows next_id = nat_le 1 next_id && ascend_from 0 next_id rows
 
 abbrev pub row_of : ℕ × List Cell → Row
 row_of pair = record { id = pair.0; cells = pair.1 }
 
--- the rows of their `_id`s and cells
+-- the rows of these pairs of an `_id` and cells
 abbrev pub rows_of : List (ℕ × List Cell) → List Row
 rows_of pairs = map row_of pairs
 
--- These are the rows and the next `_id` of a table of the schema.
+-- A valid table of the schema can have these rows and this next `_id`.
 abbrev pub is_restorable : SchemaValue → List Row → ℕ → Bool
 is_restorable schema rows next_id = is_numbered rows next_id && meets_schema schema rows
 
--- What holds of every table: its rows are numbered and meet the schema.
+-- The invariant of every table: its rows are numbered and meet the schema.
 pub record IsTable (schema : SchemaValue) (rows : List Row) (next_id : ℕ) : Type 0 where
   pub numbered : IsNumbered rows next_id
   pub meets : IsTrue (meets_schema schema rows)

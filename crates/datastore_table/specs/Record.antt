@@ -1,4 +1,4 @@
--- The records of a batch, read by a table's schema.
+-- How the records of a batch are read by a table's schema.
 use Rattle.std.specs.Prelude.{ℕ, Bool, true, ◌||◌, not, if◌then◌else◌, List, [], map, fold, codes}
 use Rattle.std.specs.Prelude.{slice_get, Option, Some, None, Result, Ok, Err}
 use Rattle.std.specs.List.{list_any}
@@ -19,7 +19,7 @@ use Rattle.datastore_table.specs.Results.{each_ok}
 
 -- ---- its cells
 
--- The cell of a field. One that the record doesn't have is the one that is kept, and else Null.
+-- The cell of a field. If the record lacks the field, it is the kept cell, or what the field reads for Null.
 abbrev pub field_reading : FieldValue → Option Cell → Option Json → Result Cell CellFault
 field_reading field kept (Some value) = record_reading field value
 field_reading field (Some cell) None = Ok cell
@@ -30,20 +30,20 @@ or_cell_fault number field (Ok cell) = Ok cell
 or_cell_fault number field (Err why) = Err (fault.Cell number field.name why)
 
 abbrev pub kept_at : Option (List Cell) → ℕ → Option Cell
-kept_at None place = None
-kept_at (Some cells) place = slice_get cells place
+kept_at None column = None
+kept_at (Some cells) column = slice_get cells column
 
 abbrev pub cell_reading : ℕ → Option (List Cell) → Json → ℕ → FieldValue → Result Cell TableFault
-cell_reading number kept given place field =
-    or_cell_fault number field (field_reading field (kept_at kept place) (member_of field.name given))
+cell_reading number kept given column field =
+    or_cell_fault number field (field_reading field (kept_at kept column) (member_of field.name given))
 
--- The cells of the record of this number in the schema's order, or the first that is none.
+-- The cells of the record with this number, in the schema's order, or the fault of the first that is invalid.
 abbrev pub cells_reading : ℕ → List FieldValue → Option (List Cell) → Json → Result (List Cell) TableFault
 cells_reading number fields kept given = each_ok (cell_reading number kept given) 0 fields
 
 -- ---- its key
 
--- what a value reads as; Null where it can't be read
+-- the cell of a value, or Null if the value is invalid
 abbrev pub read_or_null : Result Cell CellFault → Cell
 read_or_null (Ok c) = c
 read_or_null (Err why) = cell.Null
@@ -57,13 +57,13 @@ key_cell_in None given = cell.Null
 key_cell_in (Some field) given = value_or_null field (member_of field.name given)
 
 abbrev pub key_cell : List FieldValue → Json → ℕ → Cell
-key_cell fields given place = key_cell_in (slice_get fields place) given
+key_cell fields given column = key_cell_in (slice_get fields column) given
 
--- The cells that the record has in the key's fields, with Null for each that it hasn't or that can't be read.
+-- The record's primary key. A cell is Null if the record lacks its field or has an invalid value there.
 abbrev pub key_of : SchemaValue → Json → List Cell
 key_of schema given = map (key_cell schema.fields given) schema.key
 
--- ---- its keys that are no field's name
+-- ---- its names that no field has
 
 abbrev pub entries_of : Json-F Json → List (List ℕ × Json)
 entries_of (Json-F.Map entries) = entries
@@ -72,7 +72,7 @@ entries_of other = []
 abbrev pub is_field_name : List FieldValue → List ℕ → Bool
 is_field_name fields name = list_any (λ (field : FieldValue). bytes_eq field.name name) fields
 
--- a field's name, or `_id`, which is ignored
+-- a field's name or `_id`, which is ignored
 abbrev pub is_known : List FieldValue → List ℕ → Bool
 is_known fields name = bytes_eq name (codes "_id") || is_field_name fields name
 
@@ -84,6 +84,6 @@ abbrev pub least_unknown : List FieldValue → Option (List ℕ) → List ℕ ×
 least_unknown fields least entry =
     if not (is_known fields entry.0) then if is_earlier entry.0 least then Some entry.0 else least else least
 
--- the first by bytes that is neither
+-- the least unknown name of the record, in the order of bytes
 abbrev pub unknown_in : List FieldValue → Json → Option (List ℕ)
 unknown_in fields given = fold (least_unknown fields) None (entries_of (out-Json given))

@@ -1,4 +1,4 @@
-//! Prepared batches.
+//! The prepared batch.
 
 use crate::row::Row;
 use crate::work::Work;
@@ -6,7 +6,7 @@ use std::marker::Model;
 use std::sync::Arc;
 use table_schema::Schema;
 
-/// A batch that was prepared on a table, and can be made there while the table is unchanged.
+/// A batch that was prepared on a table. It can be committed there while the table is unchanged.
 #[derive(Drop)]
 pub struct Batch {
     pub(crate) schema: Arc<Schema>,
@@ -28,8 +28,8 @@ impl Batch {
     ghost use Rattle.datastore_table.specs.Batch.{AreThoseOf};
     ghost use Rattle.datastore_table.specs.Rows.{row_cmp};
 
-    /// The rows that the batch writes, as they stand after it, ascending by `_id`. They are those that its records
-    /// wrote, and no others.
+    /// The rows that the batch writes, with their cells after the batch, in ascending order of their `_id`. They are
+    /// the rows that its records wrote, and no others.
     pub fn changed(&self) -> &[Row]
         ensures rows { result.now ≡ self.now.work.changed }
         ensures ascending { IsAscending row_cmp result.now }

@@ -1,4 +1,4 @@
-//! Cells of a row by their places in the schema, and copies of them.
+//! Cells of a row by column, and copies of them. A column is the index of a field in the schema, from 0.
 ghost use Rattle.std.specs.Prelude.{◌≡◌, IfOk};
 ghost use Rattle.table_schema.specs.Order.{same_cell};
 ghost use Rattle.datastore_table.specs.Cells.{cell_at, cells_at, has_null, has_null_at, is_null, same_cells};
@@ -26,27 +26,27 @@ pub(crate) fn copy_of(alloc: Global, cell: &Cell) -> Result<Cell, AllocError>
     })
 }
 
-/// A copy of the cell at this place.
-pub(crate) fn copy_at(alloc: Global, cells: &[Cell], place: usize) -> Result<Cell, AllocError>
-    ensures { IfOk result (λ copy. copy ≡ cell_at cells.now place) }
+/// A copy of the cell in this column.
+pub(crate) fn copy_at(alloc: Global, cells: &[Cell], column: usize) -> Result<Cell, AllocError>
+    ensures { IfOk result (λ copy. copy ≡ cell_at cells.now column) }
 {
-    match cells.get(place) {
+    match cells.get(column) {
         Some(cell) => copy_of(alloc, cell),
         None => Ok(Cell::Null),
     }
 }
 
-/// Copies of the cells at these places.
+/// Copies of the cells in these columns.
 pub(crate) fn copies_at(
     alloc: Global,
     cells: &[Cell],
-    places: &[u32],
+    columns: &[u32],
 ) -> Result<Seq<Cell>, AllocError>
-    ensures { IfOk result (λ copies. copies ≡ cells_at places.now cells.now) }
+    ensures { IfOk result (λ copies. copies ≡ cells_at columns.now cells.now) }
 {
-    let mut copies = Vec::with_capacity(alloc, places.len())?;
-    for place in places {
-        copies.push(copy_at(alloc, cells, *place as usize)?)?;
+    let mut copies = Vec::with_capacity(alloc, columns.len())?;
+    for column in columns {
+        copies.push(copy_at(alloc, cells, *column as usize)?)?;
     }
     Ok(Seq::from(copies))
 }
@@ -63,45 +63,45 @@ pub(crate) fn has_null(cells: &[Cell]) -> bool
     cells.iter().any(is_null)
 }
 
-// Whether there is no cell at this place, or Null.
-pub(crate) fn is_null_at(cells: &[Cell], place: usize) -> bool
-    ensures { result ≡ is_null (cell_at cells.now place) }
+// Whether the cell in this column is absent or Null.
+pub(crate) fn is_null_at(cells: &[Cell], column: usize) -> bool
+    ensures { result ≡ is_null (cell_at cells.now column) }
 {
-    match cells.get(place) {
+    match cells.get(column) {
         Some(cell) => is_null(cell),
         None => true,
     }
 }
 
-/// Whether one of the cells at these places is Null.
-pub(crate) fn has_null_at(cells: &[Cell], places: &[u32]) -> bool
-    ensures { result ≡ has_null_at places.now cells.now }
+/// Whether a cell in one of these columns is Null.
+pub(crate) fn has_null_at(cells: &[Cell], columns: &[u32]) -> bool
+    ensures { result ≡ has_null_at columns.now cells.now }
 {
-    places
+    columns
         .iter()
-        .any(|place| is_null_at(cells, *place as usize))
+        .any(|column| is_null_at(cells, *column as usize))
 }
 
-// Whether the cell at this place is equal to the other.
+// Whether the cell in this column is equal to the other.
 #[tactic(auto, using(crate::proofs::CellLemmas::same_as_null))]
-pub(crate) fn is_same_at(cells: &[Cell], place: usize, other: &Cell) -> bool
-    ensures { result ≡ same_cell (cell_at cells.now place) other.now }
+pub(crate) fn is_same_at(cells: &[Cell], column: usize, other: &Cell) -> bool
+    ensures { result ≡ same_cell (cell_at cells.now column) other.now }
 {
-    match cells.get(place) {
+    match cells.get(column) {
         Some(cell) => cell.is_same(other),
         None => is_null(other),
     }
 }
 
-/// Whether the cells at these places are equal to the others.
-pub(crate) fn are_same_at(cells: &[Cell], places: &[u32], others: &[Cell]) -> bool
-    ensures { result ≡ same_cells (cells_at places.now cells.now) others.now }
+/// Whether the cells in these columns are equal to the others.
+pub(crate) fn are_same_at(cells: &[Cell], columns: &[u32], others: &[Cell]) -> bool
+    ensures { result ≡ same_cells (cells_at columns.now cells.now) others.now }
 {
-    if places.len() != others.len() {
+    if columns.len() != others.len() {
         return false;
     }
-    for at in 0..places.len() {
-        if !is_same_at(cells, places[at] as usize, &others[at]) {
+    for at in 0..columns.len() {
+        if !is_same_at(cells, columns[at] as usize, &others[at]) {
             return false;
         }
     }
@@ -123,20 +123,20 @@ pub(crate) fn are_same(cells: &[Cell], others: &[Cell]) -> bool
     true
 }
 
-/// Whether the cells at some places are equal to those of other cells at others.
+/// Whether the cells in `columns` are equal to those of `others` in the columns `elsewhere`.
 pub(crate) fn are_same_between(
     cells: &[Cell],
-    places: &[u32],
+    columns: &[u32],
     others: &[Cell],
     elsewhere: &[u32],
 ) -> bool
-    ensures { result ≡ same_cells (cells_at places.now cells.now) (cells_at elsewhere.now others.now) }
+    ensures { result ≡ same_cells (cells_at columns.now cells.now) (cells_at elsewhere.now others.now) }
 {
-    if places.len() != elsewhere.len() {
+    if columns.len() != elsewhere.len() {
         return false;
     }
-    for at in 0..places.len() {
-        if !is_same_between(cells, places[at], others, elsewhere[at]) {
+    for at in 0..columns.len() {
+        if !is_same_between(cells, columns[at], others, elsewhere[at]) {
             return false;
         }
     }
@@ -144,11 +144,11 @@ pub(crate) fn are_same_between(
 }
 
 #[tactic(auto, using(crate::proofs::CellLemmas::null_as_same))]
-pub(crate) fn is_same_between(cells: &[Cell], place: u32, others: &[Cell], elsewhere: u32) -> bool
-    ensures { result ≡ same_cell (cell_at cells.now place) (cell_at others.now elsewhere) }
+pub(crate) fn is_same_between(cells: &[Cell], column: u32, others: &[Cell], elsewhere: u32) -> bool
+    ensures { result ≡ same_cell (cell_at cells.now column) (cell_at others.now elsewhere) }
 {
     match others.get(elsewhere as usize) {
-        Some(other) => is_same_at(cells, place as usize, other),
-        None => is_null_at(cells, place as usize),
+        Some(other) => is_same_at(cells, column as usize, other),
+        None => is_null_at(cells, column as usize),
     }
 }

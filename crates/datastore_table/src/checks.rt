@@ -1,4 +1,4 @@
-//! References to other tables: what a batch or a removal of one table must not break in another.
+//! Foreign keys between two tables: the checks of a batch and of a removal against another table.
 ghost use Rattle.std.specs.Prelude.{◌≡◌, ◌<◌, length};
 ghost use Rattle.datastore_table.specs.Batch.{referred_checked};
 ghost use Rattle.datastore_table.specs.References.{foreign_checked, foreign_fields};
@@ -7,28 +7,30 @@ use crate::batch::Batch;
 use crate::fault::TableFault;
 use crate::references::check_all;
 use crate::removal::{Removal, check_referred_from};
-use crate::rows::Standing;
+use crate::rows::CurrentRows;
 use crate::table::Table;
 use table_schema::Foreign;
 
-/// Whether each row of the batch refers by this foreign key, counted from 0, to a row of the target. The foreign key
-/// is to the target's whole key in order, with equal kinds.
+/// Checks that each row of the batch refers by this foreign key to a row of the target. `foreign` is the index of the
+/// foreign key in the schema of the batch, from 0. A row with Null in the foreign key refers to nothing. The foreign
+/// key is expected to name the target's whole primary key in order, with equal kinds. The error `Foreign` has the
+/// number of the first record that refers to no row.
 pub fn check_foreign(batch: &Batch, foreign: u32, target: &Table) -> Result<(), TableFault>
     requires { foreign < length batch.now.schema.foreign }
     ensures { result ≡ foreign_checked (foreign_fields batch.now.schema.foreign foreign) target.now.schema.key
         target.now.rows batch.now.work.changed batch.now.work.written }
 {
-    let places = foreign_fields(batch.schema.foreign().as_slice(), foreign);
-    let rows = Standing {
+    let columns = foreign_fields(batch.schema.foreign().as_slice(), foreign);
+    let rows = CurrentRows {
         rows: target.rows(),
         written: &[],
     };
-    let changed = Standing {
+    let changed = CurrentRows {
         rows: batch.work.changed(),
         written: &[],
     };
     check_all(
-        places,
+        columns,
         target.schema().key().as_slice(),
         &rows,
         target.index(),
@@ -37,21 +39,23 @@ pub fn check_foreign(batch: &Batch, foreign: u32, target: &Table) -> Result<(), 
     )
 }
 
-/// Whether no row of the referring table refers by this foreign key, counted from 0, to a row of the removal.
+/// Checks that no row of the referring table refers by this foreign key to a row of the removal. `foreign` is the index
+/// of the foreign key in the schema of the referring table, from 0. The error `Referred` has the least `_id` of a row
+/// of the removal that is referred to.
 pub fn check_referred(removal: &Removal, referring: &Table, foreign: u32) -> Result<(), TableFault>
     requires { foreign < length referring.now.schema.foreign }
     ensures { result ≡ referred_checked (foreign_fields referring.now.schema.foreign foreign) removal.now.keys
         referring.now.rows }
 {
-    let places = foreign_fields(referring.schema().foreign().as_slice(), foreign);
-    check_referred_from(places, removal.keys.as_slice(), referring.rows(), &[])
+    let columns = foreign_fields(referring.schema().foreign().as_slice(), foreign);
+    check_referred_from(columns, removal.keys.as_slice(), referring.rows(), &[])
 }
 
-// The fields of the foreign key at this place.
-fn foreign_fields(foreigns: &[Foreign], place: u32) -> &[u32]
-    ensures { result.now ≡ foreign_fields foreigns.now place }
+// The columns of the foreign key at this index.
+fn foreign_fields(foreigns: &[Foreign], index: u32) -> &[u32]
+    ensures { result.now ≡ foreign_fields foreigns.now index }
 {
-    match foreigns.get(place as usize) {
+    match foreigns.get(index as usize) {
         Some(foreign) => foreign.fields.as_slice(),
         None => &[],
     }

@@ -1,17 +1,17 @@
-//! Why a change of a table is refused.
+//! The faults that refuse a change of a table.
 
 use portal_base::text::Text;
 use std::alloc::AllocError;
 use table_schema::CellFault;
 use thiserror::Error;
 
-/// Why a batch or a removal is refused. Records are counted from 1.
+/// Why a batch or a removal is refused. The number of a record counts from 1.
 #[derive(Debug, Drop, Error, PartialEq, Eq)]
 pub enum TableFault {
-    /// The value of this field in the record is no cell.
+    /// The record's value is invalid for this field.
     #[error("row {0}, {field}: {2}", field = .1.as_str())]
     Cell(u64, Text, CellFault),
-    /// The record has a key that is no field's name.
+    /// The record has a value under this name, which no field has.
     #[error("row {0}: no field {field}", field = .1.as_str())]
     UnknownField(u64, Text),
     /// A field of the primary key is Null in the record.
@@ -23,16 +23,16 @@ pub enum TableFault {
     /// No row has the record's key.
     #[error("row {0}: no such key")]
     NoSuchKey(u64),
-    /// Another row has the record's value in this field, in which no two may be equal.
+    /// Another row has the record's value in this unique field.
     #[error("row {0}, {field}: not unique", field = .1.as_str())]
     Unique(u64, Text),
     /// No row has the key that the record refers to.
     #[error("row {0}: no row referred to")]
     Foreign(u64),
-    /// A row that stays refers to the row of this `_id`.
+    /// A remaining row refers to the row with this `_id`.
     #[error("row with _id {0} is referred to")]
     Referred(u64),
-    /// The table has no primary key, by which to upsert or update.
+    /// The method is upsert or update, and the table has no primary key.
     #[error("Table has no key")]
     NoKey,
     /// The table would have more than 1,000,000 rows.

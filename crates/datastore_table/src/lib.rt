@@ -1,14 +1,15 @@
-//! Tables of typed rows, which take whole batches of records or nothing, and keep their keys, unique fields and
-//! references.
+//! Tables of typed rows. A table takes a batch of records as a whole or not at all, and keeps its primary key, its
+//! unique fields and its foreign keys valid.
 #![tactic(auto)]
 
+mod admission;
 mod batch;
 mod cells;
 mod checks;
 mod fault;
-mod found;
-mod grown;
 mod index;
+mod lookup;
+mod lookup_key;
 mod meets;
 mod method;
 mod reading;
@@ -16,17 +17,16 @@ mod references;
 mod removal;
 mod row;
 mod rows;
-mod stock;
+mod store;
 mod table;
-mod tried;
-mod wanted;
+mod validation;
 mod work;
 
 pub use batch::Batch;
 pub use checks::{check_foreign, check_referred};
 pub use fault::TableFault;
+pub use lookup_key::cells_digest;
 pub use method::Method;
 pub use removal::Removal;
 pub use row::Row;
 pub use table::Table;
-pub use wanted::cells_digest;

@@ -7,9 +7,11 @@ ghost use Rattle.lexical_forms.specs.Digits.{is_empty};
 ghost use Rattle.table_schema.specs.Form.{kind_of};
 ghost use Rattle.table_schema.specs.Keys.{same_kind};
 ghost use Rattle.table_schema.specs.Reading.{kind_of_cell};
-ghost use Rattle.datastore_table.specs.Index.{columns_of, is_twice, IsIndexed, IsIndexedAt, IsKeyed, IsUniquelyIndexed};
+ghost use Rattle.datastore_table.specs.Index.{column_lists_of, is_twice, IsIndexed, IsIndexedAt, IsKeyed};
+ghost use Rattle.datastore_table.specs.Index.{IsUniquelyIndexed};
 ghost use Rattle.datastore_table.specs.Meets.{are_accepted, are_apart, ascend_from, has_cell_of, has_key_of};
-ghost use Rattle.datastore_table.specs.Meets.{is_accepted, is_held_by, is_numbered, is_of_kind, is_value, keys_apart};
+ghost use Rattle.datastore_table.specs.Meets.{is_accepted, keeps_self_reference, is_numbered, is_of_kind, is_value};
+ghost use Rattle.datastore_table.specs.Meets.{keys_apart};
 ghost use Rattle.datastore_table.specs.Meets.{row_meets, uniques_apart};
 ghost use Rattle.datastore_table.specs.References.{is_broken};
 ghost use Rattle.datastore_table.specs.Rows.{row_cmp};
@@ -18,10 +20,10 @@ use crate::cells::{are_same_between, has_null_at, is_null, is_same_at};
 use crate::index::Index;
 use crate::references::is_broken;
 use crate::row::Row;
-use crate::rows::{Standing, row_at};
+use crate::rows::{CurrentRows, row_at};
 use table_schema::{Cell, Field, Foreign, Kind, Schema};
 
-/// Above every number of billionths in size.
+/// Above the absolute value of every number cell, in billionths.
 const NUMBER_LIMIT: i128 = 1_000_000_000_000_000_000_000_000_000;
 
 /// 0000-01-01, as days since 1970-01-01.
@@ -40,17 +42,17 @@ const SECONDS_PER_DAY: u32 = 86_400;
 
 const LAST_YEAR: u16 = 9999;
 
-/// Whether rows that each meet the schema do so together.
+/// Whether rows that each meet the schema also have distinct keys, distinct unique cells and valid self references.
 pub(crate) fn are_related(schema: &Schema, rows: &[Row], index: &Index) -> bool
     requires ascending { IsAscending row_cmp rows.now }
     requires met { list_all (row_meets schema.now) rows.now ≡ true }
-    requires indexed { IsIndexed (columns_of schema.now) rows.now index.now }
+    requires indexed { IsIndexed (column_lists_of schema.now) rows.now index.now }
     ensures { result ≡ (keys_apart schema.now.key rows.now && (uniques_apart 0 schema.now.fields rows.now
-        && list_all (is_held_by schema.now.key rows.now) schema.now.foreign)) }
+        && list_all (keeps_self_reference schema.now.key rows.now) schema.now.foreign)) }
 {
     are_keys_apart(schema, rows, index)
         && are_uniques_apart(schema.fields().as_slice(), rows, index)
-        && are_all_held(schema, rows, index)
+        && keeps_self_references(schema, rows, index)
 }
 
 /// Whether each row meets the schema.
@@ -67,7 +69,7 @@ fn does_row_meet(schema: &Schema, row: &Row) -> bool
     are_accepted(schema.fields().as_slice(), cells) && !has_null_at(cells, schema.key().as_slice())
 }
 
-// Whether there is one cell for each field, which the field accepts.
+// Whether there is one cell for each field, and each field accepts its cell.
 #[tactic(auto, using(crate::proofs::MeetLemmas::accepted_length))]
 fn are_accepted(fields: &[Field], cells: &[Cell]) -> bool
     ensures { result ≡ are_accepted fields.now cells.now }
@@ -75,8 +77,8 @@ fn are_accepted(fields: &[Field], cells: &[Cell]) -> bool
     if fields.len() != cells.len() {
         return false;
     }
-    for place in 0..fields.len() {
-        if !is_accepted(&fields[place], &cells[place]) {
+    for column in 0..fields.len() {
+        if !is_accepted(&fields[column], &cells[column]) {
             return false;
         }
     }
@@ -127,7 +129,7 @@ fn kind_of_cell(cell: &Cell) -> Option<Kind>
     }
 }
 
-// Whether it is a value that some type of fields has.
+// Whether the cell is within the range of its type.
 fn is_value(cell: &Cell) -> bool
     ensures { result ≡ is_value cell.now }
 {
@@ -148,18 +150,18 @@ fn is_moment(seconds: i64) -> bool
     FIRST_SECOND <= seconds && seconds <= LAST_SECOND
 }
 
-#[tactic(auto, using(crate::proofs::StockLemmas::key_indexed))]
+#[tactic(auto, using(crate::proofs::StoreLemmas::key_indexed))]
 fn are_keys_apart(schema: &Schema, rows: &[Row], index: &Index) -> bool
     requires ascending { IsAscending row_cmp rows.now }
     requires met { list_all (row_meets schema.now) rows.now ≡ true }
-    requires indexed { IsIndexed (columns_of schema.now) rows.now index.now }
+    requires indexed { IsIndexed (column_lists_of schema.now) rows.now index.now }
     ensures { result ≡ keys_apart schema.now.key rows.now }
 {
     let key = schema.key().as_slice();
     key.is_empty() || no_key_twice(schema, key, rows, index)
 }
 
-// Of two rows with equal keys the index has one under no digest.
+// If two rows have equal keys, one of them is in the index's colliding list.
 fn no_key_twice(schema: &Schema, key: &[u32], rows: &[Row], index: &Index) -> bool
     requires ascending { IsAscending row_cmp rows.now }
     requires met { list_all (row_meets schema.now) rows.now ≡ true }
@@ -167,10 +169,10 @@ fn no_key_twice(schema: &Schema, key: &[u32], rows: &[Row], index: &Index) -> bo
     requires indexed { IsIndexedAt key.now rows.now index.now }
     ensures { result ≡ are_apart (has_key_of key.now) rows.now }
 {
-    !is_any_key_twice(key, rows, index.crowded())
+    !is_any_key_twice(key, rows, index.colliding())
 }
 
-// Whether another row than that of one of these `_id`s has its key.
+// Whether the row with one of these `_id`s shares its key with another row.
 fn is_any_key_twice(key: &[u32], rows: &[Row], ids: &[u64]) -> bool
     requires { IsAscending row_cmp rows.now }
     ensures { result ≡ list_any (is_twice (has_key_of key.now) rows.now) ids.now }
@@ -178,7 +180,7 @@ fn is_any_key_twice(key: &[u32], rows: &[Row], ids: &[u64]) -> bool
     ids.iter().any(|id| is_key_twice(key, rows, *id))
 }
 
-// Whether another row than that of this `_id` has its key.
+// Whether the row with this `_id` shares its key with another row.
 fn is_key_twice(key: &[u32], rows: &[Row], id: u64) -> bool
     requires { IsAscending row_cmp rows.now }
     ensures { result ≡ is_twice (has_key_of key.now) rows.now id }
@@ -202,97 +204,97 @@ fn has_same_key(key: &[u32], row: &Row, other: &Row) -> bool
         && are_same_between(other.cells.as_slice(), key, row.cells.as_slice(), key)
 }
 
-// Whether no unique field has equal cells other than Null in two rows.
+// Whether no two rows have equal cells other than Null in a unique field.
 fn are_uniques_apart(fields: &[Field], rows: &[Row], index: &Index) -> bool
     requires ascending { IsAscending row_cmp rows.now }
     requires indexed { IsUniquelyIndexed fields.now rows.now index.now }
     ensures { result ≡ uniques_apart 0 fields.now rows.now }
 {
-    for (place, field) in fields.iter().enumerate() {
-        if field.constraints().unique && !no_cell_twice(place, rows, index) {
+    for (column, field) in fields.iter().enumerate() {
+        if field.constraints().unique && !no_cell_twice(column, rows, index) {
             return false;
         }
     }
     true
 }
 
-// Of two rows with equal cells the index has one under no digest.
-fn no_cell_twice(place: usize, rows: &[Row], index: &Index) -> bool
+// If two rows have equal cells in this column, one of them is in the index's colliding list.
+fn no_cell_twice(column: usize, rows: &[Row], index: &Index) -> bool
     requires ascending { IsAscending row_cmp rows.now }
-    requires indexed { IsIndexedAt (place ∷ []) rows.now index.now }
-    ensures { result ≡ are_apart (has_cell_of place) rows.now }
+    requires indexed { IsIndexedAt (column ∷ []) rows.now index.now }
+    ensures { result ≡ are_apart (has_cell_of column) rows.now }
 {
-    !is_any_cell_twice(place, rows, index.crowded())
+    !is_any_cell_twice(column, rows, index.colliding())
 }
 
-// Whether another row than that of one of these `_id`s has its cell at this place, other than Null.
-fn is_any_cell_twice(place: usize, rows: &[Row], ids: &[u64]) -> bool
+// Whether the row with one of these `_id`s shares its cell in this column, other than Null, with another row.
+fn is_any_cell_twice(column: usize, rows: &[Row], ids: &[u64]) -> bool
     requires { IsAscending row_cmp rows.now }
-    ensures { result ≡ list_any (is_twice (has_cell_of place) rows.now) ids.now }
+    ensures { result ≡ list_any (is_twice (has_cell_of column) rows.now) ids.now }
 {
-    ids.iter().any(|id| is_cell_twice(place, rows, *id))
+    ids.iter().any(|id| is_cell_twice(column, rows, *id))
 }
 
-// Whether another row than that of this `_id` has its cell at this place, other than Null.
-fn is_cell_twice(place: usize, rows: &[Row], id: u64) -> bool
+// Whether the row with this `_id` shares its cell in this column, other than Null, with another row.
+fn is_cell_twice(column: usize, rows: &[Row], id: u64) -> bool
     requires { IsAscending row_cmp rows.now }
-    ensures { result ≡ is_twice (has_cell_of place) rows.now id }
+    ensures { result ≡ is_twice (has_cell_of column) rows.now id }
 {
     match row_at(rows, id) {
-        Some(row) => has_cell_elsewhere(place, row, rows),
+        Some(row) => has_cell_elsewhere(column, row, rows),
         None => false,
     }
 }
 
-fn has_cell_elsewhere(place: usize, row: &Row, rows: &[Row]) -> bool
-    ensures { result ≡ list_any (λ other. not (other.id == row.now.id) && has_cell_of place row.now other) rows.now }
+fn has_cell_elsewhere(column: usize, row: &Row, rows: &[Row]) -> bool
+    ensures { result ≡ list_any (λ other. not (other.id == row.now.id) && has_cell_of column row.now other) rows.now }
 {
-    rows.iter().any(|other| has_same_cell(place, row, other))
+    rows.iter().any(|other| has_same_cell(column, row, other))
 }
 
-fn has_same_cell(place: usize, row: &Row, other: &Row) -> bool
-    ensures { result ≡ (not (other.now.id == row.now.id) && has_cell_of place row.now other.now) }
+fn has_same_cell(column: usize, row: &Row, other: &Row) -> bool
+    ensures { result ≡ (not (other.now.id == row.now.id) && has_cell_of column row.now other.now) }
 {
-    !(other.id == row.id) && has_cell_of(place, row, other)
+    !(other.id == row.id) && has_cell_of(column, row, other)
 }
 
-fn has_cell_of(place: usize, row: &Row, other: &Row) -> bool
-    ensures { result ≡ has_cell_of place row.now other.now }
+fn has_cell_of(column: usize, row: &Row, other: &Row) -> bool
+    ensures { result ≡ has_cell_of column row.now other.now }
 {
-    match row.cells.as_slice().get(place) {
-        Some(cell) => !is_null(cell) && is_same_at(other.cells.as_slice(), place, cell),
+    match row.cells.as_slice().get(column) {
+        Some(cell) => !is_null(cell) && is_same_at(other.cells.as_slice(), column, cell),
         None => false,
     }
 }
 
-fn are_all_held(schema: &Schema, rows: &[Row], index: &Index) -> bool
+fn keeps_self_references(schema: &Schema, rows: &[Row], index: &Index) -> bool
     requires { IsKeyed schema.now.key rows.now index.now }
-    ensures { result ≡ list_all (is_held_by schema.now.key rows.now) schema.now.foreign }
+    ensures { result ≡ list_all (keeps_self_reference schema.now.key rows.now) schema.now.foreign }
 {
     let key = schema.key().as_slice();
     let foreigns = schema.foreign().as_slice();
     foreigns
         .iter()
-        .all(|foreign| is_held_by(key, rows, index, foreign))
+        .all(|foreign| keeps_self_reference(key, rows, index, foreign))
 }
 
-fn is_held_by(key: &[u32], rows: &[Row], index: &Index, foreign: &Foreign) -> bool
+fn keeps_self_reference(key: &[u32], rows: &[Row], index: &Index, foreign: &Foreign) -> bool
     requires { IsKeyed key.now rows.now index.now }
-    ensures { result ≡ is_held_by key.now rows.now foreign.now }
+    ensures { result ≡ keeps_self_reference key.now rows.now foreign.now }
 {
     !foreign.resource.is_empty() || is_none_broken(foreign.fields.as_slice(), key, rows, index)
 }
 
-fn is_none_broken(places: &[u32], key: &[u32], rows: &[Row], index: &Index) -> bool
+fn is_none_broken(columns: &[u32], key: &[u32], rows: &[Row], index: &Index) -> bool
     requires { IsKeyed key.now rows.now index.now }
-    ensures { result ≡ list_all (λ row. not (is_broken places.now key.now rows.now row)) rows.now }
+    ensures { result ≡ list_all (λ row. not (is_broken columns.now key.now rows.now row)) rows.now }
 {
-    let target = Standing { rows, written: &[] };
+    let target = CurrentRows { rows, written: &[] };
     rows.iter()
-        .all(|row| !is_broken(places, key, &target, index, row))
+        .all(|row| !is_broken(columns, key, &target, index, row))
 }
 
-/// Whether the `_id`s ascend from 1 or more to below the next one.
+/// Whether the `_id`s ascend, each is at least 1 and below `next_id`, and `next_id` is at least 1.
 pub(crate) fn is_numbered(rows: &[Row], next_id: u64) -> bool
     ensures { result ≡ is_numbered rows.now next_id }
 {

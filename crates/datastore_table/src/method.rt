@@ -1,6 +1,6 @@
-//! How a batch is put into a table.
+//! The method of a batch (CKAN's `datastore_upsert`).
 
-/// What becomes of a record by its key.
+/// What a record of the batch does, depending on its primary key.
 #[derive(Clone, Copy, Debug, Drop, PartialEq, Eq)]
 pub enum Method {
     /// It replaces the row that has its key, or is a new row.

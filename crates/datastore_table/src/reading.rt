@@ -1,4 +1,4 @@
-//! Records of a batch, read by a table's schema.
+//! Reads the records of a batch by the table's schema.
 ghost use Rattle.std.specs.Prelude.{◌≡◌, IfOk, IfErr, Ok, None, fold, option_copied};
 ghost use Rattle.table_schema.specs.Reading.{IsFault};
 ghost use Rattle.datastore_table.specs.Results.{Answers};
@@ -18,7 +18,8 @@ use portal_base::text::Text;
 use std::alloc::{AllocError, Global};
 use table_schema::{Cell, CellError, Field, Schema};
 
-/// The cells of the record of this number in the schema's order. A field that the record doesn't have keeps its cell.
+/// Reads the cells of the record with this number, in the schema's order. A field that the record lacks keeps its cell
+/// of `kept`. If `kept` has none, the field reads Null.
 pub(crate) fn cells_of(
     alloc: Global,
     number: u64,
@@ -29,8 +30,8 @@ pub(crate) fn cells_of(
     ensures { Answers result (cells_reading number fields.now (option_copied kept.entry) given.now) }
 {
     let mut cells = Vec::with_capacity(alloc, fields.len())?;
-    for (place, field) in fields.iter().enumerate() {
-        let cell = cell_of(alloc, number, field, kept_at(kept, place), given)?;
+    for (column, field) in fields.iter().enumerate() {
+        let cell = cell_of(alloc, number, field, kept_at(kept, column), given)?;
         if cells.push(cell).is_err() {
             return Err(TableFault::OutOfMemory);
         }
@@ -38,16 +39,16 @@ pub(crate) fn cells_of(
     Ok(Seq::from(cells))
 }
 
-fn kept_at(kept: Option<&Seq<Cell>>, place: usize) -> Option<&Cell>
-    ensures { option_copied result ≡ kept_at (option_copied kept.entry) place }
+fn kept_at(kept: Option<&Seq<Cell>>, column: usize) -> Option<&Cell>
+    ensures { option_copied result ≡ kept_at (option_copied kept.entry) column }
 {
     match kept {
-        Some(cells) => cells.as_slice().get(place),
+        Some(cells) => cells.as_slice().get(column),
         None => None,
     }
 }
 
-// The cell of one field, or the fault of the record.
+// Reads the cell of one field, or returns the fault of the record.
 fn cell_of(
     alloc: Global,
     number: u64,
@@ -68,7 +69,7 @@ fn cell_of(
     }
 }
 
-// The cell of a value, or where there is none the one that is kept, and else Null.
+// Reads the value if there is one. Otherwise the result is the kept cell, or what the field reads for Null.
 fn read_or_kept(
     alloc: Global,
     field: &Field,
@@ -87,22 +88,22 @@ fn read_or_kept(
     }
 }
 
-/// The cells that the record has in the key's fields, with Null for each that it hasn't or that can't be read.
+/// The record's primary key. A cell is Null if the record lacks its field or has an invalid value there.
 pub(crate) fn key_of(alloc: Global, schema: &Schema, given: &Json) -> Result<Seq<Cell>, AllocError>
     ensures { IfOk result (λ key. key ≡ key_of schema.now given.now) }
 {
     let fields = schema.fields().as_slice();
     let mut cells = Vec::with_capacity(alloc, schema.key().len())?;
-    for place in schema.key().as_slice() {
-        cells.push(key_cell(alloc, fields, *place, given)?)?;
+    for column in schema.key().as_slice() {
+        cells.push(key_cell(alloc, fields, *column, given)?)?;
     }
     Ok(Seq::from(cells))
 }
 
-fn key_cell(alloc: Global, fields: &[Field], place: u32, given: &Json) -> Result<Cell, AllocError>
-    ensures { IfOk result (λ cell. cell ≡ key_cell fields.now given.now place) }
+fn key_cell(alloc: Global, fields: &[Field], column: u32, given: &Json) -> Result<Cell, AllocError>
+    ensures { IfOk result (λ cell. cell ≡ key_cell fields.now given.now column) }
 {
-    match fields.get(place as usize) {
+    match fields.get(column as usize) {
         Some(field) => value_or_null(alloc, field, given.get(field.name().as_str())),
         None => Ok(Cell::Null),
     }
@@ -121,7 +122,7 @@ fn value_or_null(alloc: Global, field: &Field, value: Option<&Json>) -> Result<C
     }
 }
 
-/// The first of the record's keys by bytes that is neither a field's name nor `_id`.
+/// Finds the least name in the record, in the order of bytes, that is neither a field's name nor `_id`.
 pub(crate) fn unknown_in<'a>(fields: &[Field], given: &'a Json) -> Option<&'a Text>
     ensures { option_copied result ≡ unknown_in fields.now given.now }
 {

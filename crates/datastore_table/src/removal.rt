@@ -2,7 +2,7 @@
 ghost use Rattle.std.specs.Prelude.{◌≡◌, ◌&&◌, not, IfOk, option_copied, find};
 ghost use Rattle.std.specs.List.{list_any};
 ghost use Rattle.datastore_table.specs.Batch.{cut_rows, is_among, referred_checked, refers_to, removed_keys};
-ghost use Rattle.datastore_table.specs.Batch.{selves_referred, self_referred};
+ghost use Rattle.datastore_table.specs.Batch.{self_references_restricted, self_reference_restricted};
 
 use crate::cells::{are_same_at, copies_at};
 use crate::fault::TableFault;
@@ -13,11 +13,11 @@ use std::alloc::{AllocError, Global};
 use std::marker::Model;
 use table_schema::Foreign;
 
-/// Rows to take out of a table.
+/// A removal that was prepared on a table: the rows to delete.
 #[derive(Drop)]
 pub struct Removal {
     pub(crate) ids: Seq<u64>,
-    /// The rows that go, each with the cells of its key alone.
+    /// The rows to delete, each with only the cells of its key.
     pub(crate) keys: Vec<Row>,
 }
 
@@ -36,8 +36,8 @@ pub(crate) fn is_among(ids: &[u64], id: u64) -> bool
     ids.iter().any(|other| *other == id)
 }
 
-/// Takes the rows of these `_id`s out. It takes no memory.
-pub(crate) fn cut(rows: &mut Vec<Row>, ids: &[u64])
+/// Deletes the rows with these `_id`s. It takes no memory.
+pub(crate) fn delete(rows: &mut Vec<Row>, ids: &[u64])
     ensures { rows.new.items ≡ cut_rows ids.now rows.old.items }
 {
     rows.retain(|row| !is_among(ids, row.id));
@@ -51,7 +51,7 @@ pub(crate) fn copy_of(alloc: Global, ids: &[u64]) -> Result<Seq<u64>, AllocError
     Ok(Seq::from(copy))
 }
 
-/// The rows of these `_id`s, each with the cells of its key alone.
+/// The rows with these `_id`s, each with only the cells of its key.
 pub(crate) fn removed_keys(
     alloc: Global,
     key: &[u32],
@@ -70,72 +70,79 @@ pub(crate) fn removed_keys(
     Ok(keys)
 }
 
-// Whether the row refers by these fields to the one of this key.
-fn refers_to(places: &[u32], row: &Row, key: &Row) -> bool
-    ensures { result ≡ refers_to places.now key.now row.now }
+// Whether the row refers by these columns to the row with this key.
+fn refers_to(columns: &[u32], row: &Row, key: &Row) -> bool
+    ensures { result ≡ refers_to columns.now key.now row.now }
 {
-    refers(row, places) && are_same_at(row.cells.as_slice(), places, key.cells.as_slice())
+    refers(row, columns) && are_same_at(row.cells.as_slice(), columns, key.cells.as_slice())
 }
 
-// Whether one of the rows that stay refers to the one of this key.
-#[tactic(auto, using(crate::proofs::CutLemmas::any_staying))]
-fn is_referred_from(places: &[u32], key: &Row, rows: &[Row], ids: &[u64]) -> bool
-    ensures { result ≡ list_any (refers_to places.now key.now) (cut_rows ids.now rows.now) }
+// Whether a remaining row refers to the row with this key.
+#[tactic(auto, using(crate::proofs::DeleteLemmas::any_staying))]
+fn is_referred_from(columns: &[u32], key: &Row, rows: &[Row], ids: &[u64]) -> bool
+    ensures { result ≡ list_any (refers_to columns.now key.now) (cut_rows ids.now rows.now) }
 {
-    any_staying(places, key, rows, ids)
+    any_staying(columns, key, rows, ids)
 }
 
-fn any_staying(places: &[u32], key: &Row, rows: &[Row], ids: &[u64]) -> bool
-    ensures { result ≡ list_any (λ row. not (is_among ids.now row.id) && refers_to places.now key.now row) rows.now }
+fn any_staying(columns: &[u32], key: &Row, rows: &[Row], ids: &[u64]) -> bool
+    ensures { result ≡ list_any (λ row. not (is_among ids.now row.id) && refers_to columns.now key.now row) rows.now }
 {
-    rows.iter().any(|row| !is_among(ids, row.id) && refers_to(places, row, key))
+    rows.iter().any(|row| !is_among(ids, row.id) && refers_to(columns, row, key))
 }
 
-/// Whether none of the rows, without those of these `_id`s, refers by these fields to one of the keys.
+/// Checks that no remaining row refers by these columns to one of the keys. The remaining rows are those with none of
+/// these `_id`s.
 pub(crate) fn check_referred_from(
-    places: &[u32],
+    columns: &[u32],
     keys: &[Row],
     rows: &[Row],
     ids: &[u64],
 ) -> Result<(), TableFault>
-    ensures { result ≡ referred_checked places.now keys.now (cut_rows ids.now rows.now) }
+    ensures { result ≡ referred_checked columns.now keys.now (cut_rows ids.now rows.now) }
 {
-    match first_referred(places, keys, rows, ids) {
+    match first_referred(columns, keys, rows, ids) {
         Some(key) => Err(TableFault::Referred(key.id)),
         None => Ok(()),
     }
 }
 
-fn first_referred<'a>(places: &[u32], keys: &'a [Row], rows: &[Row], ids: &[u64]) -> Option<&'a Row>
+fn first_referred<'a>(
+    columns: &[u32],
+    keys: &'a [Row],
+    rows: &[Row],
+    ids: &[u64],
+) -> Option<&'a Row>
     ensures { option_copied result
-        ≡ find (λ key. list_any (refers_to places.now key) (cut_rows ids.now rows.now)) keys.now }
+        ≡ find (λ key. list_any (refers_to columns.now key) (cut_rows ids.now rows.now)) keys.now }
 {
     keys.iter()
-        .find(|key| is_referred_from(places, key, rows, ids))
+        .find(|key| is_referred_from(columns, key, rows, ids))
 }
 
-/// Whether the rows that stay keep the references of the table to itself.
-pub(crate) fn check_selves_referred(
+/// Checks that no remaining row refers by a self reference to one of the keys. A self reference is a foreign key to the
+/// table itself.
+pub(crate) fn restrict_self_references(
     foreigns: &[Foreign],
     keys: &[Row],
     rows: &[Row],
     ids: &[u64],
 ) -> Result<(), TableFault>
-    ensures { result ≡ selves_referred foreigns.now keys.now (cut_rows ids.now rows.now) }
+    ensures { result ≡ self_references_restricted foreigns.now keys.now (cut_rows ids.now rows.now) }
 {
     for foreign in foreigns {
-        check_self_referred(foreign, keys, rows, ids)?;
+        restrict_self_reference(foreign, keys, rows, ids)?;
     }
     Ok(())
 }
 
-fn check_self_referred(
+fn restrict_self_reference(
     foreign: &Foreign,
     keys: &[Row],
     rows: &[Row],
     ids: &[u64],
 ) -> Result<(), TableFault>
-    ensures { result ≡ self_referred keys.now (cut_rows ids.now rows.now) 0 foreign.now tt }
+    ensures { result ≡ self_reference_restricted keys.now (cut_rows ids.now rows.now) 0 foreign.now tt }
 {
     if foreign.resource.is_empty() {
         check_referred_from(foreign.fields.as_slice(), keys, rows, ids)

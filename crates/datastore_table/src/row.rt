@@ -1,4 +1,4 @@
-//! Rows.
+//! The row of a table.
 ghost use Rattle.std.specs.Prelude.{◌≡◌, IfOk};
 ghost use Rattle.datastore_table.specs.Meets.{rows_of};
 
@@ -15,7 +15,7 @@ pub struct Row {
     pub cells: Seq<Cell>,
 }
 
-/// The rows of their `_id`s and cells.
+/// Makes rows of pairs of an `_id` and cells.
 pub(crate) fn rows_of(alloc: Global, pairs: Seq<(u64, Seq<Cell>)>) -> Result<Vec<Row>, AllocError>
     ensures { IfOk result (λ rows. rows.items ≡ rows_of pairs) }
 {
@@ -34,7 +34,7 @@ impl Ordered for Row {
 
     ghost total = { row_cmp_total };
 
-    /// The order by `_id`.
+    /// Compares by `_id`.
     fn compare(&self, other: &Row) -> Ordering {
         self.id.cmp(&other.id)
     }

@@ -1,4 +1,4 @@
-//! Tables.
+//! The table: its rows, prepared changes, and the commits that make them.
 ghost use Rattle.std.specs.Prelude.{◌≡◌, ◌⊎◌, ◌<◌, ◌≤◌, [], length, is_some, option_copied, option_map, IfOk, IfErr};
 ghost use Rattle.std.specs.Prelude.{IfSome, OnErr, IsTrue, All};
 ghost use Rattle.std.specs.Prelude.{Ok, Err};
@@ -7,24 +7,24 @@ ghost use Rattle.portal_base.specs.Ordered.{IsAscending};
 ghost use Rattle.table_schema.specs.Printed.{IsValue};
 ghost use Rattle.table_schema.specs.Values.{is_map};
 ghost use Rattle.datastore_table.specs.declared.fault.TableFault.TheVariants.{OutOfMemory};
-ghost use Rattle.datastore_table.specs.Batch.{cut_checked, cut_rows, IsReady, removed_keys, worked_on};
-ghost use Rattle.datastore_table.specs.Index.{IsKeyed, IsStockOf};
+ghost use Rattle.datastore_table.specs.Batch.{delete_checked, cut_rows, IsReady, removed_keys, worked_on};
+ghost use Rattle.datastore_table.specs.Index.{IsKeyed, IsStoreOf};
 ghost use Rattle.datastore_table.specs.Meets.{is_restorable, rows_of};
 ghost use Rattle.datastore_table.specs.Put.{put_records};
 ghost use Rattle.datastore_table.specs.Rows.{row_at, row_cmp, row_with, rows_after};
 ghost use Rattle.datastore_table.specs.Table.{IsSameTable};
 
+use crate::admission::admit;
 use crate::batch::Batch;
 use crate::fault::TableFault;
-use crate::grown::admit;
 use crate::index::Index;
 use crate::meets::{are_related, do_all_meet, is_numbered};
 use crate::method::Method;
-use crate::references::check_selves;
-use crate::removal::{Removal, check_selves_referred, copy_of, removed_keys};
+use crate::references::check_self_references;
+use crate::removal::{Removal, copy_of, removed_keys, restrict_self_references};
 use crate::row::{Row, rows_of};
-use crate::rows::{Standing, row_at, row_with};
-use crate::stock::Stock;
+use crate::rows::{CurrentRows, row_at, row_with};
+use crate::store::RowStore;
 use crate::work::{Work, put_all};
 use portal_base::json_value::Json;
 use portal_base::seq::Seq;
@@ -33,55 +33,55 @@ use std::marker::Model;
 use std::sync::Arc;
 use table_schema::{Cell, Schema};
 
-/// A table: a schema, and rows that each have an `_id`, by which they ascend. A contract sees the schema, the list of
-/// rows, the next `_id`, and for how many more rows memory is ready.
+/// A table: a schema, and rows in ascending order of their `_id`. A contract sees the schema, the list of rows, the
+/// next `_id`, and the count of further rows for which memory is ready.
 #[derive(Drop)]
 pub struct Table {
     alloc: Global,
     schema: Arc<Schema>,
-    stock: Stock,
+    store: RowStore,
     next_id: u64,
 }
 
 impl Model for Table {
     ghost use Rattle.std.specs.Arc.{arc_value};
-    ghost use Rattle.datastore_table.specs.Index.{IsStockOf};
+    ghost use Rattle.datastore_table.specs.Index.{IsStoreOf};
     ghost use Rattle.datastore_table.specs.Table.{TableValue};
 
     ghost Value = { TableValue };
 
     ghost view = { λ t. record {
       schema = arc_value t.schema;
-      rows = t.stock.rows.items;
+      rows = t.store.rows.items;
       next_id = t.next_id;
-      room = t.stock.ready;
+      room = t.store.ready;
     } };
 
-    ghost invariant = { λ t. IsStockOf (arc_value t.schema) t.stock t.next_id };
+    ghost invariant = { λ t. IsStoreOf (arc_value t.schema) t.store t.next_id };
 }
 
 impl Table {
-    /// A table of this schema without rows.
+    /// Creates a table of this schema without rows. The first row gets the `_id` 1.
     pub fn create(alloc: Global, schema: Schema) -> Result<Table, TableFault>
         ensures schema { IfOk result (λ table. table.schema ≡ schema) }
         ensures empty { IfOk result (λ table. table.rows ≡ []) }
         ensures next_id { IfOk result (λ table. table.next_id ≡ 1) }
         ensures fault { IfErr result (λ fault. fault ≡ OutOfMemory) }
     {
-        let stock = Stock::of_rows(alloc, &schema, Vec::new(alloc))?;
+        let store = RowStore::of_rows(alloc, &schema, Vec::new(alloc))?;
         let Ok(schema) = Arc::new(alloc, schema) else {
             return Err(TableFault::OutOfMemory);
         };
         Ok(Table {
             alloc,
             schema,
-            stock,
+            store,
             next_id: 1,
         })
     }
 
-    /// A table of these rows, if they meet the schema and their `_id`s ascend from 1 or more to below the next one,
-    /// which is at least 1.
+    /// Creates a table of these rows. The result is `None` unless the rows meet the schema, their `_id`s ascend, each
+    /// `_id` is at least 1 and below `next_id`, and `next_id` is at least 1.
     pub fn restore(
         alloc: Global,
         schema: Schema,
@@ -94,7 +94,7 @@ impl Table {
         ensures next_id { IfOk result (λ made. IfSome made (λ table. table.next_id ≡ next_id)) }
     {
         let made = restored(alloc, &schema, rows_of(alloc, rows)?, next_id)?;
-        let Some(stock) = made else {
+        let Some(store) = made else {
             return Ok(None);
         };
         let Ok(schema) = Arc::new(alloc, schema) else {
@@ -103,7 +103,7 @@ impl Table {
         Ok(Some(Table {
             alloc,
             schema,
-            stock,
+            store,
             next_id,
         }))
     }
@@ -114,11 +114,11 @@ impl Table {
         &self.schema
     }
 
-    /// How many rows it has.
+    /// The count of its rows.
     pub fn len(&self) -> u64
         ensures { result ≡ length self.now.rows }
     {
-        self.stock.rows.len() as u64
+        self.store.rows.len() as u64
     }
 
     pub fn next_id(&self) -> u64
@@ -127,41 +127,42 @@ impl Table {
         self.next_id
     }
 
-    /// The rows, ascending by `_id`.
+    /// The rows in ascending order of their `_id`.
     pub fn rows(&self) -> &[Row]
         ensures rows { result.now ≡ self.now.rows }
         ensures ascending { IsAscending row_cmp result.now }
         ensures values { All (λ row. All IsValue row.cells) result.now }
     {
-        self.stock.rows.as_slice()
+        self.store.rows.as_slice()
     }
 
-    /// The cells of the row of this `_id`.
+    /// The cells of the row with this `_id`.
     pub fn get(&self, id: u64) -> Option<&Seq<Cell>>
         ensures cells { option_copied result ≡ option_map (λ row. row.cells) (row_at id self.now.rows) }
         ensures values { IfSome result (λ cells. All IsValue cells.now) }
     {
-        match row_at(self.stock.rows.as_slice(), id) {
+        match row_at(self.store.rows.as_slice(), id) {
             Some(row) => Some(&row.cells),
             None => None,
         }
     }
 
-    /// Whether a row has this key. A table without a key has no row with one, and none has Null in its key.
+    /// Whether a row has this primary key. The answer is false if the schema has no primary key or if a cell of the key
+    /// is Null.
     pub fn holds_key(&self, key: &Seq<Cell>) -> bool
         ensures { result ≡ is_some (row_with self.now.schema.key key.now self.now.rows) }
     {
         row_with(
-            self.stock.rows.as_slice(),
-            &self.stock.index,
+            self.store.rows.as_slice(),
+            &self.store.index,
             self.schema.key().as_slice(),
             key.as_slice(),
         )
         .is_some()
     }
 
-    /// Prepares a batch of records, which are dictionaries. It takes all the memory of the batch. A refusal changes
-    /// nothing, and neither does a batch that is not made.
+    /// Prepares a batch of records, which are JSON objects, and takes all the memory that its commit needs. The rows
+    /// stay as they are until `commit`. An error is the first fault of the batch, or out of memory.
     pub fn prepare(&mut self, method: Method, rows: &Seq<Json>) -> Result<Batch, TableFault>
         requires { IsTrue (list_all is_map rows.now) }
         ensures same { IsSameTable self.old self.new }
@@ -175,11 +176,11 @@ impl Table {
     {
         let work = self.worked(method, rows.as_slice())?;
         let schema = Arc::try_clone(&self.schema)?;
-        self.stock.reserve(work.changed().len())?;
+        self.store.reserve(work.changed().len())?;
         Ok(Batch { schema, work })
     }
 
-    /// Makes a batch that was prepared on the table as it is. It takes no memory and can't fail.
+    /// Commits a batch that was prepared on this table and is still valid for it. It takes no memory and can't fail.
     pub fn commit(&mut self, batch: Batch)
         requires { IsReady batch self.old }
         ensures rows { self.new.rows ≡ rows_after batch.work.changed self.old.rows }
@@ -187,71 +188,72 @@ impl Table {
         ensures schema { self.new.schema ≡ self.old.schema }
     {
         let next_id = batch.work.next_id();
-        self.stock.put(batch.work.into_changed());
+        self.store.put(batch.work.into_changed());
         self.next_id = next_id;
     }
 
-    /// Prepares to take the rows of these `_id`s out; an `_id` that no row has counts for nothing. A refusal changes
-    /// nothing, and neither does a removal that is not made.
+    /// Prepares to delete the rows with these `_id`s, and ignores an `_id` that no row has. It never changes the table.
+    /// The error is out of memory, or `Referred` by the first self reference that breaks. `Referred` has the least
+    /// `_id` of a deleted row that a remaining row refers to.
     pub fn prepare_delete(&mut self, ids: &Seq<u64>) -> Result<Removal, TableFault>
         ensures same { self.new ≡ self.old }
         ensures ids { IfOk result (λ removal. removal.ids ≡ ids.now) }
         ensures keys { IfOk result (λ removal.
             removal.keys ≡ removed_keys self.old.schema.key ids.now self.old.rows) }
-        ensures held { IfOk result (λ removal. cut_checked ids.now self.old ≡ Ok tt) }
-        ensures ready { IfOk result (λ removal. cut_checked removal.ids self.new ≡ Ok tt) }
-        ensures fault { IfErr result (λ fault. (fault ≡ OutOfMemory) ⊎ (cut_checked ids.now self.old ≡ Err fault)) }
+        ensures held { IfOk result (λ removal. delete_checked ids.now self.old ≡ Ok tt) }
+        ensures ready { IfOk result (λ removal. delete_checked removal.ids self.new ≡ Ok tt) }
+        ensures fault { IfErr result (λ fault. (fault ≡ OutOfMemory) ⊎ (delete_checked ids.now self.old ≡ Err fault)) }
     {
         let keys = self.removed_keys(ids.as_slice())?;
-        self.check_cut(keys.as_slice(), ids.as_slice())?;
+        self.check_delete(keys.as_slice(), ids.as_slice())?;
         let ids = copy_of(self.alloc, ids.as_slice())?;
         Ok(Removal { ids, keys })
     }
 
-    /// Takes the rows out of the table, which is as it was when the removal was prepared. It takes no memory and
+    /// Deletes the rows of a removal that was prepared on this table and is still valid for it. It takes no memory and
     /// can't fail.
     pub fn commit_delete(&mut self, removal: Removal)
-        requires { cut_checked removal.ids self.old ≡ Ok tt }
+        requires { delete_checked removal.ids self.old ≡ Ok tt }
         ensures rows { self.new.rows ≡ cut_rows removal.ids self.old.rows }
         ensures next_id { self.new.next_id ≡ self.old.next_id }
         ensures schema { self.new.schema ≡ self.old.schema }
     {
-        self.stock.cut(removal.ids.as_slice());
+        self.store.delete(removal.ids.as_slice());
     }
 
-    /// What leads to its rows.
+    /// The index of its rows.
     pub(crate) fn index(&self) -> &Index
         ensures { IsKeyed self.now.schema.key self.now.rows result.now }
     {
-        &self.stock.index
+        &self.store.index
     }
 
-    // The rows of these `_id`s, each with the cells of its key alone.
+    // The rows with these `_id`s, each with only the cells of its key.
     fn removed_keys(&self, ids: &[u64]) -> Result<Vec<Row>, AllocError>
         ensures { IfOk result (λ keys. keys.items ≡ removed_keys self.now.schema.key ids.now self.now.rows) }
     {
         let key = self.schema.key().as_slice();
-        removed_keys(self.alloc, key, ids, self.stock.rows.as_slice())
+        removed_keys(self.alloc, key, ids, self.store.rows.as_slice())
     }
 
-    // Whether the rows that stay keep the references of the table to itself, where these go.
-    fn check_cut(&self, keys: &[Row], ids: &[u64]) -> Result<(), TableFault>
+    // Checks that no remaining row refers by a self reference to a row with one of these `_id`s.
+    fn check_delete(&self, keys: &[Row], ids: &[u64]) -> Result<(), TableFault>
         requires { keys.now ≡ removed_keys self.now.schema.key ids.now self.now.rows }
-        ensures { result ≡ cut_checked ids.now self.now }
+        ensures { result ≡ delete_checked ids.now self.now }
     {
         let foreigns = self.schema.foreign().as_slice();
-        check_selves_referred(foreigns, keys, self.stock.rows.as_slice(), ids)
+        restrict_self_references(foreigns, keys, self.store.rows.as_slice(), ids)
     }
 
-    // What a batch writes, if nothing refuses it.
+    // What a batch writes, or the fault that refuses it.
     fn worked(&self, method: Method, records: &[Json]) -> Result<Work, TableFault>
         ensures work { IfOk result (λ work.
             put_records method records.now self.now ≡ Ok (worked_on self.now.rows work)) }
         ensures fault { IfErr result (λ fault. (fault ≡ OutOfMemory)
             ⊎ (put_records method records.now self.now ≡ Err fault)) }
     {
-        let rows = self.stock.rows.as_slice();
-        let index = &self.stock.index;
+        let rows = self.store.rows.as_slice();
+        let index = &self.store.index;
         admit(self.alloc, method, records, &self.schema, rows, index)?;
         let work = put_all(
             self.alloc,
@@ -262,32 +264,32 @@ impl Table {
             index,
             self.next_id,
         )?;
-        let standing = Standing {
+        let current = CurrentRows {
             rows,
             written: work.changed(),
         };
-        check_selves(&self.schema, &standing, index, work.written())?;
+        check_self_references(&self.schema, &current, index, work.written())?;
         Ok(work)
     }
 }
 
-// A stock of these rows, if they are those of a table.
+// A store of these rows, if they are the rows of a valid table.
 fn restored(
     alloc: Global,
     schema: &Schema,
     rows: Vec<Row>,
     next_id: u64,
-) -> Result<Option<Stock>, AllocError>
+) -> Result<Option<RowStore>, AllocError>
     ensures exactly { IfOk result (λ made. is_some made ≡ is_restorable schema.now rows.items next_id) }
-    ensures rows { IfOk result (λ made. IfSome made (λ stock. stock.rows.items ≡ rows.items)) }
-    ensures stock { IfOk result (λ made. IfSome made (λ stock. IsStockOf schema.now stock next_id)) }
+    ensures rows { IfOk result (λ made. IfSome made (λ store. store.rows.items ≡ rows.items)) }
+    ensures store { IfOk result (λ made. IfSome made (λ store. IsStoreOf schema.now store next_id)) }
 {
     if !is_numbered(rows.as_slice(), next_id) || !do_all_meet(schema, rows.as_slice()) {
         return Ok(None);
     }
-    let stock = Stock::of_rows(alloc, schema, rows)?;
-    if !are_related(schema, stock.rows.as_slice(), &stock.index) {
+    let store = RowStore::of_rows(alloc, schema, rows)?;
+    if !are_related(schema, store.rows.as_slice(), &store.index) {
         return Ok(None);
     }
-    Ok(Some(stock))
+    Ok(Some(store))
 }

@@ -1,10 +1,10 @@
-//! A batch at work: what its records write.
+//! Applies the records of a batch one after another, and collects what they write.
 ghost use Rattle.std.specs.Prelude.{◌≡◌, ◌⊎◌, ◌+◌, List, [], length, IfOk, IfErr, OnOk, Ok, Err};
 ghost use Rattle.portal_base.specs.Ordered.{IsAscending};
 ghost use Rattle.datastore_table.specs.declared.fault.TableFault.TheVariants.{OutOfMemory};
 ghost use Rattle.datastore_table.specs.declared.row.Row.{Row};
 ghost use Rattle.datastore_table.specs.Batch.{worked_on, AreThoseOf};
-ghost use Rattle.datastore_table.specs.Index.{IsStocked};
+ghost use Rattle.datastore_table.specs.Index.{IsSearchable};
 ghost use Rattle.datastore_table.specs.Put.{begun, next_after, put_from, put_record, row_id, with_cells};
 ghost use Rattle.datastore_table.specs.Rows.{row_cmp};
 
@@ -12,21 +12,21 @@ use crate::fault::TableFault;
 use crate::index::Index;
 use crate::method::Method;
 use crate::row::Row;
-use crate::rows::{Standing, place};
-use crate::tried::tried_record;
+use crate::rows::{CurrentRows, put_sorted};
+use crate::validation::validated_record;
 use portal_base::json_value::Json;
 use portal_base::seq::Seq;
 use std::alloc::{AllocError, Global};
 use std::marker::Model;
 use table_schema::{Cell, Schema};
 
-/// What a batch writes.
+/// The rows that a batch writes.
 #[derive(Drop)]
 pub struct Work {
-    /// The rows as they stand after it, ascending by `_id`.
+    /// The written rows after the batch, in ascending order of their `_id`.
     changed: Vec<Row>,
     next_id: u64,
-    /// The `_id` of the row that each of its records wrote.
+    /// The `_id` of the row that each record wrote, in the records' order.
     written: Vec<u64>,
 }
 
@@ -43,7 +43,7 @@ impl Model for Work {
 }
 
 impl Work {
-    /// Nothing yet, where this is the next `_id`.
+    /// Nothing written yet. `next_id` is the `_id` of the next new row.
     pub(crate) fn new(alloc: Global, next_id: u64) -> Work
         ensures changed { result.changed ≡ [] }
         ensures next_id { result.next_id ≡ next_id }
@@ -83,7 +83,7 @@ impl Work {
         self.changed
     }
 
-    // Writes cells on the row of this `_id`, or as a new one.
+    // Writes the cells to the row with this `_id`, or to a new row.
     fn write(&mut self, id: Option<u64>, cells: Seq<Cell>) -> Result<(), TableFault>
         ensures ok { OnOk result ((rows : List Row) → IsAscending row_cmp rows →
             worked_on rows self.new ≡ with_cells id cells (worked_on rows self.old)) }
@@ -95,13 +95,13 @@ impl Work {
         if self.written.push(id).is_err() {
             return Err(TableFault::OutOfMemory);
         }
-        let _replaced = place(&mut self.changed, Row { id, cells });
+        let _replaced = put_sorted(&mut self.changed, Row { id, cells });
         self.next_id = next_id;
         Ok(())
     }
 }
 
-// The `_id` of the row, or the next one.
+// The `_id` of the row, or the next one for a new row.
 fn row_id(id: Option<u64>, next_id: u64) -> u64
     ensures { result ≡ row_id id next_id }
 {
@@ -111,7 +111,7 @@ fn row_id(id: Option<u64>, next_id: u64) -> u64
     }
 }
 
-// A new row uses up an `_id`. Where none is left, there is no memory for a row.
+// A new row uses up an `_id`. If no `_id` is left, the call is out of memory.
 fn next_after(id: Option<u64>, next_id: u64) -> Result<u64, AllocError>
     ensures { IfOk result (λ next. next ≡ next_after id next_id) }
 {
@@ -124,7 +124,7 @@ fn next_after(id: Option<u64>, next_id: u64) -> Result<u64, AllocError>
     }
 }
 
-// Works the record of this number on the rows.
+// Applies the record with this number to the rows.
 fn put_record(
     alloc: Global,
     method: Method,
@@ -135,21 +135,21 @@ fn put_record(
     index: &Index,
     work: &mut Work,
 ) -> Result<(), TableFault>
-    requires { IsStocked schema.now rows.now index.now }
+    requires { IsSearchable schema.now rows.now index.now }
     ensures ok { OnOk result (put_record method schema.now number given.now (worked_on rows.now work.old)
         ≡ Ok (worked_on rows.now work.new)) }
     ensures err { IfErr result (λ fault. (fault ≡ OutOfMemory)
         ⊎ (put_record method schema.now number given.now (worked_on rows.now work.old) ≡ Err fault)) }
 {
-    let standing = Standing {
+    let current = CurrentRows {
         rows,
         written: work.changed(),
     };
-    let (id, cells) = tried_record(alloc, method, schema, number, given, &standing, index)?;
+    let (id, cells) = validated_record(alloc, method, schema, number, given, &current, index)?;
     work.write(id, cells)
 }
 
-/// Works the records on the rows one after another.
+/// Applies the records to the rows one after another.
 pub(crate) fn put_all(
     alloc: Global,
     method: Method,
@@ -159,19 +159,19 @@ pub(crate) fn put_all(
     index: &Index,
     next_id: u64,
 ) -> Result<Work, TableFault>
-    requires { IsStocked schema.now rows.now index.now }
+    requires { IsSearchable schema.now rows.now index.now }
     ensures ok { IfOk result (λ work. put_from method schema.now 1 records.now (begun rows.now next_id)
         ≡ Ok (worked_on rows.now work)) }
     ensures err { IfErr result (λ fault. (fault ≡ OutOfMemory)
         ⊎ (put_from method schema.now 1 records.now (begun rows.now next_id) ≡ Err fault)) }
 {
     let mut work = Work::new(alloc, next_id);
-    for (place, given) in records.iter().enumerate() {
+    for (record_index, given) in records.iter().enumerate() {
         put_record(
             alloc,
             method,
             schema,
-            place as u64 + 1,
+            record_index as u64 + 1,
             given,
             rows,
             index,

@@ -1,4 +1,4 @@
--- Distributions are joined as the triples that lead to them, and their order tells them apart.
+-- Distributions are joined as the triples that lead to them, and their order makes no two equal.
 use Rattle.std.proofs.Common.{◌≡◌, ℕ, List, [], ◌++◌, refl, ap, ◌∙◌, map, filter}
 use Rattle.std.specs.Cmp.{IsTotalOrder, on_total, then_total}
 use Rattle.std.specs.Cmp.Lexicographic.{nat_list_cmp_total}

@@ -50,6 +50,6 @@ picks_the_title_without_a_language : picked (about (graph_of titles) (Iri (codes
 unfolding titles pick picked least graph_of ascending_set is_about term_cmp triple_cmp
 picks_the_title_without_a_language = refl
 
-cuts_behind_the_last_mark : last_part (codes "h/a#b/CSV") ≡ codes "CSV"
+cuts_after_the_last_mark : last_part (codes "h/a#b/CSV") ≡ codes "CSV"
 unfolding after_mark
-cuts_behind_the_last_mark = refl
+cuts_after_the_last_mark = refl

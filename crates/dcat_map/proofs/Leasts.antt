@@ -9,8 +9,8 @@ use Rattle.std.specs.List.{filter_map, cons_option}
 use Rattle.std.proofs.lemmas.List.{append-nil}
 use Rattle.std.proofs.lemmas.List.Elements.{filter_map-append}
 use Rattle.dcat_map.proofs.Steps.{joined_more}
-use Rattle.dcat_map.specs.Sets.{placed, ascending_set, least, lesser_of}
-use Rattle.dcat_map.proofs.SetLemmas.{TellsApart, IsIn, IsIn-placed, placed-IsIn, IsStrictlySortedBy-placed}
+use Rattle.dcat_map.specs.Sets.{set_insert, ascending_set, least, lesser_of}
+use Rattle.dcat_map.proofs.SetLemmas.{TellsApart, IsIn, IsIn-set_insert, set_insert-IsIn, IsStrictlySortedBy-set_insert}
 use Rattle.dcat_map.proofs.SetLemmas.{IsStrictlySortedBy-ascending_set, IsIn-ascending_set, ascending_set-IsIn}
 use Rattle.dcat_map.proofs.SetLemmas.{ascending_set-from_sorted}
 
@@ -37,12 +37,12 @@ push-IsIn {X} z x (y ∷ ys) m = by_case (push-IsIn z x ys) m
 
 -- The set with an item at the end of the list.
 ascending_set-push : {X : Type 0} (cmp : X → X → Ordering) (o : IsTotalOrder cmp) → TellsApart cmp
-    → (xs : List X) (x : X) → ascending_set cmp (xs ++ x ∷ []) ≡ placed cmp x (ascending_set cmp xs)
+    → (xs : List X) (x : X) → ascending_set cmp (xs ++ x ∷ []) ≡ set_insert cmp x (ascending_set cmp xs)
 ascending_set-push {X} cmp o apart xs x =
-    sym (ascending_set-from_sorted cmp o apart (xs ++ x ∷ []) (placed cmp x (ascending_set cmp xs))
-    (IsStrictlySortedBy-placed cmp o x (ascending_set cmp xs) (IsStrictlySortedBy-ascending_set cmp o xs))
-    (λ z m. IsIn-placed cmp apart z x (ascending_set cmp xs) (into z (IsIn-push z x xs m)))
-    (λ z m. push-IsIn z x xs (out z (placed-IsIn cmp z x (ascending_set cmp xs) m))))
+    sym (ascending_set-from_sorted cmp o apart (xs ++ x ∷ []) (set_insert cmp x (ascending_set cmp xs))
+    (IsStrictlySortedBy-set_insert cmp o x (ascending_set cmp xs) (IsStrictlySortedBy-ascending_set cmp o xs))
+    (λ z m. IsIn-set_insert cmp apart z x (ascending_set cmp xs) (into z (IsIn-push z x xs m)))
+    (λ z m. push-IsIn z x xs (out z (set_insert-IsIn cmp z x (ascending_set cmp xs) m))))
   where
     into : (z : X) → IsIn z (x ∷ xs) → IsIn z (x ∷ ascending_set cmp xs)
     into z (inl e) = inl e
@@ -57,12 +57,12 @@ abbrev pub first : {X : Type 0} → List X → Option X
 first [] = None
 first (x ∷ xs) = Some x
 
-first-placed : {X : Type 0} (cmp : X → X → Ordering) → TellsApart cmp → (x : X) (xs : List X)
-    → first (placed cmp x xs) ≡ lesser_of cmp (first xs) (Some x)
-first-placed cmp apart x [] = refl
-first-placed {X} cmp apart x (y ∷ ys) =
+first-set_insert : {X : Type 0} (cmp : X → X → Ordering) → TellsApart cmp → (x : X) (xs : List X)
+    → first (set_insert cmp x xs) ≡ lesser_of cmp (first xs) (Some x)
+first-set_insert cmp apart x [] = refl
+first-set_insert {X} cmp apart x (y ∷ ys) =
     let P : Ordering
-    → Type 0 = λ r. first (match_ordering r (x ∷ y ∷ ys) (y ∷ ys) (y ∷ placed cmp x ys))
+    → Type 0 = λ r. first (match_ordering r (x ∷ y ∷ ys) (y ∷ ys) (y ∷ set_insert cmp x ys))
     ≡ Some (match_ordering r x y y) in
     elim (cmp x y) as P [ Less ↦ refl | Equal ↦ refl | Greater ↦ refl ]
 
@@ -73,14 +73,14 @@ unfolding least ascending_set
 least_first cmp apart [] = refl
 least_first cmp apart (x ∷ xs) =
     ap (λ best. lesser_of cmp best (Some x)) (least_first cmp apart xs)
-    ∙ sym (first-placed cmp apart x (ascending_set cmp xs))
+    ∙ sym (first-set_insert cmp apart x (ascending_set cmp xs))
 
 -- One item more.
 pub least-push : {X : Type 0} (cmp : X → X → Ordering) (o : IsTotalOrder cmp) → TellsApart cmp → (xs : List X) (x : X)
     → least cmp (xs ++ x ∷ []) ≡ lesser_of cmp (least cmp xs) (Some x)
 least-push cmp o apart xs x =
     least_first cmp apart (xs ++ x ∷ []) ∙ ap first (ascending_set-push cmp o apart xs x)
-    ∙ first-placed cmp apart x (ascending_set cmp xs)
+    ∙ first-set_insert cmp apart x (ascending_set cmp xs)
     ∙ ap (λ best. lesser_of cmp best (Some x)) (sym (least_first cmp apart xs))
 
 lesser_of-None : {X : Type 0} (cmp : X → X → Ordering) (best : Option X) → lesser_of cmp best None ≡ best

@@ -37,7 +37,7 @@ any_later c (f ∷ fs) rest =
     let P : Bool → Type 0 = λ v. (v || list_any (λ d. eqb d c) (fs ++ c ∷ rest)) ≡ true in
     elim (eqb f c) as P [ true ↦ refl | false ↦ any_later c fs rest ]
 
--- Behind the last mark stands the rest.
+-- The rest follows the last mark.
 pub after_mark-last : (c : ℕ) (front rest : List ℕ) → list_any (λ d. eqb d c) rest ≡ false
     → after_mark c (front ++ c ∷ rest) ≡ rest
 unfolding after_mark

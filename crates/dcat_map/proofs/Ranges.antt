@@ -1,4 +1,4 @@
--- In an ascending list the triples about one subject and predicate stand together.
+-- In an ascending list the triples about one subject and predicate are next to each other.
 use Rattle.std.proofs.Common.{◌≡◌, ℕ, zero, suc, get_or, ◌+◌, ◌<◌, ◌≤◌, length, take, drop, Bool, true, false, not}
 use Rattle.std.proofs.Common.{cond, ◌&&◌, List, [], ◌∷◌, refl, sym, ap, ◌∙◌, arith, ⊎_elim}
 use Rattle.std.specs.declared.cmp.Ordering.{Ordering}
@@ -35,7 +35,7 @@ IsPartitionedBy-sorted cmp p step (x ∷ xs) up (suc i) zero d le lt h = absurd 
 IsPartitionedBy-sorted cmp p step (x ∷ xs) up (suc i) (suc j) d le lt h =
     IsPartitionedBy-sorted cmp p step xs up.1 i j d (omega arith) (omega arith) h
 
--- The place where the items below end is not behind that where the items that aren't above end.
+-- The index where the items below end is at most the index where the items that aren't above end.
 pub ends_in_order : {X : Type 0} (R : X → Ordering) (xs : List X) (d : X) (i j : ℕ)
     → IsPartitionPoint (λ y. is_lt (R y) ≡ true) (λ y. is_lt (R y) ≡ false) xs i
     → IsPartitionPoint (λ y. not (is_gt (R y)) ≡ true) (λ y. not (is_gt (R y)) ≡ false) xs j → i ≤ length xs → i ≤ j
@@ -63,7 +63,7 @@ filter-same p q e [] = refl
 filter-same p q e (x ∷ xs) = ap (λ b. cond b (x ∷ filter p xs) (filter p xs)) (e x)
     ∙ ap (λ l. cond (q x) (x ∷ l) l) (filter-same p q e xs)
 
--- What stands between the two places is what is level.
+-- The items between the two indexes are those that are equal.
 pub take-drop-filter : {X : Type 0} (R : X → Ordering) (xs : List X) (i n j : ℕ) → i + n ≡ j → j ≤ length xs
     → IsPartitionPoint (λ y. is_lt (R y) ≡ true) (λ y. is_lt (R y) ≡ false) xs i
     → IsPartitionPoint (λ y. not (is_gt (R y)) ≡ true) (λ y. not (is_gt (R y)) ≡ false) xs j

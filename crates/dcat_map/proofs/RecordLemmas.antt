@@ -13,7 +13,7 @@ use Rattle.ntriples.specs.declared.term.Triple.{Triple}
 use Rattle.dcat_map.specs.declared.record.HarvestRecord.{HarvestRecord}
 use Rattle.dcat_map.specs.declared.record.RecordFault.TheVariants.{NotDescribed, NoTitle}
 use Rattle.dcat_map.specs.Records.{record_in, titled, description_in}
-use Rattle.dcat_map.specs.Sets.{placed, ascending_set}
+use Rattle.dcat_map.specs.Sets.{set_insert, ascending_set}
 use Rattle.dcat_map.specs.Terms.{text_cmp, term_cmp, is_iri, is_english}
 use Rattle.dcat_map.specs.Graphs.{about, is_about, is_typed, is_described}
 use Rattle.dcat_map.specs.Vocabulary.{rdf_type, dcat_dataset_class}
@@ -73,18 +73,18 @@ exchange true false c = refl
 exchange false true c = refl
 exchange false false c = refl
 
-list_any-placed : {X : Type 0} (cmp : X → X → Ordering) → TellsApart cmp → (test : X → Bool) (x : X) (xs : List X)
-    → list_any test (placed cmp x xs) ≡ (test x || list_any test xs)
-list_any-placed cmp apart test x [] = refl
-list_any-placed {X} cmp apart test x (y ∷ ys) =
+list_any-set_insert : {X : Type 0} (cmp : X → X → Ordering) → TellsApart cmp → (test : X → Bool) (x : X) (xs : List X)
+    → list_any test (set_insert cmp x xs) ≡ (test x || list_any test xs)
+list_any-set_insert cmp apart test x [] = refl
+list_any-set_insert {X} cmp apart test x (y ∷ ys) =
     let P : Ordering → Type 0 = λ r. cmp x y ≡ r
-    → list_any test (match_ordering r (x ∷ y ∷ ys) (y ∷ ys) (y ∷ placed cmp x ys))
+    → list_any test (match_ordering r (x ∷ y ∷ ys) (y ∷ ys) (y ∷ set_insert cmp x ys))
     ≡ (test x || (test y || list_any test ys)) in
     (elim (cmp x y) as P [
       | Less ↦ λ e. refl
       | Equal ↦ λ e. twice (test y) (list_any test ys) ∙ ap (λ (z : X). test z || (test y || list_any test ys))
           (sym (apart x y e))
-      | Greater ↦ λ e. ap (λ b. test y || b) (list_any-placed cmp apart test x ys)
+      | Greater ↦ λ e. ap (λ b. test y || b) (list_any-set_insert cmp apart test x ys)
           ∙ exchange (test y) (test x) (list_any test ys)
     ]) refl
 
@@ -93,7 +93,7 @@ pub list_any-ascending_set : {X : Type 0} (cmp : X → X → Ordering) → Tells
     → list_any test (ascending_set cmp xs) ≡ list_any test xs
 unfolding ascending_set
 list_any-ascending_set cmp apart test [] = refl
-list_any-ascending_set cmp apart test (x ∷ xs) = list_any-placed cmp apart test x (ascending_set cmp xs)
+list_any-ascending_set cmp apart test (x ∷ xs) = list_any-set_insert cmp apart test x (ascending_set cmp xs)
     ∙ ap (λ b. test x || b) (list_any-ascending_set cmp apart test xs)
 
 -- The test of what is about a copy of the IRI, and the record of it, give the description.

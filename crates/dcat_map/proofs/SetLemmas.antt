@@ -13,9 +13,9 @@ use Rattle.std.proofs.lemmas.List.Sorted.{Contains-permutation, IsPermutation-sy
 use Rattle.portal_base.specs.Ordered.{IsBelowAll, IsAscending}
 use Rattle.portal_base.proofs.Unique.{unique}
 pub use Rattle.portal_base.proofs.Unique.{IsIn, IsIn-Contains, Contains-IsIn}
-use Rattle.dcat_map.specs.Sets.{placed, ascending_set, HaveSameItems}
+use Rattle.dcat_map.specs.Sets.{set_insert, ascending_set, HaveSameItems}
 
--- items that the order doesn't tell apart are the same
+-- items that the order makes equal are the same
 abbrev pub TellsApart : {X : Type 0} → (X → X → Ordering) → Type 0
 TellsApart {X} cmp = (x y : X) → cmp x y ≡ Equal → x ≡ y
 
@@ -40,43 +40,43 @@ IsAscending-from cmp [] up = tt
 IsAscending-from cmp (x ∷ xs) up = (IsBelowAll-from cmp x xs up.0, IsAscending-from cmp xs up.1)
 
 -- What is placed into a list, and the items of the list, are in it afterwards.
-pub IsIn-placed : {X : Type 0} (cmp : X → X → Ordering) → TellsApart cmp → (z x : X) (xs : List X) → IsIn z (x ∷ xs)
-    → IsIn z (placed cmp x xs)
-IsIn-placed cmp apart z x [] m = m
-IsIn-placed {X} cmp apart z x (y ∷ ys) m =
+pub IsIn-set_insert : {X : Type 0} (cmp : X → X → Ordering) → TellsApart cmp → (z x : X) (xs : List X) → IsIn z (x ∷ xs)
+    → IsIn z (set_insert cmp x xs)
+IsIn-set_insert cmp apart z x [] m = m
+IsIn-set_insert {X} cmp apart z x (y ∷ ys) m =
     let P : Ordering → Type 0 =
-    λ r. cmp x y ≡ r → IsIn z (match_ordering r (x ∷ y ∷ ys) (y ∷ ys) (y ∷ placed cmp x ys)) in
+    λ r. cmp x y ≡ r → IsIn z (match_ordering r (x ∷ y ∷ ys) (y ∷ ys) (y ∷ set_insert cmp x ys)) in
     (elim (cmp x y) as P [
       | Less ↦ λ e. m
       | Equal ↦ λ e. alike (apart x y e) m
-      | Greater ↦ λ e. ahead (IsIn-placed cmp apart z x ys) m
+      | Greater ↦ λ e. utc_offset (IsIn-set_insert cmp apart z x ys) m
     ]) refl
   where
     alike : x ≡ y → IsIn z (x ∷ y ∷ ys) → IsIn z (y ∷ ys)
     alike e (inl f) = inl (f ∙ e)
     alike e (inr n) = n
 
-    ahead : (IsIn z (x ∷ ys) → IsIn z (placed cmp x ys)) → IsIn z (x ∷ y ∷ ys) → IsIn z (y ∷ placed cmp x ys)
-    ahead go (inl e) = inr (go (inl e))
-    ahead go (inr (inl e)) = inl e
-    ahead go (inr (inr n)) = inr (go (inr n))
+    utc_offset : (IsIn z (x ∷ ys) → IsIn z (set_insert cmp x ys)) → IsIn z (x ∷ y ∷ ys) → IsIn z (y ∷ set_insert cmp x ys)
+    utc_offset go (inl e) = inr (go (inl e))
+    utc_offset go (inr (inl e)) = inl e
+    utc_offset go (inr (inr n)) = inr (go (inr n))
 
 -- Nothing else is in it.
-pub placed-IsIn : {X : Type 0} (cmp : X → X → Ordering) (z x : X) (xs : List X) → IsIn z (placed cmp x xs)
+pub set_insert-IsIn : {X : Type 0} (cmp : X → X → Ordering) (z x : X) (xs : List X) → IsIn z (set_insert cmp x xs)
     → IsIn z (x ∷ xs)
-placed-IsIn cmp z x [] m = m
-placed-IsIn {X} cmp z x (y ∷ ys) m =
+set_insert-IsIn cmp z x [] m = m
+set_insert-IsIn {X} cmp z x (y ∷ ys) m =
     let P : Ordering → Type 0 =
-    λ r. IsIn z (match_ordering r (x ∷ y ∷ ys) (y ∷ ys) (y ∷ placed cmp x ys)) → IsIn z (x ∷ y ∷ ys) in
-    (elim (cmp x y) as P [ Less ↦ λ n. n | Equal ↦ λ n. inr n | Greater ↦ λ n. behind (placed-IsIn cmp z x ys) n ]) m
+    λ r. IsIn z (match_ordering r (x ∷ y ∷ ys) (y ∷ ys) (y ∷ set_insert cmp x ys)) → IsIn z (x ∷ y ∷ ys) in
+    (elim (cmp x y) as P [ Less ↦ λ n. n | Equal ↦ λ n. inr n | Greater ↦ λ n. following (set_insert-IsIn cmp z x ys) n ]) m
   where
     further : IsIn z (x ∷ ys) → IsIn z (x ∷ y ∷ ys)
     further (inl e) = inl e
     further (inr n) = inr (inr n)
 
-    behind : (IsIn z (placed cmp x ys) → IsIn z (x ∷ ys)) → IsIn z (y ∷ placed cmp x ys) → IsIn z (x ∷ y ∷ ys)
-    behind go (inl e) = inr (inl e)
-    behind go (inr n) = further (go n)
+    following : (IsIn z (set_insert cmp x ys) → IsIn z (x ∷ ys)) → IsIn z (y ∷ set_insert cmp x ys) → IsIn z (x ∷ y ∷ ys)
+    following go (inl e) = inr (inl e)
+    following go (inr n) = further (go n)
 
 -- What is below an item is below all that the item is below.
 below_trans : {X : Type 0} (cmp : X → X → Ordering) (o : IsTotalOrder cmp) (a x : X) (xs : List X) → cmp a x ≡ Less
@@ -85,26 +85,26 @@ below_trans cmp o a x [] h hs = tt
 below_trans cmp o a x (y ∷ ys) h hs = (o.trans a x y h hs.0, below_trans cmp o a x ys h hs.1)
 
 -- What is below the item and below all others is below all.
-below-placed : {X : Type 0} (cmp : X → X → Ordering) (a x : X) (xs : List X) → cmp a x ≡ Less
-    → AllByRecursion (λ y. cmp a y ≡ Less) xs → AllByRecursion (λ y. cmp a y ≡ Less) (placed cmp x xs)
-below-placed cmp a x [] h hs = (h, tt)
-below-placed {X} cmp a x (y ∷ ys) h hs =
+below-set_insert : {X : Type 0} (cmp : X → X → Ordering) (a x : X) (xs : List X) → cmp a x ≡ Less
+    → AllByRecursion (λ y. cmp a y ≡ Less) xs → AllByRecursion (λ y. cmp a y ≡ Less) (set_insert cmp x xs)
+below-set_insert cmp a x [] h hs = (h, tt)
+below-set_insert {X} cmp a x (y ∷ ys) h hs =
     let P : Ordering → Type 0 =
-    λ r. AllByRecursion (λ z. cmp a z ≡ Less) (match_ordering r (x ∷ y ∷ ys) (y ∷ ys) (y ∷ placed cmp x ys)) in
-    elim (cmp x y) as P [ Less ↦ (h, hs) | Equal ↦ hs | Greater ↦ (hs.0, below-placed cmp a x ys h hs.1) ]
+    λ r. AllByRecursion (λ z. cmp a z ≡ Less) (match_ordering r (x ∷ y ∷ ys) (y ∷ ys) (y ∷ set_insert cmp x ys)) in
+    elim (cmp x y) as P [ Less ↦ (h, hs) | Equal ↦ hs | Greater ↦ (hs.0, below-set_insert cmp a x ys h hs.1) ]
 
-pub IsStrictlySortedBy-placed : {X : Type 0} (cmp : X → X → Ordering) (o : IsTotalOrder cmp) (x : X) (xs : List X)
-    → IsStrictlySortedBy cmp xs → IsStrictlySortedBy cmp (placed cmp x xs)
+pub IsStrictlySortedBy-set_insert : {X : Type 0} (cmp : X → X → Ordering) (o : IsTotalOrder cmp) (x : X) (xs : List X)
+    → IsStrictlySortedBy cmp xs → IsStrictlySortedBy cmp (set_insert cmp x xs)
 unfolding IsStrictlySortedBy
-IsStrictlySortedBy-placed cmp o x [] up = (tt, tt)
-IsStrictlySortedBy-placed {X} cmp o x (y ∷ ys) up =
+IsStrictlySortedBy-set_insert cmp o x [] up = (tt, tt)
+IsStrictlySortedBy-set_insert {X} cmp o x (y ∷ ys) up =
     let P : Ordering → Type 0 =
-    λ r. cmp x y ≡ r → IsStrictlySortedBy cmp (match_ordering r (x ∷ y ∷ ys) (y ∷ ys) (y ∷ placed cmp x ys)) in
+    λ r. cmp x y ≡ r → IsStrictlySortedBy cmp (match_ordering r (x ∷ y ∷ ys) (y ∷ ys) (y ∷ set_insert cmp x ys)) in
     (elim (cmp x y) as P [
       | Less ↦ λ e. ((e, below_trans cmp o x y ys e up.0), up)
       | Equal ↦ λ e. up
       | Greater ↦ λ e. let below : cmp y x ≡ Less = o.antisymm y x ∙ ap ordering_reverse e in
-          (below-placed cmp y x ys below up.0, IsStrictlySortedBy-placed cmp o x ys up.1)
+          (below-set_insert cmp y x ys below up.0, IsStrictlySortedBy-set_insert cmp o x ys up.1)
     ]) refl
 
 pub IsStrictlySortedBy-ascending_set : {X : Type 0} (cmp : X → X → Ordering) (o : IsTotalOrder cmp) (xs : List X)
@@ -112,16 +112,16 @@ pub IsStrictlySortedBy-ascending_set : {X : Type 0} (cmp : X → X → Ordering)
 unfolding IsStrictlySortedBy ascending_set
 IsStrictlySortedBy-ascending_set cmp o [] = tt
 IsStrictlySortedBy-ascending_set cmp o (x ∷ xs) =
-    IsStrictlySortedBy-placed cmp o x (ascending_set cmp xs) (IsStrictlySortedBy-ascending_set cmp o xs)
+    IsStrictlySortedBy-set_insert cmp o x (ascending_set cmp xs) (IsStrictlySortedBy-ascending_set cmp o xs)
 
 -- The set has the items.
 pub IsIn-ascending_set : {X : Type 0} (cmp : X → X → Ordering) → TellsApart cmp → (z : X) (xs : List X) → IsIn z xs
     → IsIn z (ascending_set cmp xs)
 unfolding ascending_set
 IsIn-ascending_set cmp apart z [] m = m
-IsIn-ascending_set cmp apart z (x ∷ xs) (inl e) = IsIn-placed cmp apart z x (ascending_set cmp xs) (inl e)
+IsIn-ascending_set cmp apart z (x ∷ xs) (inl e) = IsIn-set_insert cmp apart z x (ascending_set cmp xs) (inl e)
 IsIn-ascending_set cmp apart z (x ∷ xs) (inr m) =
-    IsIn-placed cmp apart z x (ascending_set cmp xs) (inr (IsIn-ascending_set cmp apart z xs m))
+    IsIn-set_insert cmp apart z x (ascending_set cmp xs) (inr (IsIn-ascending_set cmp apart z xs m))
 
 -- It has nothing else.
 pub ascending_set-IsIn : {X : Type 0} (cmp : X → X → Ordering) (z : X) (xs : List X) → IsIn z (ascending_set cmp xs)
@@ -129,7 +129,7 @@ pub ascending_set-IsIn : {X : Type 0} (cmp : X → X → Ordering) (z : X) (xs :
 unfolding ascending_set
 ascending_set-IsIn cmp z [] m = m
 ascending_set-IsIn {X} cmp z (x ∷ xs) m =
-    back (ascending_set-IsIn cmp z xs) (placed-IsIn cmp z x (ascending_set cmp xs) m)
+    back (ascending_set-IsIn cmp z xs) (set_insert-IsIn cmp z x (ascending_set cmp xs) m)
   where
     back : (IsIn z (ascending_set cmp xs) → IsIn z xs) → IsIn z (x ∷ ascending_set cmp xs) → IsIn z (x ∷ xs)
     back go (inl e) = inl e

@@ -13,7 +13,7 @@ use Rattle.ntriples.specs.declared.term.Triple.{Triple}
 use Rattle.ntriples.specs.Reading.{◌>>=◌}
 use Rattle.dcat_map.specs.Sets.{least}
 
--- what follows the digits in front, of which there must be one
+-- what follows the leading digits, of which there must be one
 abbrev pub skip_digits : List ℕ → Option (List ℕ)
 skip_digits bs =
     if nat_lt 0 (prefix_len is_ascii_digit bs) then Some (drop (prefix_len is_ascii_digit bs) bs) else None
@@ -45,8 +45,8 @@ unfoldable pub instant_in : List ℕ → List ℕ → List ℕ → Option ℤ
 instant_in date time rest = do
   there ← moment_at date time
   zone ← skip_fraction rest
-  ahead ← offset zone
-  if_moment (there -ℤ ahead)
+  utc_offset ← offset zone
+  if_moment (there -ℤ utc_offset)
 
 -- the moment of a date and what follows it: nothing, for its midnight, or `T` and a time
 unfoldable pub instant_of : List ℕ → List ℕ → Option ℤ
@@ -68,6 +68,6 @@ abbrev pub or_epoch : Option ℤ → ℤ
 or_epoch None = pos 0
 or_epoch (Some moment) = moment
 
--- the latest moment that one of the objects gives: the one that comes behind all others
+-- the latest moment that one of the objects gives: the one that is after all others
 unfoldable pub latest : List Triple → Option ℤ
 latest ts = least (flip_args int_cmp) (filter_map (λ t. moment_of t.object) ts)

@@ -5,15 +5,15 @@ use Rattle.std.specs.Ordering.{match_ordering}
 use Rattle.std.specs.List.{Contains}
 use Rattle.portal_base.specs.Ordered.{ascending}
 
--- x at its place in an ascending list, where it stands at most once
-abbrev pub placed : {X : Type 0} → (X → X → Ordering) → X → List X → List X
-placed cmp x [] = x ∷ []
-placed cmp x (y ∷ ys) = match_ordering (cmp x y) (x ∷ y ∷ ys) (y ∷ ys) (y ∷ placed cmp x ys)
+-- x inserted into an ascending list, in which it is at most once
+abbrev pub set_insert : {X : Type 0} → (X → X → Ordering) → X → List X → List X
+set_insert cmp x [] = x ∷ []
+set_insert cmp x (y ∷ ys) = match_ordering (cmp x y) (x ∷ y ∷ ys) (y ∷ ys) (y ∷ set_insert cmp x ys)
 
 -- the set of the items, as the ascending list of them
 unfoldable pub ascending_set : {X : Type 0} → (X → X → Ordering) → List X → List X
 ascending_set cmp [] = []
-ascending_set cmp (x ∷ xs) = placed cmp x (ascending_set cmp xs)
+ascending_set cmp (x ∷ xs) = set_insert cmp x (ascending_set cmp xs)
 
 -- the lesser of what is there
 abbrev pub lesser_of : {X : Type 0} → (X → X → Ordering) → Option X → Option X → Option X

@@ -1,6 +1,6 @@
 -- The order of terms (RDF 1.1 Concepts, section 3.1) by which one of several literals is picked: without a language
--- first, then the language `en`, then the other languages, then by language, text and datatype. IRIs come behind
--- literals, and blank nodes behind IRIs, each by their bytes.
+-- first, then the language `en`, then the other languages, then by language, text and datatype. IRIs come after
+-- literals, and blank nodes after IRIs, each by their bytes.
 use Rattle.std.specs.Prelude.{ℕ, ◌==◌, if◌then◌else◌, Bool, true, false, ◌&&◌, ◌||◌, List, [], ◌∷◌, Some, None}
 use Rattle.std.specs.declared.cmp.Ordering.{Ordering}
 use Rattle.std.specs.Ordering.{nat_cmp, on, then_cmp, ordering_then}
@@ -60,7 +60,7 @@ unfoldable pub triple_cmp : Triple → Triple → Ordering
 triple_cmp =
     then_cmp (on (λ t. t.subject) term_cmp) (then_cmp (on (λ t. t.predicate) text_cmp) (on (λ t. t.object) term_cmp))
 
--- how a triple stands to those with this subject and this predicate
+-- how a triple compares to those with this subject and this predicate
 unfoldable pub key_cmp : Term → List ℕ → Triple → Ordering
 key_cmp subject predicate t = ordering_then (term_cmp t.subject subject) (text_cmp t.predicate predicate)
 

@@ -29,7 +29,7 @@ dcat_keyword = codes "http://www.w3.org/ns/dcat#keyword"
 abbrev pub dcat_download_url : List ℕ
 dcat_download_url = codes "http://www.w3.org/ns/dcat#downloadURL"
 
--- dcat:accessURL, a place that leads to it
+-- dcat:accessURL, a location that leads to it
 abbrev pub dcat_access_url : List ℕ
 dcat_access_url = codes "http://www.w3.org/ns/dcat#accessURL"
 

@@ -12,7 +12,7 @@ use ntriples::Term;
 use portal_base::calendar::minute_of;
 use portal_base::moment::Moment;
 
-// How many digits there are in front.
+// The count of leading digits.
 fn digit_count(bytes: &[u8]) -> usize
     ensures count { result ≡ prefix_len is_ascii_digit bytes.now }
     ensures within { result ≤ length bytes.now }
@@ -23,7 +23,7 @@ fn digit_count(bytes: &[u8]) -> usize
         .count()
 }
 
-// What follows the digits in front, of which there must be one.
+// What follows the leading digits, of which there must be one.
 fn skip_digits(bytes: &[u8]) -> Option<&[u8]>
     ensures { option_map (λ x. x.now) result ≡ skip_digits bytes.now }
 {
@@ -60,7 +60,7 @@ fn offset_size(bytes: &[u8]) -> Option<i64>
 #[tactic(auto, unfolding(crate::specs::Instants::offset))]
 fn offset(bytes: &[u8]) -> Option<i64>
     ensures value { result ≡ offset bytes.now }
-    ensures small { IfSome result (λ ahead. (neg_ℤ (pos 86400) ≤ℤ ahead) × (ahead ≤ℤ pos 86400)) }
+    ensures small { IfSome result (λ utc_offset. (neg_ℤ (pos 86400) ≤ℤ utc_offset) × (utc_offset ≤ℤ pos 86400)) }
 {
     match bytes {
         [] | [b'Z'] => Some(0),
@@ -73,7 +73,7 @@ fn offset(bytes: &[u8]) -> Option<i64>
     }
 }
 
-// The moment so many seconds after 1970-01-01T00:00:00.
+// The moment this count of seconds after 1970-01-01T00:00:00.
 fn moment_at(seconds: i64) -> Option<Moment>
     ensures { result ≡ if_moment seconds }
 {
@@ -86,11 +86,11 @@ fn instant_in(date: &[u8], time: &[u8], rest: &[u8]) -> Option<Moment>
     ensures { result ≡ instant_in date.now time.now rest.now }
 {
     let there = Moment::at(date, time)?;
-    let ahead = offset(skip_fraction(rest)?)?;
-    moment_at(there.seconds() - ahead)
+    let utc_offset = offset(skip_fraction(rest)?)?;
+    moment_at(there.seconds() - utc_offset)
 }
 
-// What stands before the place, and what stands from it on. Of a shorter text nothing does.
+// The bytes before the position, and those from it on. A shorter text is all before.
 fn cut(bytes: &[u8], place: usize) -> (&[u8], &[u8])
     ensures front { result.0.now ≡ take place bytes.now }
     ensures rest { result.1.now ≡ drop place bytes.now }

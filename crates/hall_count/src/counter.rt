@@ -25,7 +25,7 @@ impl Machine for Counter {
 
     ghost step = { count_step };
 
-    ghost IsWant = { λ _. ⊥ };
+    ghost IsOutOfMemory = { λ _. ⊥ };
 
     ghost IsFault = { λ _. ⊥ };
 

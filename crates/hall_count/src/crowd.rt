@@ -11,7 +11,7 @@ use portal_hall::pass::Pass;
 use std::sync::{Mutex, Wait};
 use std::thread::{Threads, join};
 
-/// Adds 1 so often, in one thread.
+/// Adds 1 `acts` times, in one thread.
 fn act_often<R: Wait>(
     rt: &R,
     hall: &Hall<Counter>,
@@ -34,7 +34,7 @@ fn act_often<R: Wait>(
     pass
 }
 
-/// Adds 1 so often in each of so many threads, each with a pass of its own. All the passes are joined again.
+/// Adds 1 `acts` times in each of `threads` threads, each with a pass of its own, and joins all the passes again.
 #[cycle(in_hall)]
 pub fn act_in_hall<R: Threads + Wait + Sync>(
     rt: &R,
@@ -68,14 +68,14 @@ pub fn act_in_hall<R: Threads + Wait + Sync>(
     one
 }
 
-/// Adds 1 so often, in one thread.
+/// Adds 1 `acts` times, in one thread.
 fn lock_often<R: Wait>(rt: &R, counter: &Mutex<Counter>, acts: u64) {
     for _ in 0..acts {
         let (_, _) = counter.lock(rt).act(&1);
     }
 }
 
-/// Adds 1 so often in each of so many threads, under the lock.
+/// Adds 1 `acts` times in each of `threads` threads, under the lock.
 #[cycle(under_lock)]
 pub fn act_under_lock<R: Threads + Wait + Sync>(
     rt: &R,

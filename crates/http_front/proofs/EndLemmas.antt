@@ -4,7 +4,7 @@ use Rattle.std.proofs.Common.{arith, inl, inr, append-nil, flat_map, All, true, 
 use Rattle.std.proofs.lemmas.List.Elements.{All-cons, All-nil, All-head, All-tail}
 use Rattle.httparse.specs.Grammar.{LineEnd, crlf, lf, print_end, Field, print_field, IsField}
 use Rattle.httparse.specs.Grammar.{is_token_byte, is_value_byte, AllPass}
-use Rattle.http_front.specs.Sight.{IsEnding}
+use Rattle.http_front.specs.HeadParse.{IsEnding}
 
 -- the first of two lists ends within the first of the two others, or beyond it
 abbrev pub Within : List ℕ → List ℕ → List ℕ → List ℕ → Type 0

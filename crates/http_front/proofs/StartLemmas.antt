@@ -21,8 +21,8 @@ use Rattle.httparse.specs.Spans.{name_and_value}
 use Rattle.httparse.proofs.GrammarLemmas.{print_request-append, request_pieces, request_tree, request_unique}
 use Rattle.httparse.proofs.PieceLemmas.{Stops_token, RequestStart_deterministic, Section_skip}
 use Rattle.httparse.proofs.PieceLemmas.{newline_not_stopped, colon_ends_token, token_is_no_newline}
-use Rattle.http_front.specs.Head.{Continues, IsUnfinished, marked, marked_byte}
-use Rattle.http_front.specs.Sight.{IsEnding, EndsInTime, HasNoneOver}
+use Rattle.http_front.specs.Head.{Continues, IsPartial, marked, marked_byte}
+use Rattle.http_front.specs.HeadParse.{IsEnding, EndsInTime, HasNoneOver}
 use Rattle.http_front.proofs.EndLemmas.{field_parts, parted, Closes, close_lines, all_front, all_back}
 
 -- the empty lines and the request line
@@ -46,7 +46,7 @@ print_parts : (h : RequestHead) (rest : List ℕ) → print_request h ++ rest
 print_parts h rest = print_request-append h rest
     ∙ sym (start_append h ((flat_map print_field h.fields ++ print_end h.last) ++ rest))
 
--- the start begins whatever it stands in front of
+-- the start begins the text that it is followed by
 start_piece : (h : RequestHead) (middle : List ℕ) → IsRequestHead h
     → RequestStart (request_tree h).0 (start_of h ++ middle) middle
 start_piece h middle x = (
@@ -167,7 +167,7 @@ continues text small (inl (more, h, reads)) fits =
 
 -- ---- what can't come any more
 
--- a list that is longer than n, at its place n
+-- a list that is longer than n, at index n
 abbrev Cut : ℕ → List Field → Type 0
 Cut n fields = (front : List Field) × (g : Field) × (back : List Field) × (fields ≡ front ++ g ∷ back)
     × (length front ≡ n)
@@ -190,7 +190,7 @@ more_lines : (fs hs : List Field) (c : ℕ) (z rest : List ℕ) (last : LineEnd)
 more_lines fs [] c z rest last n stops s = absurd (newline_not_stopped last rest (c ∷ z) (sym s.1) stops)
 more_lines fs (h ∷ hs) c z rest last n stops s = rw (length-append fs (h ∷ hs)) (omega (arith, n))
 
--- behind 64 field lines the text goes on with something that is no line end
+-- after 64 field lines the text goes on with something that is no line end
 overflows : (text z : List ℕ) (c : ℕ) (h : RequestHead) (fs : List Field) → IsRequestHead h → All IsField fs
     → length fs ≡ 64 → is_newline c ≡ false → text ≡ (start_of h ++ flat_map print_field fs) ++ c ∷ z
     → RequestOverflows 64 text
@@ -276,40 +276,42 @@ line_some f tail valid = omega (
 pub exceeds_overflows : (text ending : List ℕ) → IsEnding ending → RequestExceeds 64 (text ++ ending)
     → RequestOverflows 64 text
 exceeds_overflows text ending is (front, rest, e, h, reads, over) =
-    let cut = cut_at 64 h.fields over in
-    let fs : List Field = cut.0 in
-    let g : Field = cut.1 in
-    let gs : List Field = cut.2 in
-    let valid : All IsField (fs ++ g ∷ gs) = subst (All IsField) cut.3 reads.0.fields in
+    let parts = cut_at 64 h.fields over in
+    let fs : List Field = parts.0 in
+    let g : Field = parts.1 in
+    let gs : List Field = parts.2 in
+    let valid : All IsField (fs ++ g ∷ gs) = subst (All IsField) parts.3 reads.0.fields in
     let own : IsField g = All-head IsField g gs (all_back IsField fs (g ∷ gs) valid) in
-    let place : List ℕ = start_of h ++ flat_map print_field fs in
+    let written : List ℕ = start_of h ++ flat_map print_field fs in
     let tail : List ℕ = flat_map print_field gs ++ print_end h.last in
-    let whole : front ++ 10 ∷ [] ≡ place ++ (print_field g ++ tail) =
+    let whole : front ++ 10 ∷ [] ≡ written ++ (print_field g ++ tail) =
     reads.1 ∙ print_parts h []
-    ∙ ap (λ v. start_of h ++ ((flat_map print_field v ++ print_end h.last) ++ [])) cut.3
+    ∙ ap (λ v. start_of h ++ ((flat_map print_field v ++ print_end h.last) ++ [])) parts.3
     ∙ ap (λ v. start_of h ++ ((v ++ print_end h.last) ++ [])) (lines_append fs (g ∷ gs))
     ∙ regroup (start_of h) (flat_map print_field fs) (print_field g) (flat_map print_field gs) (print_end h.last) in
-    elim (parted front (10 ∷ []) place (print_field g ++ tail) whole) [
+    elim (parted front (10 ∷ []) written (print_field g ++ tail) whole) [
       | inl s ↦ absurd (omega (arith, line_some g tail own, ap length s.2, length-append s.0 (print_field g ++ tail)))
-      | inr l ↦ begun text ending front rest is h fs reads.0 (all_front IsField fs (g ∷ gs) valid) cut.4 l.0 l.1 tail
+      | inr l ↦ field_begun text ending front rest is h fs reads.0 (all_front IsField fs
+          (g ∷ gs) valid) parts.4 l.0 l.1 tail
           (first_token g l.0 (l.1 ++ 10 ∷ []) tail own l.3) (tail_some (flat_map print_field gs) h.last) e l.2
     ]
   where
     regroup : (a b c d e : List ℕ) → a ++ (((b ++ (c ++ d)) ++ e) ++ []) ≡ (a ++ b) ++ (c ++ (d ++ e))
     regroup a b c d e = simp (append_assoc, append-nil)
 
-    begun : (text ending front rest : List ℕ) → IsEnding ending → (h : RequestHead) (fs : List Field) → IsRequestHead h
+    field_begun : (text ending front rest : List ℕ) → IsEnding ending → (h : RequestHead) (fs : List Field)
+        → IsRequestHead h
         → All IsField fs → length fs ≡ 64 → (c : ℕ) (more : List ℕ)
         → (tail : List ℕ) → (is_token_byte c ≡ true) × (length tail + 2 ≤ length (more ++ 10 ∷ [])) → 0 < length tail
         → text ++ ending ≡ front ++ rest → front ≡ (start_of h ++ flat_map print_field fs) ++ c ∷ more
         → RequestOverflows 64 text
-    begun text ending front rest is h fs x valid n c more tail token some e f =
-        let place : List ℕ = start_of h ++ flat_map print_field fs in
-        let whole : text ++ ending ≡ place ++ (c ∷ (more ++ rest)) =
-        e ∙ ap (λ v. v ++ rest) f ∙ append_assoc place (c ∷ more) rest in
+    field_begun text ending front rest is h fs x valid n c more tail token some e f =
+        let written : List ℕ = start_of h ++ flat_map print_field fs in
+        let whole : text ++ ending ≡ written ++ (c ∷ (more ++ rest)) =
+        e ∙ ap (λ v. v ++ rest) f ∙ append_assoc written (c ∷ more) rest in
         let long : 2 ≤ length (more ++ rest) = rw (length-append more rest)
         (omega (arith, token.1, some, length-append more (10 ∷ []))) in
-        elim (parted text ending place (c ∷ (more ++ rest)) whole) [
+        elim (parted text ending written (c ∷ (more ++ rest)) whole) [
           | inl s ↦ absurd (false≢true (sym (ending_bare ending s.0 (more ++ rest) c is s.2 long) ∙ token.0))
           | inr m ↦
               let first : c ≡ m.0 = cc (m.3) in
@@ -324,7 +326,7 @@ pub small_marks : (bytes : List ℕ) → All (λ b. b < 128) (marked bytes)
 small_marks bytes = All-map (λ b. b < 128) marked_byte bytes (λ k d lt. small_mark (get_or bytes k d))
 
 -- what the check of an end says of marked bytes
-pub marks_continue : (bytes : List ℕ) → MayBecomeRequest (marked bytes) → EndsInTime (marked bytes) → IsUnfinished bytes
+pub marks_continue : (bytes : List ℕ) → MayBecomeRequest (marked bytes) → EndsInTime (marked bytes) → IsPartial bytes
 marks_continue bytes may fits = continues (marked bytes) (small_marks bytes) may fits
 
 pub ends_in_time : (text : List ℕ) → HasNoneOver (text ++ codes ":\n\n") → HasNoneOver (text ++ codes "\n\n")
@@ -350,11 +352,11 @@ complete_fits text spans found room (own, at) within head rest reads =
 pub over_named : (text : List ℕ) → RequestExceeds 64 (text ++ codes ":\n\n") → RequestOverflows 64 text
 over_named text x = exceeds_overflows text (codes ":\n\n") (inl refl) x
 
-pub over_bare : (text : List ℕ) → RequestExceeds 64 (text ++ codes "\n\n") → RequestOverflows 64 text
-over_bare text x = exceeds_overflows text (codes "\n\n") (inr refl) x
+pub over_unnamed : (text : List ℕ) → RequestExceeds 64 (text ++ codes "\n\n") → RequestOverflows 64 text
+over_unnamed text x = exceeds_overflows text (codes "\n\n") (inr refl) x
 
-pub over_told : {E : Type 0} (text : List ℕ) (told : Result Bool E)
-    → IfOk told (λ over. over ≡ true → RequestExceeds 64 (text ++ codes "\n\n"))
-    → IfOk told (λ over. over ≡ true → RequestOverflows 64 text)
-over_told text (Ok over) exceeds = λ is. over_bare text (exceeds is)
-over_told text (Err e) exceeds = tt
+pub over_ended : {E : Type 0} (text : List ℕ) (result : Result Bool E)
+    → IfOk result (λ over. over ≡ true → RequestExceeds 64 (text ++ codes "\n\n"))
+    → IfOk result (λ over. over ≡ true → RequestOverflows 64 text)
+over_ended text (Ok over) exceeds = λ is. over_unnamed text (exceeds is)
+over_ended text (Err e) exceeds = tt

@@ -1,4 +1,4 @@
--- What the fetch of a document writes, and what it gives of the bytes that answer it (RFC 9112, sections 3, 4 and 6.3).
+-- The request that a fetch writes, and what it returns for the bytes of the response (RFC 9112, sections 3, 4 and 6.3).
 use Rattle.std.specs.Prelude.{◌≡◌, ℕ, ◌≤◌, ◌⊎◌, Bool, true, false, ◌==◌, nat_lt, List, ◌++◌, length, take, drop, map}
 use Rattle.std.specs.Prelude.{codes, if◌then◌else◌, Option, Some, None, Result, Ok, Err, ⊤}
 use Rattle.portal_base.specs.declared.outside.FetchFault.{FetchFault}
@@ -13,8 +13,8 @@ use Rattle.http_front.specs.declared.fault.FrontFault.{FrontFault}
 use Rattle.http_front.specs.declared.fault.FrontFault.TheVariants.{BadHead, NoLength, TooLong, NoRoute}
 use Rattle.http_front.specs.declared.fault.FrontFault.TheVariants.{Method, EndedEarly, LinkFault, OutOfMemory}
 use Rattle.http_front.specs.declared.reply.Reply.{Reply}
-use Rattle.http_front.specs.declared.reply.ReplySight.{ReplySight}
-use Rattle.http_front.specs.declared.reply.ReplySight.TheVariants.{Whole, Partial, Never}
+use Rattle.http_front.specs.declared.reply.ReplyParse.{ReplyParse}
+use Rattle.http_front.specs.declared.reply.ReplyParse.TheVariants.{Complete, Partial, Invalid}
 
 -- the request: a GET of the target from the host, after which the connection is closed (RFC 9112, sections 3.2 and 9.6)
 unfoldable pub request_bytes : List ℕ → List ℕ → List ℕ
@@ -31,49 +31,50 @@ pub record BeginsReply (bytes : List ℕ) (head : ResponseHead) (rest : List ℕ
 abbrev pub HasNoReply : List ℕ → Type 0
 HasNoReply bytes = (head : ResponseHead) (rest : List ℕ) → ¬ (BeginsReply bytes head rest)
 
--- the body, by the length that the head says, or to the end of input (RFC 9112, section 6.3)
+-- the body, by the length that the head gives, or to the end of input (RFC 9112, section 6.3)
 abbrev pub body_of : ℕ → Option ℕ → List ℕ → Result (List ℕ) FetchFault
 body_of limit None rest = if nat_lt limit (length rest) then Err LongBody else Ok rest
 body_of limit (Some count) rest = if nat_lt limit count then Err LongBody
     else (if nat_lt (length rest) count then Err Missing else Ok (take count rest))
 
--- what a response with this status and these fields gives: its body where the status is 200 (RFC 9110, section 15.3.1)
+-- the result of a fetch for this status and these fields: the body if the status is 200 (RFC 9110, section 15.3.1)
 abbrev pub reply_of : ℕ → ℕ → Pairs → List ℕ → Result (List ℕ) FetchFault
 reply_of limit status fields rest = if status == 200
     then (if has_bad_length fields then Err Missing else body_of limit (length_given fields) rest)
     else Err Missing
 
--- the bytes begin with a head, and this is what the response gives
+-- the bytes begin with a head, and this is the result of the fetch
 pub record IsReply (limit : ℕ) (bytes : List ℕ) (result : Result (List ℕ) FetchFault) : Type 0 where
   pub head : ResponseHead
   pub rest : List ℕ
   pub begins : BeginsReply bytes head rest
   pub gives : result ≡ reply_of limit (status_code head) (map name_and_value head.fields) rest
 
--- what is fetched of all the bytes that answer; nothing, where no head begins them
+-- the result of a fetch for all bytes of the response; `Missing` if no head begins them
 abbrev pub IsFetched : ℕ → List ℕ → Result (List ℕ) FetchFault → Type 0
 IsFetched limit bytes result = IsReply limit bytes result ⊎ (HasNoReply bytes × (result ≡ Err Missing))
 
--- P, unless the fault is one of the outside, which says nothing of the bytes
+-- P, unless the fault is one of the link or of memory, which says nothing of the bytes
 abbrev pub UnlessLost : FetchFault → Type 0 → Type 0
 UnlessLost Failed P = ⊤
 UnlessLost Missing P = P
 UnlessLost LongBody P = P
 UnlessLost NoMemory P = ⊤
 
--- P, unless the link was lost or memory was
-abbrev pub UnlessNothingTold : {T : Type 0} → Result T FetchFault → Type 0 → Type 0
-UnlessNothingTold (Ok body) P = P
-UnlessNothingTold (Err fault) P = UnlessLost fault P
+-- P, unless the link failed or there was no memory
+abbrev pub UnlessUnobserved : {T : Type 0} → Result T FetchFault → Type 0 → Type 0
+UnlessUnobserved (Ok body) P = P
+UnlessUnobserved (Err fault) P = UnlessLost fault P
 
--- P of what is told of the bytes: the body's, or why there is none
-abbrev pub Tells : {T : Type 0} → Result T FetchFault → (T → List ℕ) → (Result (List ℕ) FetchFault → Type 0) → Type 0
-Tells (Ok body) items P = P (Ok (items body))
-Tells (Err fault) items P = UnlessLost fault (P (Err fault))
+-- P of what the bytes determine: the body, or the fault
+abbrev pub ObservesBody : {T : Type 0} → Result T FetchFault → (T → List ℕ) → (Result (List ℕ) FetchFault → Type 0)
+    → Type 0
+ObservesBody (Ok body) items P = P (Ok (items body))
+ObservesBody (Err fault) items P = UnlessLost fault (P (Err fault))
 
 -- ---- inside the crate
 
--- why nothing is fetched, by what hindered reading
+-- the fault of a fetch, by the fault of reading
 abbrev pub fetch_fault : FrontFault → FetchFault
 fetch_fault BadHead = Missing
 fetch_fault NoLength = Missing
@@ -84,13 +85,13 @@ fetch_fault EndedEarly = Missing
 fetch_fault LinkFault = Failed
 fetch_fault OutOfMemory = NoMemory
 
--- P of what was read, as a fetch has it
-abbrev pub TellsRead : {T : Type 0} → Result T FrontFault → (T → List ℕ) → (Result (List ℕ) FetchFault → Type 0)
+-- P of what was read, as the result of a fetch
+abbrev pub ObservesRead : {T : Type 0} → Result T FrontFault → (T → List ℕ) → (Result (List ℕ) FetchFault → Type 0)
     → Type 0
-TellsRead (Ok body) items P = P (Ok (items body))
-TellsRead (Err fault) items P = UnlessOutside fault (P (Err (fetch_fault fault)))
+ObservesRead (Ok body) items P = P (Ok (items body))
+ObservesRead (Err fault) items P = UnlessOutside fault (P (Err (fetch_fault fault)))
 
--- the copy holds what a head at the front of the text has
+-- the copy holds the parts of a head at the front of the text
 pub record IsReplyOf (text : List ℕ) (copy : Reply) : Type 0 where
   pub head : ResponseHead
   pub reads : ReadsResponse text head (drop copy.length text)
@@ -100,13 +101,13 @@ pub record IsReplyOf (text : List ℕ) (copy : Reply) : Type 0 where
   pub within : copy.length ≤ length text
   pub length : copy.length ≡ length (print_response head)
 
-abbrev pub SeesReply : List ℕ → ReplySight → Type 0
-SeesReply text (Whole reply) = IsReplyOf text reply
-SeesReply text Partial = HasNoResponse text
-SeesReply text Never = ResponseOverflows 64 text
+abbrev pub IsReplyParse : List ℕ → ReplyParse → Type 0
+IsReplyParse text (Complete reply) = IsReplyOf text reply
+IsReplyParse text Partial = HasNoResponse text
+IsReplyParse text Invalid = ResponseOverflows 64 text
 
--- what is said of the bytes that are held: a head, or that more are to be read, or that none comes
-abbrev pub LooksReply : List ℕ → Bool → ReplySight → Type 0
-LooksReply held more (Whole reply) = IsReplyOf held reply
-LooksReply held more Partial = (more ≡ true) × (16384 ≤ length held → HasNoResponse held)
-LooksReply held more Never = ResponseOverflows 64 held ⊎ ((more ≡ false) × HasNoResponse held)
+-- the parse of a buffer: a head, or that more bytes are to be read, or that no head comes
+abbrev pub IsReplyParseOfBuffer : List ℕ → Bool → ReplyParse → Type 0
+IsReplyParseOfBuffer buffer more (Complete reply) = IsReplyOf buffer reply
+IsReplyParseOfBuffer buffer more Partial = (more ≡ true) × (16384 ≤ length buffer → HasNoResponse buffer)
+IsReplyParseOfBuffer buffer more Invalid = ResponseOverflows 64 buffer ⊎ ((more ≡ false) × HasNoResponse buffer)

@@ -3,9 +3,10 @@ use Rattle.std.specs.Prelude.{ℕ, ◌≤◌, List, ◌++◌, length, map, nat_l
 use Rattle.httparse.specs.Grammar.{RequestHead, ReadsRequest, print_request}
 use Rattle.httparse.specs.Spans.{name_and_value, RequestOverflows}
 
--- The grammar of heads has a request target in UTF-8 alone, and a target that isn't has to be told from a head that
--- can't be read. So a head's extent is read with each byte past ASCII as `(`, which stands where such a byte may, in a
--- target or a value, and where it may not, in no token.
+-- The grammar of heads admits request targets in UTF-8 only. A head with another target has to be distinguished from
+-- bytes that are no head. So the extent of a head is read with each byte past ASCII replaced by `(`. That byte is
+-- allowed where a byte past ASCII is, in a target or a value, and it isn't allowed in a token, where such a byte isn't
+-- either.
 abbrev pub marked_byte : ℕ → ℕ
 marked_byte b = if nat_lt b 128 then b else 40
 
@@ -28,10 +29,10 @@ abbrev pub HasNoHead : List ℕ → Type 0
 HasNoHead bytes = (head : RequestHead) → ¬ (Begins bytes head)
 
 -- no continuation of the bytes, however long, begins with a head of at most 64 fields
-abbrev pub IsHopeless : List ℕ → Type 0
-IsHopeless bytes = RequestOverflows 64 (marked bytes)
+abbrev pub IsInvalid : List ℕ → Type 0
+IsInvalid bytes = RequestOverflows 64 (marked bytes)
 
--- some continuation of the text begins with a head of at most so many fields
+-- some continuation of the text begins with a head of at most `room` fields
 pub record Continues (room : ℕ) (text : List ℕ) : Type 0 where
   pub more : List ℕ
   pub head : RequestHead
@@ -39,9 +40,9 @@ pub record Continues (room : ℕ) (text : List ℕ) : Type 0 where
   pub reads : ReadsRequest (text ++ more) head rest
   pub few : length head.fields ≤ room
 
--- some continuation of the bytes begins with a head of at most 64 fields: so they aren't hopeless
-abbrev pub IsUnfinished : List ℕ → Type 0
-IsUnfinished bytes = Continues 64 (marked bytes)
+-- some continuation of the bytes begins with a head of at most 64 fields, so they aren't invalid
+abbrev pub IsPartial : List ℕ → Type 0
+IsPartial bytes = Continues 64 (marked bytes)
 
 -- names and values of fields, in order; a value without the white space around it (RFC 9110, section 5.5)
 abbrev pub Pairs : Type 0

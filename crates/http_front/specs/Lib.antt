@@ -1,9 +1,9 @@
+pub mod ActionTarget
 pub mod Fetch
 pub mod Fields
 pub mod Head
+pub mod HeadParse
+pub mod LinkRead
 pub mod Location
-pub mod Reading
 pub mod Request
 pub mod Response
-pub mod Sight
-pub mod Wanted

@@ -1,4 +1,4 @@
--- Which locations are this machine's, and where they lead (URL Standard, sections 3 and 4).
+-- Which locations are this machine's, and their endpoints (URL Standard, sections 3 and 4).
 use Rattle.std.specs.Prelude.{ℕ, Bool, ◌&&◌, ◌||◌, List, [], ◌++◌, length, nat_lt, codes, if◌then◌else◌}
 use Rattle.std.specs.Prelude.{Option, Some, None, unwrap_or, Ok, Err}
 use Rattle.std.specs.Str.{bytes_eq}
@@ -7,14 +7,14 @@ use Rattle.url.specs.Parser.{Parsed, parse_url}
 use Rattle.url.specs.Parts.{Parts, host_or_empty}
 
 -- a host, a port, and a request target
-pub record Place : Type 0 where
+pub record Endpoint : Type 0 where
   pub host : List ℕ
   pub port : ℕ
   pub target : List ℕ
 
--- the three as the code has them
-abbrev pub place_shown : List ℕ × ℕ × List ℕ → Place
-place_shown place = record { host = place.0; port = place.1; target = place.2 }
+-- the endpoint of the code's tuple
+abbrev pub endpoint_of_tuple : List ℕ × ℕ × List ℕ → Endpoint
+endpoint_of_tuple endpoint = record { host = endpoint.0; port = endpoint.1; target = endpoint.2 }
 
 -- the text of the host
 abbrev pub host_of : Parts → List ℕ
@@ -33,24 +33,24 @@ abbrev pub query_part : Option (List ℕ) → List ℕ
 query_part None = []
 query_part (Some query) = codes "?" ++ query
 
--- where the URL leads: `http`'s port is 80
-abbrev pub place_of : Parts → Place
-place_of url = record {
+-- the endpoint of the URL; the port of `http` is 80
+abbrev pub endpoint_of : Parts → Endpoint
+endpoint_of url = record {
   host = host_of url;
   port = unwrap_or url.port 80;
   target = url.path ++ query_part url.query;
 }
 
--- where the URL leads, if it is one of this machine
-abbrev pub place_of_url : Parts → Option Place
-place_of_url url = if is_loopback url then Some (place_of url) else None
+-- the endpoint of the URL, if its host is this machine
+abbrev pub endpoint_of_url : Parts → Option Endpoint
+endpoint_of_url url = if is_loopback url then Some (endpoint_of url) else None
 
--- the same of what the URL Standard's parser gives
-abbrev pub place_of_parsed : Parsed Parts → Option Place
-place_of_parsed (Ok url) = place_of_url url
-place_of_parsed (Err e) = None
+-- the same for the result of the URL Standard's parser
+abbrev pub endpoint_of_parsed : Parsed Parts → Option Endpoint
+endpoint_of_parsed (Ok url) = endpoint_of_url url
+endpoint_of_parsed (Err e) = None
 
--- where the location leads, if it has at most 65,536 bytes and is a URL of this machine
-abbrev pub loopback_place : List ℕ → Option Place
-loopback_place location =
-    if nat_lt 65536 (length location) then None else place_of_parsed (parse_url None location)
+-- the endpoint of the location, if it has at most 65,536 bytes and is a URL of this machine
+abbrev pub loopback_endpoint : List ℕ → Option Endpoint
+loopback_endpoint location =
+    if nat_lt 65536 (length location) then None else endpoint_of_parsed (parse_url None location)

@@ -3,7 +3,7 @@
 use Rattle.std.specs.Prelude.{ℕ, List, [], ◌++◌, length, decimal, codes, unwrap_or}
 use Rattle.http.specs.StatusCode.{reason_phrase}
 
--- the phrase that stands beside the status (RFC 9110, section 15)
+-- the reason phrase of the status (RFC 9110, section 15)
 abbrev pub phrase_of : ℕ → List ℕ
 phrase_of status = unwrap_or (reason_phrase status) []
 

@@ -2,7 +2,7 @@
 use portal_base::outside::Failed;
 use std::alloc::AllocError;
 
-/// Why nothing was received, in the words of the definitions.
+/// Why no request was received.
 #[derive(Clone, Copy, Debug, PartialEq, Eq)]
 pub enum FrontFault {
     /// No head of a request can be read, or a Content-Length in it isn't one number.

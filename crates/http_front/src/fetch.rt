@@ -2,9 +2,9 @@
 ghost use Rattle.std.specs.Prelude.{◌≡◌, ◌≤◌, ◌<◌, ◌++◌, ◌⊎◌, List, ℕ, Ok, Err, length, OnOk, OnErr, IfOk, IfErr};
 ghost use Rattle.std.specs.Prelude.{IfSome, IsErrOf};
 ghost use Rattle.portal_base.specs.Outside.{Gives, Takes, TakesPrefix, Rose};
-ghost use Rattle.http_front.specs.Reading.{IsOutside};
+ghost use Rattle.http_front.specs.LinkRead.{IsOutside};
 ghost use Rattle.http_front.specs.Fetch.{request_bytes, body_of, reply_of, fetch_fault, IsReplyOf, IsFetched};
-ghost use Rattle.http_front.specs.Fetch.{Tells, TellsRead, UnlessNothingTold};
+ghost use Rattle.http_front.specs.Fetch.{ObservesBody, ObservesRead, UnlessUnobserved};
 
 use crate::fault::FrontFault;
 use crate::fields::{has_bad_length, length_given};
@@ -19,7 +19,7 @@ const BEFORE_HOST: &[u8] = b" HTTP/1.1\r\nHost: ";
 const AFTER_HOST: &[u8] = b"\r\nConnection: close\r\n\r\n";
 
 // Writes the request. It takes no memory.
-fn ask<K: Link>(link: &mut K, host: &[u8], target: &[u8]) -> Result<(), Failed>
+fn write_request<K: Link>(link: &mut K, host: &[u8], target: &[u8]) -> Result<(), Failed>
     ensures ok { OnOk result
         (Takes (K.taken link.old) (request_bytes host.now target.now) (K.taken link.new)) }
     ensures failed { OnErr result
@@ -31,19 +31,19 @@ fn ask<K: Link>(link: &mut K, host: &[u8], target: &[u8]) -> Result<(), Failed>
     write_five(link, b"GET ", target, BEFORE_HOST, host, AFTER_HOST)
 }
 
-// Reads behind the bytes that are held to the end, or until they are more than the limit.
-fn drain<K: Link>(link: &mut K, limit: usize, held: &mut Vec<u8>) -> Result<(), FrontFault>
-    ensures all { OnOk result (IfSome (K.to_come link.old) (λ bytes. held.new.items ≡ held.old.items ++ bytes)) }
-    ensures within { OnOk result (length held.new.items ≤ limit) }
+// Reads into the buffer to the end of input, or until the buffer has more than `limit` bytes.
+fn drain<K: Link>(link: &mut K, limit: usize, buffer: &mut Vec<u8>) -> Result<(), FrontFault>
+    ensures all { OnOk result (IfSome (K.to_come link.old) (λ bytes. buffer.new.items ≡ buffer.old.items ++ bytes)) }
+    ensures within { OnOk result (length buffer.new.items ≤ limit) }
     ensures long { result ≡ Err FrontFault.TooLong → IfSome (K.to_come link.old)
-        (λ bytes. limit < length (held.old.items ++ bytes)) }
+        (λ bytes. limit < length (buffer.old.items ++ bytes)) }
     ensures fault { IfErr result (λ fault. (fault ≡ FrontFault.TooLong) ⊎ IsOutside fault) }
     ensures taken { K.taken link.new ≡ K.taken link.old }
     ensures failed { result ≡ Err FrontFault.LinkFault → Rose (K.faults link.old) (K.faults link.new) }
     ensures counts { K.faults link.old ≤ K.faults link.new }
 {
-    while held.len() <= limit {
-        let more = read_more(link, PIECE, held)?;
+    while buffer.len() <= limit {
+        let more = read_more(link, PIECE, buffer)?;
         if !more {
             return Ok(());
         }
@@ -51,61 +51,61 @@ fn drain<K: Link>(link: &mut K, limit: usize, held: &mut Vec<u8>) -> Result<(), 
     Err(FrontFault::TooLong)
 }
 
-// The body behind a head, to the end of input, of which these bytes came already.
+// Reads the body after a head, to the end of input. The received bytes of it came with the head.
 fn read_to_end<K: Link>(
     alloc: Global,
     link: &mut K,
-    begun: &[u8],
+    received: &[u8],
     limit: usize,
 ) -> Result<Vec<u8>, FrontFault>
-    ensures all { IfOk result (λ body. IfSome (K.to_come link.old) (λ bytes. body.items ≡ begun.now ++ bytes)) }
+    ensures all { IfOk result (λ body. IfSome (K.to_come link.old) (λ bytes. body.items ≡ received.now ++ bytes)) }
     ensures within { IfOk result (λ body. length body.items ≤ limit) }
     ensures long { result ≡ Err FrontFault.TooLong → IfSome (K.to_come link.old)
-        (λ bytes. limit < length (begun.now ++ bytes)) }
+        (λ bytes. limit < length (received.now ++ bytes)) }
     ensures fault { IfErr result (λ fault. (fault ≡ FrontFault.TooLong) ⊎ IsOutside fault) }
     ensures taken { K.taken link.new ≡ K.taken link.old }
     ensures failed { result ≡ Err FrontFault.LinkFault → Rose (K.faults link.old) (K.faults link.new) }
     ensures counts { K.faults link.old ≤ K.faults link.new }
 {
-    let mut body = Vec::from_slice(alloc, begun)?;
+    let mut body = Vec::from_slice(alloc, received)?;
     drain(link, limit, &mut body)?;
     Ok(body)
 }
 
-// The body behind a head that says its length, or says none.
+// Reads the body after a head that gives its length, or gives none.
 fn body_of<K: Link>(
     alloc: Global,
     link: &mut K,
-    said: Option<u64>,
-    begun: &[u8],
+    given: Option<u64>,
+    received: &[u8],
     limit: usize,
 ) -> Result<Vec<u8>, FrontFault>
-    ensures gives { IfSome (K.to_come link.old) (λ bytes. TellsRead result (λ body. body.items)
-        (λ told. told ≡ body_of limit said (begun.now ++ bytes))) }
+    ensures gives { IfSome (K.to_come link.old) (λ bytes. ObservesRead result (λ body. body.items)
+        (λ observed. observed ≡ body_of limit given (received.now ++ bytes))) }
     ensures within { IfOk result (λ body. length body.items ≤ limit) }
     ensures taken { K.taken link.new ≡ K.taken link.old }
     ensures failed { result ≡ Err FrontFault.LinkFault → Rose (K.faults link.old) (K.faults link.new) }
     ensures counts { K.faults link.old ≤ K.faults link.new }
 {
-    let Some(count) = said else {
-        return read_to_end(alloc, link, begun, limit);
+    let Some(count) = given else {
+        return read_to_end(alloc, link, received, limit);
     };
     if count > limit as u64 {
         return Err(FrontFault::TooLong);
     }
-    read_body(alloc, link, begun, count as usize)
+    read_body(alloc, link, received, count as usize)
 }
 
-// What the response gives whose head begins the bytes that are held.
+// Reads the body of the response with this head, if its status is 200.
 fn reply_of<K: Link>(
     alloc: Global,
     link: &mut K,
     reply: &Reply,
-    begun: &[u8],
+    received: &[u8],
     limit: usize,
 ) -> Result<Vec<u8>, FrontFault>
-    ensures gives { IfSome (K.to_come link.old) (λ bytes. TellsRead result (λ body. body.items)
-        (λ told. told ≡ reply_of limit reply.now.status reply.now.fields (begun.now ++ bytes))) }
+    ensures gives { IfSome (K.to_come link.old) (λ bytes. ObservesRead result (λ body. body.items)
+        (λ observed. observed ≡ reply_of limit reply.now.status reply.now.fields (received.now ++ bytes))) }
     ensures within { IfOk result (λ body. length body.items ≤ limit) }
     ensures taken { K.taken link.new ≡ K.taken link.old }
     ensures failed { result ≡ Err FrontFault.LinkFault → Rose (K.faults link.old) (K.faults link.new) }
@@ -115,21 +115,21 @@ fn reply_of<K: Link>(
     if reply.status != 200 || has_bad_length(fields) {
         return Err(FrontFault::BadHead);
     }
-    body_of(alloc, link, length_given(fields), begun, limit)
+    body_of(alloc, link, length_given(fields), received, limit)
 }
 
-// What is fetched of the bytes that answer.
-fn fetched<K: Link>(alloc: Global, link: &mut K, limit: usize) -> Result<Vec<u8>, FrontFault>
-    ensures gives { IfSome (K.to_come link.old) (λ bytes. TellsRead result (λ body. body.items)
+// Reads the response, and returns its body.
+fn read_response<K: Link>(alloc: Global, link: &mut K, limit: usize) -> Result<Vec<u8>, FrontFault>
+    ensures gives { IfSome (K.to_come link.old) (λ bytes. ObservesRead result (λ body. body.items)
         (IsFetched limit bytes)) }
     ensures within { IfOk result (λ body. length body.items ≤ limit) }
     ensures taken { K.taken link.new ≡ K.taken link.old }
     ensures failed { result ≡ Err FrontFault.LinkFault → Rose (K.faults link.old) (K.faults link.new) }
     ensures counts { K.faults link.old ≤ K.faults link.new }
 {
-    let mut held = Vec::new(alloc);
-    match read_reply(alloc, link, &mut held) {
-        Ok(Some(reply)) => reply_of(alloc, link, &reply, &held[reply.length..], limit),
+    let mut buffer = Vec::new(alloc);
+    match read_reply(alloc, link, &mut buffer) {
+        Ok(Some(reply)) => reply_of(alloc, link, &reply, &buffer[reply.length..], limit),
         Ok(None) => Err(FrontFault::BadHead),
         Err(fault) => Err(fault),
     }
@@ -146,9 +146,10 @@ fn fault_of(fault: FrontFault) -> FetchFault
     }
 }
 
-/// Asks the host at the other end of the link for the target, and gives the body of its response, where that has at
-/// most `limit` bytes. `Missing` says that the status isn't 200, that no head can be read, or that the input ended too
-/// early; `TooLong` that the body is longer. The link's bytes to come are those of the response.
+/// Asks the host at the other end of the link for the target (RFC 9110, section 9.3.1), and returns the body of its
+/// response, which has at most `limit` bytes. The fault is `Missing` if the status isn't 200, if no head can be read,
+/// or if the input ends too early. It is `TooLong` if the body is longer. The link's bytes to come are those of the
+/// response.
 pub fn get_over<K: Link>(
     alloc: Global,
     link: &mut K,
@@ -156,17 +157,17 @@ pub fn get_over<K: Link>(
     target: &str,
     limit: usize,
 ) -> Result<Vec<u8>, FetchFault>
-    ensures gives { IfSome (K.to_come link.old) (λ bytes. Tells result (λ body. body.items)
+    ensures gives { IfSome (K.to_come link.old) (λ bytes. ObservesBody result (λ body. body.items)
         (IsFetched limit bytes)) }
     ensures within { IfOk result (λ body. length body.items ≤ limit) }
-    ensures asked { UnlessNothingTold result
+    ensures requested { UnlessUnobserved result
         (Takes (K.taken link.old) (request_bytes host.now target.now) (K.taken link.new)) }
     ensures taken { TakesPrefix (K.taken link.old) (request_bytes host.now target.now) (K.taken link.new) }
     ensures failed { IsErrOf result FetchFault.Failed → Rose (K.faults link.old) (K.faults link.new) }
     ensures counts { K.faults link.old ≤ K.faults link.new }
 {
-    match ask(link, host.as_bytes(), target.as_bytes()) {
-        Ok(()) => match fetched(alloc, link, limit) {
+    match write_request(link, host.as_bytes(), target.as_bytes()) {
+        Ok(()) => match read_response(alloc, link, limit) {
             Ok(body) => Ok(body),
             Err(fault) => Err(fault_of(fault)),
         },

@@ -1,11 +1,11 @@
-//! What a head's fields say.
+//! The fields of a head: Content-Length, Transfer-Encoding and Authorization.
 ghost use Rattle.std.specs.Prelude.{◌≡◌, if◌then◌else◌, Option, Some, None, IfOk};
 ghost use Rattle.std.specs.Option.{option_copied};
 ghost use Rattle.std.specs.Char.{is_ascii_digit};
 ghost use Rattle.std.specs.List.{list_all};
 ghost use Rattle.std.specs.Str.{is_utf8};
 ghost use Rattle.portal_base.specs.Kinds.{is_digits, digits_spelled};
-ghost use Rattle.http_front.specs.Fields.{is_named, first_named, has_named, is_one_number, agrees, length_text};
+ghost use Rattle.http_front.specs.Fields.{is_named, first_named, has_named, is_same_number, agrees, length_text};
 ghost use Rattle.http_front.specs.Fields.{has_bad_length, length_given, token_of};
 
 use crate::head::Field;
@@ -39,7 +39,7 @@ pub fn has_named(name: &str, fields: &[Field]) -> bool
     fields.iter().any(|field| is_named(name, field))
 }
 
-fn has_digits_alone(bytes: &[u8]) -> bool
+fn has_only_digits(bytes: &[u8]) -> bool
     ensures { result ≡ list_all is_ascii_digit bytes.now }
 {
     bytes.iter().all(|byte| byte.is_ascii_digit())
@@ -49,7 +49,7 @@ fn has_digits_alone(bytes: &[u8]) -> bool
 fn is_digits(text: &str) -> bool
     ensures { result ≡ is_digits text.now }
 {
-    !text.is_empty() && text.len() <= MOST_DIGITS && has_digits_alone(text.as_bytes())
+    !text.is_empty() && text.len() <= MOST_DIGITS && has_only_digits(text.as_bytes())
 }
 
 // The number that 1 to 18 digits spell.
@@ -72,8 +72,8 @@ fn length_in(value: &[u8]) -> Option<u64>
     }
 }
 
-fn is_one_number(first: Option<u64>, second: Option<u64>) -> bool
-    ensures { result ≡ is_one_number first second }
+fn is_same_number(first: Option<u64>, second: Option<u64>) -> bool
+    ensures { result ≡ is_same_number first second }
 {
     match (first, second) {
         (Some(first), Some(second)) => first == second,
@@ -84,7 +84,7 @@ fn is_one_number(first: Option<u64>, second: Option<u64>) -> bool
 fn agrees(first: &[u8], field: &Field) -> bool
     ensures { result ≡ agrees first.now field.now }
 {
-    !is_named(LENGTH, field) || is_one_number(length_in(first), length_in(field.1.as_slice()))
+    !is_named(LENGTH, field) || is_same_number(length_in(first), length_in(field.1.as_slice()))
 }
 
 fn length_text(fields: &[Field]) -> Option<&[u8]>
@@ -109,7 +109,7 @@ pub fn has_bad_length(fields: &[Field]) -> bool
     }
 }
 
-/// How long the body is, where that is said.
+/// The length of the body, if a Content-Length gives it.
 pub fn length_given(fields: &[Field]) -> Option<u64>
     ensures { result ≡ length_given fields.now }
 {
@@ -119,7 +119,7 @@ pub fn length_given(fields: &[Field]) -> Option<u64>
     }
 }
 
-/// The whole value of the first Authorization, where it is a text.
+/// The value of the first Authorization, if it is UTF-8.
 pub fn token_of(alloc: Global, fields: &[Field]) -> Result<Option<Text>, AllocError>
     ensures { IfOk result (λ token. token ≡ token_of fields.now) }
 {

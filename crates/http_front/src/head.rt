@@ -2,7 +2,7 @@
 ghost use Rattle.std.specs.Prelude.{◌≡◌, ◌≤◌, ◌++◌, ℕ, length, map, take, true, false, All, IfOk};
 ghost use Rattle.httparse.specs.Spans.{IsRequestWithin, IsHeaderWithin, header_bytes, span_bytes};
 ghost use Rattle.httparse.specs.Spans.{RequestExceeds, RequestOverflows};
-ghost use Rattle.http_front.specs.Sight.{Sees, HasNoneOver, EndsInTime};
+ghost use Rattle.http_front.specs.HeadParse.{IsHeadParse, HasNoneOver, EndsInTime};
 
 use httparse::spans::{EMPTY_HEADER_SPAN, HeaderSpan, RequestSpans, parse_request};
 use httparse::{Error, Status};
@@ -21,18 +21,18 @@ pub struct Head {
     pub length: usize,
 }
 
-/// What is seen of a text: a whole head, the beginning of one, or neither.
+/// What a parse says of a text: it begins with a complete head, it may be the beginning of one, or it is neither.
 #[derive(Drop)]
-pub enum Sight {
-    Whole(Head),
+pub enum HeadParse {
+    Complete(Head),
     Partial,
-    Never,
+    Invalid,
 }
 
 /// The most fields of a head.
 pub const MOST_FIELDS: usize = 64;
 
-// Whether the text has more field lines at its front than a head may have.
+// Whether the text begins with more field lines than a head may have.
 fn exceeds(text: &[u8]) -> bool
     ensures over { result ≡ true → RequestExceeds 64 text.now }
     ensures fits { result ≡ false → HasNoneOver text.now }
@@ -56,7 +56,8 @@ fn exceeds_with(alloc: Global, text: &[u8], ending: &[u8]) -> Result<bool, Alloc
     Ok(exceeds(whole.as_slice()))
 }
 
-/// Whether the text has begun one field line more than a head may have: it has where an end of that line makes it one.
+/// Whether the text has begun one field line more than a head may have. It has if an end of that line completes such a
+/// head.
 #[tactic(auto, using(crate::proofs::StartLemmas::ends_in_time))]
 pub fn is_over(alloc: Global, text: &[u8]) -> Result<bool, AllocError>
     ensures over { IfOk result (λ over. over ≡ true → RequestOverflows 64 text.now) }
@@ -68,22 +69,22 @@ pub fn is_over(alloc: Global, text: &[u8]) -> Result<bool, AllocError>
     exceeds_with(alloc, text, b"\n\n")
 }
 
-/// What is seen of the text.
-pub fn sight_of(alloc: Global, text: &[u8]) -> Result<Sight, AllocError>
-    ensures { IfOk result (λ sight. Sees text.now sight) }
+/// Parses the head at the front of the text.
+pub fn parse_head(alloc: Global, text: &[u8]) -> Result<HeadParse, AllocError>
+    ensures { IfOk result (λ parse. IsHeadParse text.now parse) }
 {
     let mut spans = [EMPTY_HEADER_SPAN; MOST_FIELDS];
     match parse_request(text, &mut spans) {
         Ok(Status::Complete(request)) => {
             let head = copy_of(alloc, text, &spans, request)?;
-            Ok(Sight::Whole(head))
+            Ok(HeadParse::Complete(head))
         }
-        Ok(Status::Partial) => Ok(Sight::Partial),
-        Err(_) => Ok(Sight::Never),
+        Ok(Status::Partial) => Ok(HeadParse::Partial),
+        Err(_) => Ok(HeadParse::Invalid),
     }
 }
 
-// A copy of the head that the spans are of.
+// Copies the head that the spans describe.
 fn copy_of(
     alloc: Global,
     text: &[u8],
@@ -108,7 +109,7 @@ fn copy_of(
     })
 }
 
-/// The fields that the spans are of.
+/// Copies the fields that the spans describe.
 pub fn fields_at(alloc: Global, text: &[u8], spans: &[HeaderSpan]) -> Result<Vec<Field>, AllocError>
     requires within { (end : ℕ) × (end ≤ length text.now) × All (IsHeaderWithin end) spans.now }
     ensures { IfOk result (λ fields. fields.items ≡ map (header_bytes text.now) spans.now) }

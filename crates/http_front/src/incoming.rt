@@ -1,4 +1,4 @@
-//! What a connection asks.
+//! The request of a connection.
 use portal_base::seq::Seq;
 use portal_base::text::Text;
 

@@ -6,15 +6,16 @@ ghost use Rattle.http_front.specs.Request.{AnswersBy, IsReceived};
 ghost use Rattle.http_front.specs.declared.fault.FrontFault.{FrontFault};
 ghost use Rattle.http_front.specs.declared.incoming.Incoming.{Incoming};
 
-/// The bytes of a connection settle what is received of them, by what `reading` says of each action's name. So bytes that
-/// end before a head does are a bad head or ended too early, and never either.
-pub fn what_is_received_is_settled()
+/// The bytes of a connection determine what is received of them, given what `reading` answers for each action's name.
+/// So if the bytes end before a head does, the fault is either `BadHead` or `EndedEarly`, and the bytes determine
+/// which.
+pub fn received_is_determined()
     ensures { (reading : List ℕ → Option Bool) (bytes : List ℕ) (one two : Result Incoming FrontFault) →
         IsReceived (AnswersBy reading) bytes one → IsReceived (AnswersBy reading) bytes two → one ≡ two }
 {}
 
-/// The bytes of a response settle what is fetched of them.
-pub fn what_is_fetched_is_settled()
+/// The bytes of a response determine what is fetched of them.
+pub fn fetched_is_determined()
     ensures { (limit : ℕ) (bytes : List ℕ) (one two : Result (List ℕ) FetchFault) →
         IsFetched limit bytes one → IsFetched limit bytes two → one ≡ two }
 {}

@@ -2,6 +2,7 @@
 //! locations that are this machine's.
 #![tactic(auto)]
 
+pub mod action_target;
 pub mod fault;
 pub mod fetch;
 pub mod fields;
@@ -13,5 +14,4 @@ pub mod reading;
 pub mod receive;
 pub mod reply;
 pub mod response;
-pub mod wanted;
 pub mod write;

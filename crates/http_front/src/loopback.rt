@@ -1,7 +1,7 @@
 //! Locations that are this machine's.
 ghost use Rattle.std.specs.Prelude.{◌≡◌, ◌++◌, IfOk, option_map};
-ghost use Rattle.http_front.specs.Location.{loopback_place, is_loopback, is_own_host, host_of, query_part};
-ghost use Rattle.http_front.specs.Location.{place_of_url, place_shown};
+ghost use Rattle.http_front.specs.Location.{loopback_endpoint, is_loopback, is_own_host, host_of, query_part};
+ghost use Rattle.http_front.specs.Location.{endpoint_of_url, endpoint_of_tuple};
 
 use portal_base::text::Text;
 use std::alloc::{AllocError, Global};
@@ -9,16 +9,16 @@ use url::{ParseError, Url};
 
 const LONGEST: usize = 65536;
 
-/// The host, the port and the request target of a location, which is none unless the location has at most 65,536 bytes
-/// and is an `http` URL whose host is 127.0.0.1 or localhost.
+/// The host, the port and the request target of a location (URL Standard, section 4). It is none unless the location
+/// has at most 65,536 bytes and is an `http` URL whose host is 127.0.0.1 or localhost.
 pub fn loopback(alloc: Global, location: &str) -> Result<Option<(Text, u16, Text)>, AllocError>
-    ensures { IfOk result (λ place. option_map place_shown place ≡ loopback_place location.now) }
+    ensures { IfOk result (λ endpoint. option_map endpoint_of_tuple endpoint ≡ loopback_endpoint location.now) }
 {
     if location.len() > LONGEST {
         return Ok(None);
     }
     match Url::parse(alloc, location) {
-        Ok(url) => place_of(alloc, &url),
+        Ok(url) => endpoint_of(alloc, &url),
         Err(ParseError::OutOfMemory | ParseError::Overflow) => Err(AllocError),
         Err(_) => Ok(None),
     }
@@ -55,8 +55,8 @@ fn target_of(alloc: Global, url: &Url) -> Result<Text, AllocError>
     Ok(Text::from(target))
 }
 
-fn place_of(alloc: Global, url: &Url) -> Result<Option<(Text, u16, Text)>, AllocError>
-    ensures { IfOk result (λ place. option_map place_shown place ≡ place_of_url url.now) }
+fn endpoint_of(alloc: Global, url: &Url) -> Result<Option<(Text, u16, Text)>, AllocError>
+    ensures { IfOk result (λ endpoint. option_map endpoint_of_tuple endpoint ≡ endpoint_of_url url.now) }
 {
     if !is_loopback(url) {
         return Ok(None);

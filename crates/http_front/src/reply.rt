@@ -2,8 +2,8 @@
 ghost use Rattle.std.specs.Prelude.{◌≡◌, ◌≤◌, ◌≢◌, [], map, take, IfOk, IfErr, IfSome, OnOk, IsNone, Err};
 ghost use Rattle.httparse.specs.Spans.{IsResponseWithin, header_bytes};
 ghost use Rattle.portal_base.specs.Outside.{Gives, Rose};
-ghost use Rattle.http_front.specs.Reading.{IsOutside};
-ghost use Rattle.http_front.specs.Fetch.{SeesReply, LooksReply, IsReplyOf, HasNoReply};
+ghost use Rattle.http_front.specs.LinkRead.{IsOutside};
+ghost use Rattle.http_front.specs.Fetch.{IsReplyParse, IsReplyParseOfBuffer, IsReplyOf, HasNoReply};
 
 use crate::fault::FrontFault;
 use crate::head::{Field, MOST_FIELDS, fields_at};
@@ -22,30 +22,30 @@ pub struct Reply {
     pub length: usize,
 }
 
-/// What is seen of a text: a whole head, perhaps the beginning of one, or neither.
+/// What a parse says of a text: it begins with a complete head, it may be the beginning of one, or it is neither.
 #[derive(Drop)]
-pub enum ReplySight {
-    Whole(Reply),
+pub enum ReplyParse {
+    Complete(Reply),
     Partial,
-    Never,
+    Invalid,
 }
 
-// What is seen of the text.
-fn sight_of(alloc: Global, text: &[u8]) -> Result<ReplySight, AllocError>
-    ensures { IfOk result (λ sight. SeesReply text.now sight) }
+// Parses the head at the front of the text.
+fn parse_reply(alloc: Global, text: &[u8]) -> Result<ReplyParse, AllocError>
+    ensures { IfOk result (λ parse. IsReplyParse text.now parse) }
 {
     let mut spans = [EMPTY_HEADER_SPAN; MOST_FIELDS];
     match parse_response(text, &mut spans) {
         Ok(Status::Complete(found)) => {
             let reply = copy_of(alloc, text, &spans, found)?;
-            Ok(ReplySight::Whole(reply))
+            Ok(ReplyParse::Complete(reply))
         }
-        Ok(Status::Partial) => Ok(ReplySight::Partial),
-        Err(_) => Ok(ReplySight::Never),
+        Ok(Status::Partial) => Ok(ReplyParse::Partial),
+        Err(_) => Ok(ReplyParse::Invalid),
     }
 }
 
-// A copy of the head that the spans are of.
+// Copies the head that the spans describe.
 fn copy_of(
     alloc: Global,
     text: &[u8],
@@ -66,42 +66,47 @@ fn copy_of(
     })
 }
 
-// What is said of the bytes that are held, of which those behind `before` are new, or none are to come.
-fn look(alloc: Global, held: &[u8], before: usize, more: bool) -> Result<ReplySight, AllocError>
-    ensures { IfOk result (LooksReply held.now more) }
+// Parses the buffer, whose bytes from `before` on are new. If `more` is false, no bytes come after the buffer.
+fn parse_buffer(
+    alloc: Global,
+    buffer: &[u8],
+    before: usize,
+    more: bool,
+) -> Result<ReplyParse, AllocError>
+    ensures { IfOk result (IsReplyParseOfBuffer buffer.now more) }
 {
-    if more && !is_due(held, before) {
-        return Ok(ReplySight::Partial);
+    if more && !is_due(buffer, before) {
+        return Ok(ReplyParse::Partial);
     }
-    match sight_of(alloc, held)? {
-        ReplySight::Partial if !more => Ok(ReplySight::Never),
-        sight => Ok(sight),
+    match parse_reply(alloc, buffer)? {
+        ReplyParse::Partial if !more => Ok(ReplyParse::Invalid),
+        parse => Ok(parse),
     }
 }
 
-/// Reads until a head begins the bytes that are held, and gives a copy of it; or nothing, where none comes.
+/// Reads into the buffer until it begins with a head, and returns a copy of the head, or none if no head comes.
 pub fn read_reply<K: Link>(
     alloc: Global,
     link: &mut K,
-    held: &mut Vec<u8>,
+    buffer: &mut Vec<u8>,
 ) -> Result<Option<Reply>, FrontFault>
-    requires empty { held.old.items ≡ [] }
-    ensures found { IfOk result (λ reply. IfSome reply (IsReplyOf held.new.items)) }
+    requires empty { buffer.old.items ≡ [] }
+    ensures found { IfOk result (λ reply. IfSome reply (IsReplyOf buffer.new.items)) }
     ensures short { IfOk result (λ reply. IfSome reply (λ r. r.length ≤ 16384)) }
-    ensures gives { OnOk result (Gives (K.to_come link.old) held.new.items (K.to_come link.new)) }
+    ensures gives { OnOk result (Gives (K.to_come link.old) buffer.new.items (K.to_come link.new)) }
     ensures none { IfOk result (λ reply. IsNone reply → IfSome (K.to_come link.old) HasNoReply) }
     ensures fault { IfErr result IsOutside }
     ensures taken { K.taken link.new ≡ K.taken link.old }
     ensures failed { result ≡ Err FrontFault.LinkFault → Rose (K.faults link.old) (K.faults link.new) }
     ensures counts { K.faults link.old ≤ K.faults link.new }
 {
-    while held.len() < LONGEST_HEAD {
-        let before = held.len();
-        let more = read_more(link, LONGEST_HEAD - before, held)?;
-        match look(alloc, held.as_slice(), before, more) {
-            Ok(ReplySight::Whole(reply)) => return Ok(Some(reply)),
-            Ok(ReplySight::Partial) => {}
-            Ok(ReplySight::Never) => return Ok(None),
+    while buffer.len() < LONGEST_HEAD {
+        let before = buffer.len();
+        let more = read_more(link, LONGEST_HEAD - before, buffer)?;
+        match parse_buffer(alloc, buffer.as_slice(), before, more) {
+            Ok(ReplyParse::Complete(reply)) => return Ok(Some(reply)),
+            Ok(ReplyParse::Partial) => {}
+            Ok(ReplyParse::Invalid) => return Ok(None),
             Err(_) => return Err(FrontFault::OutOfMemory),
         }
     }

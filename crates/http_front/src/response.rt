@@ -14,7 +14,7 @@ const BEFORE_LENGTH: &[u8] =
 
 const AFTER_LENGTH: &[u8] = b"\r\nConnection: close\r\n\r\n";
 
-// The phrase that stands beside the status.
+// The reason phrase of the status (RFC 9110, section 15).
 #[tactic(auto, using(crate::proofs::PhraseLemmas::has_three_digits))]
 fn phrase_of(status: u16) -> &'static str
     requires phrase { IsSome (reason_phrase status) }
@@ -27,7 +27,7 @@ fn phrase_of(status: u16) -> &'static str
 }
 
 /// Writes the response of this status with this body, which is JSON. It takes no memory. After a fault the link has
-/// taken some bytes from the response's front.
+/// taken a prefix of the response.
 #[tactic(auto, using(crate::proofs::PieceLemmas::takes_first, crate::proofs::PieceLemmas::takes_second, crate::proofs::PieceLemmas::takes_both))]
 pub fn send<K: Link>(link: &mut K, status: u16, body: &[u8]) -> Result<(), Failed>
     requires phrase { IsSome (reason_phrase status) }

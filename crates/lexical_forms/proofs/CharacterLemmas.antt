@@ -9,7 +9,7 @@ use Rattle.std.proofs.lemmas.Str.{chars-nil, encodes-append, chars_from_encodes}
 pub chars-none : (bs : List ℕ) → length bs ≡ 0 → chars bs ≡ []
 chars-none bs h = ap chars (nil_from_length bs h) ∙ chars-nil
 
--- What holds holds also where there is nothing.
+-- A true statement holds also of an option that is none.
 pub IfNone-from : {X : Type 0} {P : Type 0} (o : Option X) → P → IfNone o P
 IfNone-from None p = p
 IfNone-from (Some x) p = tt

@@ -9,38 +9,39 @@ use Rattle.lexical_forms.specs.Forms.IsFractionPart.{point}
 use Rattle.lexical_forms.specs.Forms.IsGroups.{one, digit, mark}
 use Rattle.lexical_forms.specs.Forms.IsSign.{plus, minus}
 use Rattle.lexical_forms.specs.Forms.IsWholePart.{some}
-use Rattle.lexical_forms.specs.Number.{whole_reading, integer_reading, bare_reading, number_reading, default_spelling}
+use Rattle.lexical_forms.specs.Number.{integer_text_reading, integer_reading, number_text_reading, number_reading}
+use Rattle.lexical_forms.specs.Number.{default_spelling}
 
 -- ---- whole numbers
 
 a_signed_number : integer_reading true (codes "-007") ≡ Some (neg_ℤ (pos 7))
-unfolding whole_reading
+unfolding integer_text_reading
 a_signed_number = refl
 
 no_digits : integer_reading true (codes "+") ≡ None
-unfolding whole_reading
+unfolding integer_text_reading
 no_digits = refl
 
 a_number_and_its_unit : integer_reading false (codes "EUR 12 each") ≡ Some (pos 12)
-unfolding whole_reading
+unfolding integer_text_reading
 a_number_and_its_unit = refl
 
 -- ---- numbers, in billionths
 
 a_half : number_reading default_spelling (codes ".5") ≡ Some (pos 500000000)
-unfolding bare_reading
+unfolding number_text_reading
 a_half = refl
 
 an_exponent_down : number_reading default_spelling (codes "15e-1") ≡ Some (pos 1500000000)
-unfolding bare_reading
+unfolding number_text_reading
 an_exponent_down = refl
 
-zeros_behind_nine_decimals : number_reading default_spelling (codes "0.1000000000") ≡ Some (pos 100000000)
-unfolding bare_reading
-zeros_behind_nine_decimals = refl
+zeros_after_nine_decimals : number_reading default_spelling (codes "0.1000000000") ≡ Some (pos 100000000)
+unfolding number_text_reading
+zeros_after_nine_decimals = refl
 
 too_many_decimals : number_reading default_spelling (codes "0.0000000001") ≡ None
-unfolding bare_reading
+unfolding number_text_reading
 too_many_decimals = refl
 
 -- a comma before the fraction, and points between groups
@@ -48,11 +49,11 @@ abbrev continental : NumberForm
 continental = record { decimal = 44; group = Some 46; bare = true }
 
 a_grouped_number : number_reading continental (codes "1.234,5") ≡ Some (pos 1234500000000)
-unfolding bare_reading
+unfolding number_text_reading
 a_grouped_number = refl
 
 a_doubled_group : number_reading continental (codes "1..234") ≡ None
-unfolding bare_reading
+unfolding number_text_reading
 a_doubled_group = refl
 
 -- ---- the forms, by hand
@@ -78,7 +79,7 @@ twelve_inside = record {
   before = refl;
   core = inr (record {
     first = 49;
-    behind = codes "2";
+    after = codes "2";
     before = codes "1";
     last = 50;
     from_first = refl;
@@ -86,10 +87,10 @@ twelve_inside = record {
     to_last = refl;
     ends = refl;
   });
-  behind = refl;
+  after = refl;
 }
 
--- `1.23`: each point stands between two digits
+-- `1.23`: the point is between two digits
 groups_of_two : IsGroups (Some 46) (codes "1.23") (codes "123")
 groups_of_two = mark 49 46 (codes "23") (codes "23") refl refl (digit 50 (codes "3") (codes "3") refl (one 51 refl))
 
@@ -97,7 +98,7 @@ groups_of_two = mark 49 46 (codes "23") (codes "23") refl refl (digit 50 (codes 
 a_fraction : IsFractionPart 44 (codes ",5") (codes "5")
 a_fraction = point (codes "5") refl
 
--- `e-1`: the mark and a whole number
+-- `e-1`: the exponent mark and a whole number
 a_power : IsExponentPart (codes "e-1") (neg_ℤ (pos 1))
 a_power = ten_to 101 (codes "-1") (neg_ℤ (pos 1)) refl (record {
   sign = codes "-";
@@ -127,7 +128,7 @@ a_size = record {
   small = lit< tt;
 }
 
--- `+1.23,5e-1` is that, and continental numbers are spelled as descriptors can have them
+-- `+1.23,5e-1` is the same number, and a descriptor can give the continental spelling
 a_number : IsNumberText continental (codes "+1.23,5e-1") (pos 12350000000)
 a_number = record {
   sign = codes "+";

@@ -1,4 +1,4 @@
--- Texts of whole numbers are read exactly where they are of the form.
+-- Texts read as whole numbers if and only if they have the form of one.
 use Rattle.std.proofs.Common.{◌≡◌, ℕ, ◌^◌, true, false}
 use Rattle.std.proofs.Common.{◌||◌, eqb, refl, sym, ap, ◌∙◌, subst, arith, Bool, List, [], ◌∷◌, ◌++◌}
 use Rattle.std.proofs.Common.{ℤ, pos, negsuc}
@@ -10,10 +10,10 @@ use Rattle.std.proofs.lemmas.Int.{ints}
 use Rattle.lexical_forms.specs.Digits.{is_digit, is_sign, is_digits, is_negative, spelled, unsigned, signed}
 use Rattle.lexical_forms.specs.Forms.{IsSign, IsIntegerText, IsI64}
 use Rattle.lexical_forms.specs.Forms.IsSign.{none, plus, minus}
-use Rattle.lexical_forms.specs.Number.{i64_only, is_i64, whole_reading}
+use Rattle.lexical_forms.specs.Number.{i64_only, is_i64, integer_text_reading}
 use Rattle.lexical_forms.proofs.ReadingLemmas.{if-some}
 
--- ---- the sign in front of a text
+-- ---- the leading sign of a text
 
 pub record SignIn (text : List ℕ) : Type 0 where
   pub sign : List ℕ
@@ -40,7 +40,7 @@ sign_in (c ∷ cs) = by_sign (eqb c 43) (eqb c 45) refl refl
         }
     by_sign false false e f = record { sign = []; cut = rw (e, f) refl; signs = rw f none }
 
--- the text begins with no sign
+-- the text starts with no sign
 abbrev pub HasNoSign : List ℕ → Type 0
 HasNoSign [] = Unit {0}
 HasNoSign (c ∷ cs) = is_sign c ≡ false
@@ -110,19 +110,19 @@ pub record SameInteger (text : List ℕ) (z : ℤ) : Type 0 where
 
 pub form_integer : (text : List ℕ) (z : ℤ) → IsIntegerText text z → SameInteger text z
 form_integer text z h =
-    let plain = digits-no_sign h.digits h.some in
+    let no_sign = digits-no_sign h.digits h.some in
     let rest : unsigned text ≡ h.digits =
-    ap unsigned h.cut ∙ unsigned-sign h.sign h.digits h.negative h.signs plain in
+    ap unsigned h.cut ∙ unsigned-sign h.sign h.digits h.negative h.signs no_sign in
     let minus : is_negative text ≡ h.negative =
-    ap is_negative h.cut ∙ is_negative-sign h.sign h.digits h.negative h.signs plain in
+    ap is_negative h.cut ∙ is_negative-sign h.sign h.digits h.negative h.signs no_sign in
     record {
       digits = ap is_digits rest ∙ h.some;
       value = ap (λ b. signed b (spelled (unsigned text))) minus ∙ ap (λ ds. signed h.negative (spelled ds)) rest
           ∙ sym h.value;
     }
 
-read_integer : (text : List ℕ) (z : ℤ) → whole_reading text ≡ Some z → IsIntegerText text z × IsI64 z
-unfolding whole_reading
+read_integer : (text : List ℕ) (z : ℤ) → integer_text_reading text ≡ Some z → IsIntegerText text z × IsI64 z
+unfolding integer_text_reading
 read_integer text z e =
     let found = if-some (is_digits (unsigned text))
     (i64_only (signed (is_negative text) (spelled (unsigned text)))) z e in
@@ -131,11 +131,12 @@ read_integer text z e =
     let same : value ≡ z = cc (kept.1) in
     (subst (IsIntegerText text) same (integer_form text found.0), subst IsI64 same (IsI64-from value kept.0))
 
-integer_reads : (text : List ℕ) (z : ℤ) → IsIntegerText text z × IsI64 z → whole_reading text ≡ Some z
-unfolding whole_reading
+integer_reads : (text : List ℕ) (z : ℤ) → IsIntegerText text z × IsI64 z → integer_text_reading text ≡ Some z
+unfolding integer_text_reading
 integer_reads text z h =
     let same = form_integer text z h.0 in
     cond-true _ _ _ same.digits ∙ ap i64_only same.value ∙ cond-true _ _ _ (is_i64-from z h.1)
 
-pub integer_where_of_form : (text : List ℕ) (z : ℤ) → (whole_reading text ≡ Some z) ↔ (IsIntegerText text z × IsI64 z)
+pub integer_where_of_form : (text : List ℕ) (z : ℤ)
+    → (integer_text_reading text ≡ Some z) ↔ (IsIntegerText text z × IsI64 z)
 integer_where_of_form text z = (read_integer text z, integer_reads text z)

@@ -1,4 +1,4 @@
--- What is left where only the number in a text counts is what stands inside.
+-- The numeric part of a text is its middle, without the characters around the number.
 use Rattle.std.proofs.Common.{◌≡◌, ◌⊎◌, inl, inr, ℕ, true, false, ◌&&◌, not, cond, refl, sym, ap, ◌∙◌, subst}
 use Rattle.std.proofs.Common.{Bool, List}
 use Rattle.std.proofs.Common.{[], ◌∷◌, ◌++◌, append_assoc, append-nil}
@@ -8,16 +8,16 @@ use Rattle.std.proofs.lemmas.Bool.{and_parts, and_from}
 use Rattle.std.proofs.lemmas.List.{reverse-append, reverse-reverse}
 use Rattle.std.proofs.lemmas.List.Folds.{list_all-append}
 use Rattle.lexical_forms.specs.Digits.{is_digit, from_first, until_last}
-use Rattle.lexical_forms.specs.Forms.{IsCore, IsInside, IsBarePart}
-use Rattle.lexical_forms.specs.Number.{bare_part, begins_number}
+use Rattle.lexical_forms.specs.Forms.{IsCore, IsInside, IsNumericPart}
+use Rattle.lexical_forms.specs.Number.{numeric_part, begins_number}
 
--- ---- from the first that passes
+-- ---- from the first character that passes the test
 
--- none of them passes
+-- no character passes the test
 abbrev pub NonePasses : (ℕ → Bool) → List ℕ → Type 0
 NonePasses p cs = list_all (λ c. not (p c)) cs ≡ true
 
--- nothing, or it begins with one that passes
+-- the text is empty, or it starts with a character that passes the test
 abbrev pub BeginsPassing : (ℕ → Bool) → List ℕ → Type 0
 BeginsPassing p [] = Unit {0}
 BeginsPassing p (c ∷ cs) = p c ≡ true
@@ -55,7 +55,7 @@ from_first-past p (c ∷ front) cs h = by_test (from_first-past p front cs) (p c
 pub from_first-none : (p : ℕ → Bool) (cs : List ℕ) → NonePasses p cs → from_first p cs ≡ []
 from_first-none p cs h = ap (from_first p) (sym (append-nil cs)) ∙ from_first-past p cs [] h
 
--- what all of a text passes passes what is left of it
+-- A test that all characters of a text pass holds of the characters that are left.
 all-from_first : (p q : ℕ → Bool) (cs : List ℕ) → list_all q cs ≡ true → list_all q (from_first p cs) ≡ true
 all-from_first p q [] h = refl
 all-from_first p q (c ∷ cs) h = by_test (all-from_first p q cs (and_parts (q c) (list_all q cs) h).1) (p c)
@@ -64,7 +64,7 @@ all-from_first p q (c ∷ cs) h = by_test (all-from_first p q cs (and_parts (q c
     by_test later true = h
     by_test later false = later
 
--- ---- up to the last that passes
+-- ---- up to the last character that passes the test
 
 reverse-cons : (x : ℕ) (xs : List ℕ) → reverse (x ∷ xs) ≡ reverse xs ++ x ∷ []
 reverse-cons x xs = reverse-append (x ∷ []) xs
@@ -79,7 +79,7 @@ all-reverse q (c ∷ cs) h =
 pub record LastCut (p : ℕ → Bool) (cs : List ℕ) : Type 0 where
   pub back : List ℕ
   pub cut : cs ≡ until_last p cs ++ back
-  pub behind : NonePasses p back
+  pub after : NonePasses p back
   pub ends : (until_last p cs ≡ [])
       ⊎ ((before : List ℕ) × (last : ℕ) × (until_last p cs ≡ before ++ last ∷ []) × (p last ≡ true))
 
@@ -90,7 +90,7 @@ last_cut p cs =
       back = reverse found.front;
       cut = sym (reverse-reverse cs) ∙ ap reverse found.cut
           ∙ reverse-append found.front (from_first p (reverse cs));
-      behind = all-reverse (λ c. not (p c)) found.front found.before;
+      after = all-reverse (λ c. not (p c)) found.front found.before;
       ends = by_rest (from_first p (reverse cs)) found.begins;
     }
   where
@@ -115,9 +115,9 @@ until_last-at p before last back passes none =
 pub until_last-none : (p : ℕ → Bool) (cs : List ℕ) → NonePasses p cs → until_last p cs ≡ []
 until_last-none p cs h = ap reverse (from_first-none p (reverse cs) (all-reverse (λ c. not (p c)) cs h))
 
--- ---- what stands inside
+-- ---- the middle of a text
 
-inside_is : (decimal : Option ℕ) (text : List ℕ) → IsInside decimal text (bare_part false decimal text)
+inside_is : (decimal : Option ℕ) (text : List ℕ) → IsInside decimal text (numeric_part false decimal text)
 inside_is decimal text =
     let begun = first_cut (begins_number decimal) text in
     let ended = last_cut is_digit (from_first (begins_number decimal) text) in
@@ -125,11 +125,11 @@ inside_is decimal text =
       front = begun.front;
       back = ended.back;
       cut = begun.cut ∙ ap (λ xs. begun.front ++ xs) ended.cut
-          ∙ sym (append_assoc begun.front (bare_part false decimal text) ended.back);
+          ∙ sym (append_assoc begun.front (numeric_part false decimal text) ended.back);
       before = begun.before;
-      core = by_end (bare_part false decimal text) (from_first (begins_number decimal) text) ended.back ended.cut
+      core = by_end (numeric_part false decimal text) (from_first (begins_number decimal) text) ended.back ended.cut
           begun.begins ended.ends;
-      behind = ended.behind;
+      after = ended.after;
     }
   where
     by_end : (middle rest back : List ℕ) → rest ≡ middle ++ back → BeginsPassing (begins_number decimal) rest
@@ -143,7 +143,7 @@ inside_is decimal text =
         subst (BeginsPassing (begins_number decimal)) e begins in
         inr (record {
           first = c;
-          behind = cs;
+          after = cs;
           before = h.0;
           last = h.1;
           from_first = refl;
@@ -153,7 +153,7 @@ inside_is decimal text =
         })
 
 is_inside : (decimal : Option ℕ) (text middle : List ℕ) → IsInside decimal text middle
-    → bare_part false decimal text ≡ middle
+    → numeric_part false decimal text ≡ middle
 is_inside decimal text middle h = by_core h.core
   where
     passed : from_first (begins_number decimal) text ≡ from_first (begins_number decimal) (middle ++ h.back)
@@ -161,28 +161,28 @@ is_inside decimal text middle h = by_core h.core
         ap (from_first (begins_number decimal)) (h.cut ∙ append_assoc h.front middle h.back)
         ∙ from_first-past (begins_number decimal) h.front (middle ++ h.back) h.before
 
-    by_core : (middle ≡ []) ⊎ IsCore decimal middle → bare_part false decimal text ≡ middle
+    by_core : (middle ≡ []) ⊎ IsCore decimal middle → numeric_part false decimal text ≡ middle
     by_core (inl e) =
         let left : from_first (begins_number decimal) text ≡ from_first (begins_number decimal) h.back =
         passed ∙ ap (λ xs. from_first (begins_number decimal) (xs ++ h.back)) e in
         ap (until_last is_digit) left
         ∙ until_last-none is_digit (from_first (begins_number decimal) h.back)
-        (all-from_first (begins_number decimal) (λ c. not (is_digit c)) h.back h.behind) ∙ sym e
+        (all-from_first (begins_number decimal) (λ c. not (is_digit c)) h.back h.after) ∙ sym e
     by_core (inr core) =
         let begins = core.begins in
         let here : from_first (begins_number decimal) (middle ++ h.back) ≡ middle ++ h.back =
         ap (λ xs. from_first (begins_number decimal) (xs ++ h.back)) core.from_first
-        ∙ from_first-here core.first (core.behind ++ h.back) begins
+        ∙ from_first-here core.first (core.after ++ h.back) begins
         ∙ ap (λ xs. xs ++ h.back) (sym core.from_first) in
         ap (until_last is_digit) (passed ∙ here ∙ ap (λ xs. xs ++ h.back) core.to_last)
-        ∙ until_last-at is_digit core.before core.last h.back core.ends h.behind ∙ sym core.to_last
+        ∙ until_last-at is_digit core.before core.last h.back core.ends h.after ∙ sym core.to_last
       where
         from_first-here : (c : ℕ) (cs : List ℕ) → begins_number decimal c ≡ true
             → from_first (begins_number decimal) (c ∷ cs) ≡ c ∷ cs
         from_first-here c cs e = rw e refl
 
-pub left_is_inside : (bare : Bool) (decimal : Option ℕ) (text middle : List ℕ)
-    → (bare_part bare decimal text ≡ middle) ↔ IsBarePart bare decimal text middle
-left_is_inside true decimal text middle = (λ e. sym e, λ e. sym e)
-left_is_inside false decimal text middle =
+pub part_is_inside : (bare : Bool) (decimal : Option ℕ) (text middle : List ℕ)
+    → (numeric_part bare decimal text ≡ middle) ↔ IsNumericPart bare decimal text middle
+part_is_inside true decimal text middle = (λ e. sym e, λ e. sym e)
+part_is_inside false decimal text middle =
     (λ e. subst (IsInside decimal text) e (inside_is decimal text), is_inside decimal text middle)

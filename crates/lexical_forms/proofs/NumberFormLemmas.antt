@@ -1,4 +1,4 @@
--- Texts of numbers are read exactly where they are of the form.
+-- Texts read as numbers if and only if they have the form of one.
 use Rattle.std.proofs.Common.{◌≡◌, ◌≢◌, ℕ, ◌^◌, ◌<◌, true, false, ◌&&◌, not, cond, eqb, ltb}
 use Rattle.std.proofs.Common.{refl, sym, ap, ◌∙◌, subst, Bool, List, [], ◌∷◌, ◌++◌, length, append-nil}
 use Rattle.std.proofs.Common.{append_assoc, ℤ, pos, ◌+ℤ◌, ◌-ℤ◌}
@@ -15,55 +15,58 @@ use Rattle.lexical_forms.specs.Forms.IsGroups.{one, digit, mark}
 use Rattle.lexical_forms.specs.Forms.IsWholePart.{none as no_whole, some as some_whole}
 use Rattle.lexical_forms.specs.Forms.IsFractionPart.{none as no_fraction, point}
 use Rattle.lexical_forms.specs.Forms.IsExponentPart.{none as no_exponent, ten_to}
-use Rattle.lexical_forms.specs.Mark.{is_mark}
-use Rattle.lexical_forms.specs.Number.{is_that, is_grouped, is_exponent_mark, is_point, split_mark, begins_with_digit}
-use Rattle.lexical_forms.specs.Number.{Parts, parts_of, digits_of, is_exponent, exponent_of, is_number, scaled, in_size}
-use Rattle.lexical_forms.specs.Number.{billionths_of, unsigned_reading, bare_reading}
+use Rattle.lexical_forms.specs.Separator.{is_separator}
+use Rattle.lexical_forms.specs.Number.{is_same_character, is_grouped, is_exponent_mark, is_point, split_at_first}
+use Rattle.lexical_forms.specs.Number.{begins_with_digit}
+use Rattle.lexical_forms.specs.Number.{Parts, parts_of, digits_of, is_exponent, exponent_of, is_number, scaled}
+use Rattle.lexical_forms.specs.Number.{in_range}
+use Rattle.lexical_forms.specs.Number.{billionths_of, unsigned_reading, number_text_reading}
 use Rattle.lexical_forms.proofs.FormLemmas.{HasNoSign, sign_in, unsigned-sign, is_negative-sign, is_digit-no_sign}
 use Rattle.lexical_forms.proofs.FormLemmas.{integer_form, form_integer}
 use Rattle.lexical_forms.proofs.InsideLemmas.{NonePasses}
-use Rattle.lexical_forms.proofs.NumberLemmas.{cut, split_mark-none, split_mark-at, is_digit-no_mark, is_digit-no_point}
+use Rattle.lexical_forms.proofs.NumberLemmas.{cut, split_at_first-none, split_at_first-at, is_digit-no_mark}
+use Rattle.lexical_forms.proofs.NumberLemmas.{is_digit-no_point}
 use Rattle.lexical_forms.proofs.ReadingLemmas.{if-some, then-some, map-some}
 use Rattle.lexical_forms.proofs.SizeLemmas.{size_of, of_size}
 
--- ---- a text that is cut
+-- ---- a text that is split
 
--- what stands before the first that passes, and behind it
+-- the characters before the first one that passes the test, and those after it
 abbrev Behind : (ℕ → Bool) → List ℕ → List ℕ → Option (List ℕ) → Type 0
 Behind p cs before None = cs ≡ before
-Behind p cs before (Some behind) = (c : ℕ) × (p c ≡ true) × (cs ≡ before ++ c ∷ behind)
+Behind p cs before (Some after) = (c : ℕ) × (p c ≡ true) × (cs ≡ before ++ c ∷ after)
 
-Behind-more : (p : ℕ → Bool) (c : ℕ) (cs before : List ℕ) (behind : Option (List ℕ)) → Behind p cs before behind
-    → Behind p (c ∷ cs) (c ∷ before) behind
+Behind-more : (p : ℕ → Bool) (c : ℕ) (cs before : List ℕ) (after : Option (List ℕ)) → Behind p cs before after
+    → Behind p (c ∷ cs) (c ∷ before) after
 Behind-more p c cs before None h = ap (λ xs. c ∷ xs) h
-Behind-more p c cs before (Some behind) h = (h.0, h.1, ap (λ xs. c ∷ xs) h.2)
+Behind-more p c cs before (Some after) h = (h.0, h.1, ap (λ xs. c ∷ xs) h.2)
 
-split_mark-cut : (p : ℕ → Bool) (cs : List ℕ) → Behind p cs (split_mark p cs).0 (split_mark p cs).1
-split_mark-cut p [] = refl
-split_mark-cut p (c ∷ cs) = by_test (split_mark-cut p cs) (p c) refl
+split_at_first-cut : (p : ℕ → Bool) (cs : List ℕ) → Behind p cs (split_at_first p cs).0 (split_at_first p cs).1
+split_at_first-cut p [] = refl
+split_at_first-cut p (c ∷ cs) = by_test (split_at_first-cut p cs) (p c) refl
   where
-    by_test : Behind p cs (split_mark p cs).0 (split_mark p cs).1 → (b : Bool) → p c ≡ b
-        → Behind p (c ∷ cs) (cond b (cut [] (Some cs)) (cut (c ∷ (split_mark p cs).0) (split_mark p cs).1)).0
-        (cond b (cut [] (Some cs)) (cut (c ∷ (split_mark p cs).0) (split_mark p cs).1)).1
+    by_test : Behind p cs (split_at_first p cs).0 (split_at_first p cs).1 → (b : Bool) → p c ≡ b
+        → Behind p (c ∷ cs) (cond b (cut [] (Some cs)) (cut (c ∷ (split_at_first p cs).0) (split_at_first p cs).1)).0
+        (cond b (cut [] (Some cs)) (cut (c ∷ (split_at_first p cs).0) (split_at_first p cs).1)).1
     by_test later true e = (c, e, refl)
-    by_test later false e = Behind-more p c cs (split_mark p cs).0 (split_mark p cs).1 later
+    by_test later false e = Behind-more p c cs (split_at_first p cs).0 (split_at_first p cs).1 later
 
 -- ---- from the parts that are read to the form
 
-that-is : (group : Option ℕ) (c : ℕ) → is_that group c ≡ true → group ≡ Some c
+that-is : (group : Option ℕ) (c : ℕ) → is_same_character group c ≡ true → group ≡ Some c
 that-is None c h = cc
 that-is (Some m) c h = ap Some (sym (eqb-true c m h))
 
--- what follows a digit
+-- the text after a digit
 groups-from : (group : Option ℕ) (c : ℕ) (cs : List ℕ) → is_digit c ≡ true → is_grouped group true cs ≡ true
     → IsGroups group (c ∷ cs) (c ∷ filter is_digit cs)
 groups-from group c [] is h = one c is
 groups-from group c (d ∷ []) is h = by_test (is_digit d) refl h
   where
-    by_test : (b : Bool) → is_digit d ≡ b → cond b true (is_that group d && true && false && true) ≡ true
+    by_test : (b : Bool) → is_digit d ≡ b → cond b true (is_same_character group d && true && false && true) ≡ true
         → IsGroups group (c ∷ d ∷ []) (c ∷ cond b (d ∷ []) [])
     by_test true e h = digit c (d ∷ []) (d ∷ []) is (one d e)
-    by_test false e h = absurd (never (is_that group d) h)
+    by_test false e h = absurd (never (is_same_character group d) h)
       where
         never : (a : Bool) → (a && true && false && true) ≡ true → ⊥
         never true h = cc
@@ -76,21 +79,21 @@ groups-from group c (d ∷ e ∷ cs) is h =
         → (is_digit e ≡ true → is_grouped group true cs ≡ true → IsGroups group (e ∷ cs) (e ∷ filter is_digit cs))
         → (b : Bool) → is_digit d ≡ b
         → cond b (is_grouped group true (e ∷ cs))
-        (is_that group d && true && is_digit e && is_grouped group false (e ∷ cs)) ≡ true
+        (is_same_character group d && true && is_digit e && is_grouped group false (e ∷ cs)) ≡ true
         → IsGroups group (c ∷ d ∷ e ∷ cs) (c ∷ cond b (d ∷ filter is_digit (e ∷ cs)) (filter is_digit (e ∷ cs)))
     by_test next over true k h = digit c (d ∷ e ∷ cs) (d ∷ filter is_digit (e ∷ cs)) is (next k h)
     by_test next over false k h =
-        let parts = and_parts (is_that group d && true && is_digit e) (is_grouped group false (e ∷ cs)) h in
-        let front = and_parts (is_that group d && true) (is_digit e) parts.0 in
-        let given = and_parts (is_that group d) true front.0 in
+        let parts = and_parts (is_same_character group d && true && is_digit e) (is_grouped group false (e ∷ cs)) h in
+        let front = and_parts (is_same_character group d && true) (is_digit e) parts.0 in
+        let given = and_parts (is_same_character group d) true front.0 in
         let here = front.1 in
-        let grouped : is_grouped group true cs ≡ true = sym (behind_digit here) ∙ parts.1 in
+        let grouped : is_grouped group true cs ≡ true = sym (after_digit here) ∙ parts.1 in
         let same : filter is_digit (e ∷ cs) ≡ e ∷ filter is_digit cs = rw here refl in
         subst (λ xs. IsGroups group (c ∷ d ∷ e ∷ cs) (c ∷ xs)) (sym same)
         (mark c d (e ∷ cs) (e ∷ filter is_digit cs) is (that-is group d given.0) (over here grouped))
       where
-        behind_digit : is_digit e ≡ true → is_grouped group false (e ∷ cs) ≡ is_grouped group true cs
-        behind_digit here = rw here refl
+        after_digit : is_digit e ≡ true → is_grouped group false (e ∷ cs) ≡ is_grouped group true cs
+        after_digit here = rw here refl
 
 whole-from : (group : Option ℕ) (cs : List ℕ) → is_grouped group false cs ≡ true
     → IsWholePart group cs (filter is_digit cs)
@@ -99,10 +102,10 @@ whole-from group (c ∷ cs) h = by_test (is_digit c) refl h
   where
     by_test : (b : Bool) → is_digit c ≡ b
         → cond b (is_grouped group true cs)
-        (is_that group c && false && begins_with_digit cs && is_grouped group false cs) ≡ true
+        (is_same_character group c && false && begins_with_digit cs && is_grouped group false cs) ≡ true
         → IsWholePart group (c ∷ cs) (cond b (c ∷ filter is_digit cs) (filter is_digit cs))
     by_test true e h = some_whole (c ∷ cs) (c ∷ filter is_digit cs) (groups-from group c cs e h)
-    by_test false e h = absurd (never (is_that group c) (begins_with_digit cs) (is_grouped group false cs) h)
+    by_test false e h = absurd (never (is_same_character group c) (begins_with_digit cs) (is_grouped group false cs) h)
       where
         never : (a b d : Bool) → (a && false && b && d) ≡ true → ⊥
         never true b d h = cc
@@ -138,10 +141,10 @@ exponent-from : (cs before : List ℕ) (found : Option (List ℕ)) → Behind is
     → is_exponent found ≡ true → ExponentFrom cs before found
 exponent-from cs before None h e =
     record { text = []; joined = h ∙ sym (append-nil before); part = no_exponent }
-exponent-from cs before (Some behind) h e = record {
-  text = h.0 ∷ behind;
+exponent-from cs before (Some after) h e = record {
+  text = h.0 ∷ after;
   joined = h.2;
-  part = ten_to h.0 behind _ h.1 (integer_form behind e);
+  part = ten_to h.0 after _ h.1 (integer_form after e);
 }
 
 not-true : (b : Bool) → not b ≡ true → b ≡ false
@@ -163,7 +166,7 @@ from_parts form cs before w f e n at_exponent at_point read =
     let second = and_parts (is_grouped form.group false w) (list_all is_digit (unwrap_or f [])) third.0 in
     let places = fraction-from form before w f at_point second.1 in
     let power = exponent-from cs before e at_exponent last.1 in
-    let moved = then-some in_size
+    let moved = then-some in_range
     (scaled (spelled (digits_of parts)) (pos 9 +ℤ exponent_of e -ℤ pos (length (unwrap_or f [])))) n found.1 in
     let small = if-some (ltb moved.0 (10 ^ 27)) (Some moved.0) n moved.2 in
     let same : moved.0 ≡ n = cc (small.1) in
@@ -187,13 +190,14 @@ from_parts form cs before w f e n at_exponent at_point read =
 size_form : (form : NumberForm) (cs : List ℕ) (n : ℕ) → unsigned_reading form (parts_of form cs) ≡ Some n
     → IsUnsignedText form cs n
 size_form form cs n e =
-    let at_exponent = split_mark is_exponent_mark cs in
-    let at_point = split_mark (is_point form) at_exponent.0 in
-    from_parts form cs at_exponent.0 at_point.0 at_point.1 at_exponent.1 n (split_mark-cut is_exponent_mark cs)
-    (split_mark-cut (is_point form) at_exponent.0) e
+    let at_exponent = split_at_first is_exponent_mark cs in
+    let at_point = split_at_first (is_point form) at_exponent.0 in
+    from_parts form cs at_exponent.0 at_point.0 at_point.1 at_exponent.1 n (split_at_first-cut is_exponent_mark cs)
+    (split_at_first-cut (is_point form) at_exponent.0) e
 
-number_form : (form : NumberForm) (text : List ℕ) (b : ℤ) → bare_reading form text ≡ Some b → IsNumberText form text b
-unfolding bare_reading
+number_form : (form : NumberForm) (text : List ℕ) (b : ℤ) → number_text_reading form text ≡ Some b
+    → IsNumberText form text b
+unfolding number_text_reading
 number_form form text b e =
     let found = map-some (signed (is_negative text)) (unsigned_reading form (parts_of form (unsigned text))) b e in
     let front = sign_in text in
@@ -213,14 +217,14 @@ number_form form text b e =
 not-false : (b : Bool) → b ≡ false → not b ≡ true
 not-false b e = ap not e
 
--- no digit, no sign and no exponent's mark
-record Plain (c : ℕ) : Type 0 where
+-- no digit, no sign and no exponent mark
+record IsSeparator (c : ℕ) : Type 0 where
   pub digit : is_digit c ≡ false
   pub sign : is_sign c ≡ false
   pub exponent : is_exponent_mark c ≡ false
 
-plain : (c : ℕ) → is_mark c ≡ true → Plain c
-plain c h =
+separator : (c : ℕ) → is_separator c ≡ true → IsSeparator c
+separator c h =
     let last = and_parts (all_scalars (c ∷ []) && not (is_digit c) && not (is_sign c)) (not (is_exponent_mark c)) h in
     let third = and_parts (all_scalars (c ∷ []) && not (is_digit c)) (not (is_sign c)) last.0 in
     let second = and_parts (all_scalars (c ∷ [])) (not (is_digit c)) third.0 in
@@ -230,13 +234,13 @@ plain c h =
       exponent = not-true (is_exponent_mark c) last.1;
     }
 
-decimal-point : (form : NumberForm) → Plain form.decimal → is_point form form.decimal ≡ true
+decimal-point : (form : NumberForm) → IsSeparator form.decimal → is_point form form.decimal ≡ true
 decimal-point form h =
     and_from (eqb form.decimal form.decimal && not (is_digit form.decimal)) _
     (and_from (eqb form.decimal form.decimal) _ (eq-eqb form.decimal form.decimal refl)
     (not-false (is_digit form.decimal) h.digit)) (not-false (is_exponent_mark form.decimal) h.exponent)
 
--- What each digit passes, and the group character where there is one, all of the whole part passes.
+-- A test that each digit passes, and the group character if there is one, holds of all of the whole part.
 record AllPass (group : Option ℕ) (q : ℕ → Bool) : Type 0 where
   pub digits : (c : ℕ) → is_digit c ≡ true → q c ≡ true
   pub marks : (m : ℕ) → group ≡ Some m → q m ≡ true
@@ -250,33 +254,34 @@ groups-all group q _ _ pass (mark c m text digits h e more) =
     and_from (q c) _ (pass.digits c h)
     (and_from (q m) _ (pass.marks m e) (groups-all group q text digits pass more))
 
--- what such a text is read as
+-- the reading of such a text
 record GroupsRead (group : Option ℕ) (text digits : List ℕ) : Type 0 where
   pub kept : filter is_digit text ≡ digits
   pub begins : begins_with_digit text ≡ true
-  pub grouped : (behind : Bool) → is_grouped group behind text ≡ true
+  pub grouped : (after : Bool) → is_grouped group after text ≡ true
 
 groups-read : (group : Option ℕ) (text digits : List ℕ) → ((m : ℕ) → group ≡ Some m → is_digit m ≡ false)
     → IsGroups group text digits → GroupsRead group text digits
 groups-read group _ _ none (one c h) =
-    record { kept = rw h refl; begins = h; grouped = λ behind. rw h refl }
+    record { kept = rw h refl; begins = h; grouped = λ after. rw h refl }
 groups-read group _ _ none (digit c text digits h more) =
     let later = groups-read group text digits none more in
     record {
       kept = rw h (ap (λ xs. c ∷ xs) later.kept);
       begins = h;
-      grouped = λ behind. rw h (later.grouped true);
+      grouped = λ after. rw h (later.grouped true);
     }
 groups-read group _ _ none (mark c m text digits h e more) =
     let later = groups-read group text digits none more in
     let other = none m e in
-    let same : is_that group m ≡ true = ap (λ o. is_that o m) e ∙ eq-eqb m m refl in
+    let same : is_same_character group m ≡ true = ap (λ o. is_same_character o m) e ∙ eq-eqb m m refl in
     record {
       kept = rw (h, other) (ap (λ xs. c ∷ xs) later.kept);
       begins = h;
-      grouped = λ behind. rw (h, other)
-          (and_from (is_that group m && true && begins_with_digit text) _
-          (and_from (is_that group m && true) _ (and_from (is_that group m) true same refl) later.begins)
+      grouped = λ after. rw (h, other)
+          (and_from (is_same_character group m && true && begins_with_digit text) _
+          (and_from (is_same_character group m && true) _ (and_from (is_same_character group m) true same refl)
+          later.begins)
           (later.grouped false));
     }
 
@@ -286,9 +291,9 @@ record WholeRead (group : Option ℕ) (text digits : List ℕ) : Type 0 where
 
 whole-read : (group : Option ℕ) (text digits : List ℕ) → ((m : ℕ) → group ≡ Some m → is_digit m ≡ false)
     → IsWholePart group text digits → WholeRead group text digits
-whole-read group _ _ plain no_whole = record { kept = refl; grouped = refl }
-whole-read group _ _ plain (some_whole text digits h) =
-    let read = groups-read group text digits plain h in
+whole-read group _ _ separator no_whole = record { kept = refl; grouped = refl }
+whole-read group _ _ separator (some_whole text digits h) =
+    let read = groups-read group text digits separator h in
     record { kept = read.kept; grouped = read.grouped false }
 
 whole-all : (group : Option ℕ) (q : ℕ → Bool) (text digits : List ℕ) → AllPass group q → IsWholePart group text digits
@@ -296,31 +301,31 @@ whole-all : (group : Option ℕ) (q : ℕ → Bool) (text digits : List ℕ) →
 whole-all group q _ _ pass no_whole = refl
 whole-all group q _ _ pass (some_whole text digits h) = groups-all group q text digits pass h
 
--- a fraction behind a whole part, and an exponent behind what is before it
+-- a fraction after a whole part, and an exponent after both
 record FractionRead (form : NumberForm) (w text places : List ℕ) : Type 0 where
   pub found : Option (List ℕ)
-  pub split : split_mark (is_point form) (w ++ text) ≡ cut w found
+  pub split : split_at_first (is_point form) (w ++ text) ≡ cut w found
   pub same : unwrap_or found [] ≡ places
   pub digits : list_all is_digit places ≡ true
 
-fraction-read : (form : NumberForm) (w text places : List ℕ) → Plain form.decimal → NonePasses (is_point form) w
+fraction-read : (form : NumberForm) (w text places : List ℕ) → IsSeparator form.decimal → NonePasses (is_point form) w
     → IsFractionPart form.decimal text places → FractionRead form w text places
 fraction-read form w _ _ h none no_fraction = record {
   found = None;
-  split = ap (split_mark (is_point form)) (append-nil w) ∙ split_mark-none (is_point form) w none;
+  split = ap (split_at_first (is_point form)) (append-nil w) ∙ split_at_first-none (is_point form) w none;
   same = refl;
   digits = refl;
 }
 fraction-read form w _ _ h none (point places digits) = record {
   found = Some places;
-  split = split_mark-at (is_point form) w form.decimal places none (decimal-point form h);
+  split = split_at_first-at (is_point form) w form.decimal places none (decimal-point form h);
   same = refl;
   digits = digits;
 }
 
 record ExponentRead (before text : List ℕ) (power : ℤ) : Type 0 where
   pub found : Option (List ℕ)
-  pub split : split_mark is_exponent_mark (before ++ text) ≡ cut before found
+  pub split : split_at_first is_exponent_mark (before ++ text) ≡ cut before found
   pub good : is_exponent found ≡ true
   pub value : exponent_of found ≡ power
 
@@ -328,7 +333,7 @@ exponent-read : (before text : List ℕ) (power : ℤ) → NonePasses is_exponen
     → ExponentRead before text power
 exponent-read before _ _ none no_exponent = record {
   found = None;
-  split = ap (split_mark is_exponent_mark) (append-nil before) ∙ split_mark-none is_exponent_mark before none;
+  split = ap (split_at_first is_exponent_mark) (append-nil before) ∙ split_at_first-none is_exponent_mark before none;
   good = refl;
   value = refl;
 }
@@ -336,7 +341,7 @@ exponent-read before _ _ none (ten_to c text power h number) =
     let same = form_integer text power number in
     record {
       found = Some text;
-      split = split_mark-at is_exponent_mark before c text none h;
+      split = split_at_first-at is_exponent_mark before c text none h;
       good = same.digits;
       value = same.value;
     }
@@ -358,13 +363,13 @@ abbrev made : List ℕ → List ℕ → Option (List ℕ) → Parts
 made w f e = record { whole = w; fraction = f; exponent = e }
 
 parts-are : (form : NumberForm) (w f e places : List ℕ) (at_point at_exponent : Option (List ℕ))
-    → split_mark is_exponent_mark (w ++ f ++ e) ≡ cut (w ++ f) at_exponent
-    → split_mark (is_point form) (w ++ f) ≡ cut w at_point → unwrap_or at_point [] ≡ places
+    → split_at_first is_exponent_mark (w ++ f ++ e) ≡ cut (w ++ f) at_exponent
+    → split_at_first (is_point form) (w ++ f) ≡ cut w at_point → unwrap_or at_point [] ≡ places
     → parts_of form (w ++ f ++ e) ≡ made w places at_exponent
 parts-are form w f e places at_point at_exponent exponent fraction same =
     rw (exponent, fraction) (ap (λ xs. made w xs at_exponent) same)
 
--- what the parts are read as
+-- the reading of the parts
 reading-of : (form : NumberForm) (w digits places : List ℕ) (found : Option (List ℕ)) (n : ℕ)
     → filter is_digit w ≡ digits → is_grouped form.group false w ≡ true → list_all is_digit places ≡ true
     → is_exponent found ≡ true → is_empty (digits ++ places) ≡ false → n < 10 ^ 27
@@ -379,13 +384,14 @@ reading-of form w digits places found n kept grouped fraction exponent some smal
     (ap (λ xs. not (is_empty xs)) all ∙ not-false (is_empty (digits ++ places)) some)) exponent in
     let moved = of_size (spelled (digits ++ places)) n (length places) (exponent_of found) size in
     cond-true _ _ _ number
-    ∙ ap (λ xs. option_and_then in_size (scaled (spelled xs)
+    ∙ ap (λ xs. option_and_then in_range (scaled (spelled xs)
     (pos 9 +ℤ exponent_of found -ℤ pos (length places)))) all
-    ∙ ap (option_and_then in_size) moved ∙ cond-true _ _ _ (lt-ltb n (10 ^ 27) small)
+    ∙ ap (option_and_then in_range) moved ∙ cond-true _ _ _ (lt-ltb n (10 ^ 27) small)
 
-group-plain : (form : NumberForm) → IsSpelling form → (m : ℕ) → form.group ≡ Some m → Plain m × (m ≢ form.decimal)
-group-plain form h m e = (
-  plain m (subst (λ o. IfSome o (λ c. is_mark c ≡ true)) e h.group),
+group-separator : (form : NumberForm) → IsSpelling form → (m : ℕ) → form.group ≡ Some m
+    → IsSeparator m × (m ≢ form.decimal)
+group-separator form h m e = (
+  separator m (subst (λ o. IfSome o (λ c. is_separator c ≡ true)) e h.group),
   subst (λ o. IfSome o (λ c. c ≢ form.decimal)) e h.apart,
 )
 
@@ -396,8 +402,8 @@ group-no_point form m h =
 form_size : (form : NumberForm) (text : List ℕ) (n : ℕ) → IsSpelling form → IsUnsignedText form text n
     → unsigned_reading form (parts_of form text) ≡ Some n
 form_size form text n spelling h =
-    let decimal = plain form.decimal spelling.decimal in
-    let marks = group-plain form spelling in
+    let decimal = separator form.decimal spelling.decimal in
+    let marks = group-separator form spelling in
     let read = whole-read form.group h.whole h.digits (λ m e. (marks m e).0.digit) h.whole_part in
     let no_point : NonePasses (is_point form) h.whole =
     whole-all form.group (λ c. not (is_point form c)) h.whole h.digits
@@ -411,12 +417,12 @@ form_size form text n spelling h =
       digits = λ c d. not-false (is_exponent_mark c) (is_digit-no_mark c d);
       marks = λ m e. not-false (is_exponent_mark m) (marks m e).0.exponent;
     }) h.whole_part in
-    let behind : NonePasses is_exponent_mark h.fraction =
+    let after : NonePasses is_exponent_mark h.fraction =
     fraction-all form (λ c. not (is_exponent_mark c)) h.fraction h.places
     (not-false (is_exponent_mark form.decimal) decimal.exponent)
     (λ c d. not-false (is_exponent_mark c) (is_digit-no_mark c d)) h.fraction_part in
     let before : NonePasses is_exponent_mark (h.whole ++ h.fraction) =
-    list_all-append (λ c. not (is_exponent_mark c)) h.whole h.fraction ∙ and_from _ _ front behind in
+    list_all-append (λ c. not (is_exponent_mark c)) h.whole h.fraction ∙ and_from _ _ front after in
     let fraction = fraction-read form h.whole h.fraction h.places decimal no_point h.fraction_part in
     let exponent = exponent-read (h.whole ++ h.fraction) h.exponent h.power before h.exponent_part in
     let size : IsSize n (h.digits ++ h.places) (length h.places) (exponent_of exponent.found) =
@@ -438,21 +444,22 @@ begins-whole group _ _ tail (mark c m text digits h e more) = is_digit-no_sign c
 
 begins-fraction : (decimal : ℕ) (text places tail : List ℕ) → is_sign decimal ≡ false → is_empty places ≡ false
     → IsFractionPart decimal text places → HasNoSign (text ++ tail)
-begins-fraction decimal _ _ tail plain some no_fraction = cc
-begins-fraction decimal _ _ tail plain some (point places h) = plain
+begins-fraction decimal _ _ tail separator some no_fraction = cc
+begins-fraction decimal _ _ tail separator some (point places h) = separator
 
 no_sign : (form : NumberForm) (w f e digits places : List ℕ) → is_sign form.decimal ≡ false
     → is_empty (digits ++ places) ≡ false → IsWholePart form.group w digits
     → IsFractionPart form.decimal f places → HasNoSign (w ++ f ++ e)
-no_sign form _ f e _ places plain some no_whole fraction = begins-fraction form.decimal f places e plain some fraction
-no_sign form _ f e _ places plain some (some_whole w digits h) fraction =
+no_sign form _ f e _ places separator some no_whole fraction =
+    begins-fraction form.decimal f places e separator some fraction
+no_sign form _ f e _ places separator some (some_whole w digits h) fraction =
     subst HasNoSign (sym (append_assoc w f e)) (begins-whole form.group w digits (f ++ e) h)
 
 form_number : (form : NumberForm) (text : List ℕ) (b : ℤ) → IsSpelling form → IsNumberText form text b
-    → bare_reading form text ≡ Some b
-unfolding bare_reading
+    → number_text_reading form text ≡ Some b
+unfolding number_text_reading
 form_number form text b spelling h =
-    let decimal = plain form.decimal spelling.decimal in
+    let decimal = separator form.decimal spelling.decimal in
     let number = h.number in
     let begins : HasNoSign h.rest =
     subst HasNoSign (sym number.cut)
@@ -466,5 +473,5 @@ form_number form text b spelling h =
     ∙ ap (λ (s : Bool). Some (signed s h.size)) minus ∙ ap Some (sym h.value)
 
 pub number_where_of_form : (form : NumberForm) (text : List ℕ) (b : ℤ) → IsSpelling form
-    → (bare_reading form text ≡ Some b) ↔ IsNumberText form text b
+    → (number_text_reading form text ≡ Some b) ↔ IsNumberText form text b
 number_where_of_form form text b spelling = (number_form form text b, form_number form text b spelling)

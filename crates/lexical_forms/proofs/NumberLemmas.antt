@@ -13,7 +13,8 @@ use Rattle.std.proofs.lemmas.Int.{ints}
 use Rattle.std.proofs.lemmas.Fmt.{decimal_by_steps_wide}
 use Rattle.lexical_forms.specs.declared.form.NumberForm.{NumberForm}
 use Rattle.lexical_forms.specs.Digits.{is_digit, is_empty, spelled}
-use Rattle.lexical_forms.specs.Number.{is_grouped, is_exponent_mark, is_point, split_mark, parts_of, unsigned_reading}
+use Rattle.lexical_forms.specs.Number.{is_grouped, is_exponent_mark, is_point, split_at_first, parts_of}
+use Rattle.lexical_forms.specs.Number.{unsigned_reading}
 use Rattle.lexical_forms.specs.NumberText.{places_text}
 use Rattle.lexical_forms.specs.Number.{default_spelling}
 
@@ -87,7 +88,7 @@ decimal-Numeral = decimal_by_steps_wide Numeral
       some = is_empty-push ds (48 + n % 10);
     })
 
--- ---- the places behind a point
+-- ---- the decimal places
 
 pub record Places (places rest : ℕ) (cs : List ℕ) : Type 0 where
   pub pad : ℕ
@@ -127,36 +128,38 @@ places_text-Places (suc more) rest h =
 -- ---- a number's parts
 
 abbrev pub cut : List ℕ → Option (List ℕ) → List ℕ × Option (List ℕ)
-cut before behind = (before, behind)
+cut before after = (before, after)
 
-pub split_mark-none : (p : ℕ → Bool) (cs : List ℕ) → list_all (λ c. not (p c)) cs ≡ true → split_mark p cs ≡ cut cs None
-split_mark-none p [] h = refl
-split_mark-none p (c ∷ cs) h = by_test (split_mark-none p cs) (p c) h
+pub split_at_first-none : (p : ℕ → Bool) (cs : List ℕ) → list_all (λ c. not (p c)) cs ≡ true
+    → split_at_first p cs ≡ cut cs None
+split_at_first-none p [] h = refl
+split_at_first-none p (c ∷ cs) h = by_test (split_at_first-none p cs) (p c) h
   where
-    by_test : (list_all (λ c. not (p c)) cs ≡ true → split_mark p cs ≡ cut cs None) → (b : Bool)
+    by_test : (list_all (λ c. not (p c)) cs ≡ true → split_at_first p cs ≡ cut cs None) → (b : Bool)
         → (not b && list_all (λ c. not (p c)) cs) ≡ true
-        → cond b (cut [] (Some cs)) (cut (c ∷ (split_mark p cs).0) (split_mark p cs).1) ≡ cut (c ∷ cs) None
+        → cond b (cut [] (Some cs)) (cut (c ∷ (split_at_first p cs).0) (split_at_first p cs).1) ≡ cut (c ∷ cs) None
     by_test ih true h = cc
     by_test ih false h = rw (ih h) refl
 
--- one that doesn't pass, and one that does
-pub split_mark-past : (p : ℕ → Bool) (c : ℕ) (cs : List ℕ) → p c ≡ false
-    → split_mark p (c ∷ cs) ≡ cut (c ∷ (split_mark p cs).0) (split_mark p cs).1
-split_mark-past p c cs e = rw e refl
+-- a first character that doesn't pass the test, and one that does
+pub split_at_first-past : (p : ℕ → Bool) (c : ℕ) (cs : List ℕ) → p c ≡ false
+    → split_at_first p (c ∷ cs) ≡ cut (c ∷ (split_at_first p cs).0) (split_at_first p cs).1
+split_at_first-past p c cs e = rw e refl
 
-pub split_mark-here : (p : ℕ → Bool) (c : ℕ) (cs : List ℕ) → p c ≡ true → split_mark p (c ∷ cs) ≡ cut [] (Some cs)
-split_mark-here p c cs e = rw e refl
+pub split_at_first-here : (p : ℕ → Bool) (c : ℕ) (cs : List ℕ) → p c ≡ true
+    → split_at_first p (c ∷ cs) ≡ cut [] (Some cs)
+split_at_first-here p c cs e = rw e refl
 
--- the first that passes is this one
-pub split_mark-at : (p : ℕ → Bool) (xs : List ℕ) (c : ℕ) (cs : List ℕ) → list_all (λ c. not (p c)) xs ≡ true
-    → p c ≡ true → split_mark p (xs ++ c ∷ cs) ≡ cut xs (Some cs)
-split_mark-at p [] c cs h e = rw e refl
-split_mark-at p (x ∷ xs) c cs h e = by_test (λ i. split_mark-at p xs c cs i e) (p x) h
+-- the first character that passes the test is this one
+pub split_at_first-at : (p : ℕ → Bool) (xs : List ℕ) (c : ℕ) (cs : List ℕ) → list_all (λ c. not (p c)) xs ≡ true
+    → p c ≡ true → split_at_first p (xs ++ c ∷ cs) ≡ cut xs (Some cs)
+split_at_first-at p [] c cs h e = rw e refl
+split_at_first-at p (x ∷ xs) c cs h e = by_test (λ i. split_at_first-at p xs c cs i e) (p x) h
   where
-    by_test : (list_all (λ c. not (p c)) xs ≡ true → split_mark p (xs ++ c ∷ cs) ≡ cut xs (Some cs)) → (b : Bool)
+    by_test : (list_all (λ c. not (p c)) xs ≡ true → split_at_first p (xs ++ c ∷ cs) ≡ cut xs (Some cs)) → (b : Bool)
         → (not b && list_all (λ c. not (p c)) xs) ≡ true
         → cond b (cut [] (Some (xs ++ c ∷ cs)))
-        (cut (x ∷ (split_mark p (xs ++ c ∷ cs)).0) (split_mark p (xs ++ c ∷ cs)).1) ≡ cut (x ∷ xs) (Some cs)
+        (cut (x ∷ (split_at_first p (xs ++ c ∷ cs)).0) (split_at_first p (xs ++ c ∷ cs)).1) ≡ cut (x ∷ xs) (Some cs)
     by_test ih true h = cc
     by_test ih false h = rw (ih h) refl
 
@@ -175,10 +178,10 @@ is_digit-no_point form c h = rw h (no_third (eqb c form.decimal) (not (is_expone
     no_third true b = refl
     no_third false b = refl
 
-pub is_grouped-digits : (group : Option ℕ) (behind : Bool) (cs : List ℕ) → list_all is_digit cs ≡ true
-    → is_grouped group behind cs ≡ true
-is_grouped-digits group behind [] h = refl
-is_grouped-digits group behind (c ∷ cs) h =
+pub is_grouped-digits : (group : Option ℕ) (after : Bool) (cs : List ℕ) → list_all is_digit cs ≡ true
+    → is_grouped group after cs ≡ true
+is_grouped-digits group after [] h = refl
+is_grouped-digits group after (c ∷ cs) h =
     let parts = and_parts (is_digit c) (list_all is_digit cs) h in
     rw parts.0 (is_grouped-digits group true cs parts.1)
 
@@ -194,21 +197,21 @@ filter-digits (c ∷ cs) h =
 pub parts_of-whole : (cs : List ℕ) → list_all is_digit cs ≡ true
     → parts_of default_spelling cs ≡ record { whole = cs; fraction = []; exponent = None }
 parts_of-whole cs h =
-    let exponent = split_mark-none is_exponent_mark cs (list_all-without is_exponent_mark is_digit-no_mark cs h) in
+    let exponent = split_at_first-none is_exponent_mark cs (list_all-without is_exponent_mark is_digit-no_mark cs h) in
     let point =
-    split_mark-none (is_point default_spelling) cs
+    split_at_first-none (is_point default_spelling) cs
     (list_all-without (is_point default_spelling) (is_digit-no_point default_spelling) cs h) in
     rw (exponent, point) refl
 
 pub parts_of-fraction : (cs ds : List ℕ) → list_all is_digit cs ≡ true → list_all is_digit ds ≡ true
     → parts_of default_spelling (cs ++ 46 ∷ ds) ≡ record { whole = cs; fraction = ds; exponent = None }
 parts_of-fraction cs ds h k =
-    let exponent : split_mark is_exponent_mark (cs ++ 46 ∷ ds) ≡ cut (cs ++ 46 ∷ ds) None =
-    split_mark-none is_exponent_mark (cs ++ 46 ∷ ds)
+    let exponent : split_at_first is_exponent_mark (cs ++ 46 ∷ ds) ≡ cut (cs ++ 46 ∷ ds) None =
+    split_at_first-none is_exponent_mark (cs ++ 46 ∷ ds)
     (without (list_all-without is_exponent_mark is_digit-no_mark cs h)
     (list_all-without is_exponent_mark is_digit-no_mark ds k)) in
     let point =
-    split_mark-at (is_point default_spelling) cs 46 ds
+    split_at_first-at (is_point default_spelling) cs 46 ds
     (list_all-without (is_point default_spelling) (is_digit-no_point default_spelling) cs h) refl in
     rw (exponent, point) refl
   where
@@ -216,7 +219,7 @@ parts_of-fraction cs ds h k =
         → list_all (λ c. not (is_exponent_mark c)) (cs ++ 46 ∷ ds) ≡ true
     without a b = rw list_all-append (rw a b)
 
--- the digits of a printed number spell it, once the places that aren't written are put back
+-- The digits of a printed number spell it once the trailing zeros are put back.
 pub printed : (size pad : ℕ) (ws fs : List ℕ) → list_all is_digit ws ≡ true → list_all is_digit fs ≡ true
     → is_empty ws ≡ false → length fs + pad ≡ 9 → spelled ws ≡ size / 10 ^ 9 → spelled fs * 10 ^ pad ≡ size % 10 ^ 9
     → size < 10 ^ 27

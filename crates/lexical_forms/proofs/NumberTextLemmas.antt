@@ -1,4 +1,4 @@
--- Printed numbers are read back.
+-- Printed numbers read back as the same numbers.
 use Rattle.std.proofs.Common.{◌≡◌, ◌≢◌, ℕ, zero, suc, ◌+◌, ◌/◌, ◌%◌, ◌^◌, ◌<◌, ◌≤◌, true, false, eqb, refl, sym, ap}
 use Rattle.std.proofs.Common.{◌∙◌, arith, Bool, List, [], ◌∷◌, ◌++◌, ℤ, pos, negsuc, append-nil, append_assoc}
 use Rattle.std.specs.Prelude.{Some, decimal, unsigned_abs}
@@ -10,7 +10,8 @@ use Rattle.std.proofs.lemmas.Bool.{and_parts, cond-false, ne_eqb}
 use Rattle.std.proofs.lemmas.Bool.Decides.{nat_tests}
 use Rattle.std.proofs.lemmas.Str.{IsAscii-append, chars-IsAscii}
 use Rattle.lexical_forms.specs.Digits.{is_digit, is_sign, is_empty, is_negative, unsigned}
-use Rattle.lexical_forms.specs.Number.{parts_of, unsigned_reading, bare_reading, number_reading, default_spelling}
+use Rattle.lexical_forms.specs.Number.{parts_of, unsigned_reading, number_text_reading, number_reading}
+use Rattle.lexical_forms.specs.Number.{default_spelling}
 use Rattle.lexical_forms.specs.NumberText.{places_text, fraction_text, size_text, number_text}
 use Rattle.lexical_forms.proofs.NumberLemmas.{is_digit-bounds, decimal-Numeral, Numeral, places_text-Places, Places}
 use Rattle.lexical_forms.proofs.NumberLemmas.{parts_of-whole, parts_of-fraction, printed}
@@ -32,7 +33,7 @@ IsAscii-digits (c ∷ cs) h =
 
 -- ---- numbers
 
--- A text that begins with digits has no sign.
+-- A text that starts with digits has no sign.
 unsigned-digits : (ws cs : List ℕ) → list_all is_digit ws ≡ true → is_empty ws ≡ false
     → (unsigned (ws ++ cs) ≡ ws ++ cs) × (is_negative (ws ++ cs) ≡ false)
 unsigned-digits [] cs h e = cc
@@ -50,7 +51,7 @@ unsigned-digits (w ∷ ws) cs h e =
 
 record Sized (n : ℕ) : Type 0 where
   reading : unsigned_reading default_spelling (parts_of default_spelling (size_text n)) ≡ Some n
-  bare : unsigned (size_text n) ≡ size_text n
+  no_sign : unsigned (size_text n) ≡ size_text n
   positive : is_negative (size_text n) ≡ false
   ascii : IsAscii (size_text n)
 
@@ -73,7 +74,7 @@ size_text-Sized n h = by_fraction (eqb (n % 10 ^ 9) 0) refl
           reading = ap (λ t. unsigned_reading default_spelling (parts_of default_spelling t)) text
               ∙ (ap (unsigned_reading default_spelling) (parts_of-whole (decimal (n / 10 ^ 9)) ws.digits)
               ∙ (printed n 9 (decimal (n / 10 ^ 9)) [] ws.digits refl ws.some refl ws.spells (sym zero_rest) h));
-          bare = first.0;
+          no_sign = first.0;
           positive = first.1;
           ascii = rw text (IsAscii-digits (decimal (n / 10 ^ 9)) ws.digits);
         }
@@ -87,7 +88,7 @@ size_text-Sized n h = by_fraction (eqb (n % 10 ^ 9) 0) refl
               (parts_of-fraction (decimal (n / 10 ^ 9)) (places_text 9 (n % 10 ^ 9)) ws.digits fs.digits)
               ∙ (printed n fs.pad (decimal (n / 10 ^ 9)) (places_text 9 (n % 10 ^ 9)) ws.digits fs.digits ws.some
               fs.count ws.spells fs.spells h));
-          bare = first.0;
+          no_sign = first.0;
           positive = first.1;
           ascii = rw text
               (IsAscii-append (decimal (n / 10 ^ 9)) (46 ∷ places_text 9 (n % 10 ^ 9))
@@ -96,12 +97,12 @@ size_text-Sized n h = by_fraction (eqb (n % 10 ^ 9) 0) refl
               (IsAscii-digits (places_text 9 (n % 10 ^ 9)) fs.digits)));
         }
 
-number_text-bare : (z : ℤ) → unsigned_abs z < 10 ^ 27 → bare_reading default_spelling (number_text z) ≡ Some z
-unfolding bare_reading
-number_text-bare (pos n) h =
+number_text-reading : (z : ℤ) → unsigned_abs z < 10 ^ 27 → number_text_reading default_spelling (number_text z) ≡ Some z
+unfolding number_text_reading
+number_text-reading (pos n) h =
     let sized = size_text-Sized n h in
-    rw (sized.bare, sized.positive, sized.reading) refl
-number_text-bare (negsuc n) h =
+    rw (sized.no_sign, sized.positive, sized.reading) refl
+number_text-reading (negsuc n) h =
     let sized = size_text-Sized (suc n) h in
     rw sized.reading refl
 
@@ -109,14 +110,14 @@ number_text-IsAscii : (z : ℤ) → unsigned_abs z < 10 ^ 27 → IsAscii (number
 number_text-IsAscii (pos n) h = (size_text-Sized n h).ascii
 number_text-IsAscii (negsuc n) h = IsAscii-cons 45 (size_text (suc n)) (omega arith) (size_text-Sized (suc n) h).ascii
 
--- A printed number is read as that number.
+-- A printed number reads as that number.
 pub number_text-back : (z : ℤ) → unsigned_abs z < 10 ^ 27
     → number_reading default_spelling (chars (number_text z)) ≡ Some z
-number_text-back z h = rw (chars-IsAscii (number_text z) (number_text-IsAscii z h)) (number_text-bare z h)
+number_text-back z h = rw (chars-IsAscii (number_text z) (number_text-IsAscii z h)) (number_text-reading z h)
 
--- ---- the fraction of a number, as it is written
+-- ---- the fraction of a number, as it is printed
 
--- What is known while it is written: what is written and what is left to write make the whole.
+-- The invariant while it is printed: the printed part and the remaining part make up the fraction.
 abbrev pub FractionSoFar : List ℕ → List ℕ → ℕ → ℕ → ℕ → Type 0
 FractionSoFar text start rest unit billionths =
     (left : ℕ) × (left ≤ 9) × (rest < 10 ^ left) × (unit ≡ 10 ^ left / 10)
@@ -157,10 +158,6 @@ fraction-turn text start rest unit billionths so_far some = by_left so_far.0 so_
                 ∙ sym (ap (λ xs. text ++ xs) first) ∙ written,
           );
         }
-
-pub fraction-start : (start : List ℕ) (billionths : ℕ) → billionths < 10 ^ 9
-    → FractionSoFar start start billionths 100000000 billionths
-fraction-start start billionths h = (9, omega arith, h, refl, refl)
 
 pub fraction-end : (text start old : List ℕ) (unit billionths rest : ℕ)
     → FractionSoFar text start rest unit billionths → rest ≡ 0 → start ≡ old ++ 46 ∷ [] → billionths ≢ 0

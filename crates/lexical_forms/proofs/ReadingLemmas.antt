@@ -1,4 +1,4 @@
--- Numbers that are put together from the parts that were read.
+-- Numbers that are computed from the parts that were read.
 use Rattle.std.proofs.Common.{◌≡◌, ◌⊎◌, inl, inr, ℕ, zero, suc, ◌+◌, ◌-◌, ◌^◌, ◌<◌, ◌≤◌, true, false, ◌&&◌, ◌||◌, not}
 use Rattle.std.proofs.Common.{cond, eqb, ltb, refl, sym, ap, ◌∙◌, subst, arith, Bool, List, [], ◌∷◌, ◌++◌, length, ℤ}
 use Rattle.std.proofs.Common.{pos, neg_ℤ, ◌+ℤ◌, ◌-ℤ◌, to_z, of_z, length-append}
@@ -12,14 +12,15 @@ use Rattle.lexical_forms.specs.declared.form.NumberForm.{NumberForm}
 use Rattle.lexical_forms.specs.declared.number.significand.Significand.{Significand}
 use Rattle.lexical_forms.specs.Digits.{is_digit, is_digits, is_empty, is_negative, spelled, unsigned, signed}
 use Rattle.lexical_forms.specs.Digits.{from_first}
-use Rattle.lexical_forms.specs.Number.{i64_only, whole_reading, is_grouped, is_exponent_mark, is_point, split_mark}
+use Rattle.lexical_forms.specs.Number.{i64_only, integer_text_reading, is_grouped, is_exponent_mark, is_point}
+use Rattle.lexical_forms.specs.Number.{split_at_first}
 use Rattle.lexical_forms.specs.Number.{Parts, parts_of, digits_of, is_exponent, exponent_of, is_number, scaled}
-use Rattle.lexical_forms.specs.Number.{in_size, billionths_of, unsigned_reading}
-use Rattle.lexical_forms.specs.Significand.{Spells, IsLong, TakesWhole, TakesFraction, IsNumberOf, IsExponentOf}
+use Rattle.lexical_forms.specs.Number.{in_range, billionths_of, unsigned_reading}
+use Rattle.lexical_forms.specs.Significand.{Spells, IsLong, TakesWhole, TakesFraction, IsDigitsValue, IsExponentOf}
 use Rattle.lexical_forms.specs.Significand.{IsInLimits, IsLimited, is_exponent_text, exponent_in, exponent_limit}
-use Rattle.lexical_forms.specs.Significand.{is_stop, whole_in, fraction_in, behind_fraction}
+use Rattle.lexical_forms.specs.Significand.{ends_whole_part, whole_in, fraction_in, after_fraction}
 use Rattle.lexical_forms.proofs.PartLemmas.{whole_in-past, whole_in-here}
-use Rattle.lexical_forms.proofs.NumberLemmas.{split_mark-past, split_mark-here, cut}
+use Rattle.lexical_forms.proofs.NumberLemmas.{split_at_first-past, split_at_first-here, cut}
 use Rattle.lexical_forms.proofs.SignificandLemmas.{IsLong-append, scaled-long}
 
 -- ---- options
@@ -45,20 +46,14 @@ i64_only-large false n h = cond-false _ _ _ (le-ltb n (2 ^ 63) (omega arith))
 i64_only-large true zero h = absurd (omega arith)
 i64_only-large true (suc n) h = cond-false _ _ _ (le-ltb n (2 ^ 63) (omega arith))
 
-pub whole_reading-none : (cs : List ℕ) → IsNumberOf (unsigned cs) None → None ≡ whole_reading cs
-unfolding whole_reading
-whole_reading-none cs (inl h) = sym (cond-false _ _ _ h)
-whole_reading-none cs (inr h) = sym (by_digits (is_digits (unsigned cs)))
+pub integer_text_reading-none : (cs : List ℕ) → IsDigitsValue (unsigned cs) None → None ≡ integer_text_reading cs
+unfolding integer_text_reading
+integer_text_reading-none cs (inl h) = sym (cond-false _ _ _ h)
+integer_text_reading-none cs (inr h) = sym (by_digits (is_digits (unsigned cs)))
   where
     by_digits : (b : Bool) → cond b (i64_only (signed (is_negative cs) (spelled (unsigned cs)))) None ≡ None
     by_digits true = i64_only-large (is_negative cs) (spelled (unsigned cs)) h
     by_digits false = refl
-
-pub whole_reading-some : (cs : List ℕ) (n : ℕ) → is_digits (unsigned cs) ≡ true → spelled (unsigned cs) ≡ n
-    → i64_only (signed (is_negative cs) n) ≡ whole_reading cs
-unfolding whole_reading
-whole_reading-some cs n digits number =
-    sym (cond-true _ _ _ digits ∙ ap (λ k. i64_only (signed (is_negative cs) k)) number)
 
 -- ---- exponents
 
@@ -81,9 +76,9 @@ limited_in cs = min exponent_limit (spelled cs)
 pub negated : (n : ℕ) → n ≤ exponent_limit → to_z w128 (of_z w128 (pos 0 -ℤ to_z w128 n)) ≡ neg_ℤ (pos n)
 negated n h = omega (arith, ints)
 
-pub no_exponent : (text behind : List ℕ) (c : ℕ) → text ≡ c ∷ behind
-    → (is_exponent_mark c && is_digits (unsigned behind)) ≡ false → is_exponent_text text ≡ false
-no_exponent text behind c e h = ap is_exponent_text e ∙ h
+pub no_exponent : (text after : List ℕ) (c : ℕ) → text ≡ c ∷ after
+    → (is_exponent_mark c && is_digits (unsigned after)) ≡ false → is_exponent_text text ≡ false
+no_exponent text after c e h = ap is_exponent_text e ∙ h
 
 pub IsInLimits-signed : (negative : Bool) (n : ℕ) → n ≤ exponent_limit → IsInLimits (signed negative n)
 IsInLimits-signed true n h = (omega (arith, ints), omega (arith, ints))
@@ -95,15 +90,15 @@ unchanged n h = omega (arith, ints)
 pub kept_exponent : (z : ℤ) → IsInLimits z → to_z w128 (of_z w128 z) ≡ z
 kept_exponent z h = omega (arith, ints, h.0, h.1)
 
-pub some_exponent : (text behind : List ℕ) (c n : ℕ) (limited : ℤ) → text ≡ c ∷ behind → is_exponent_mark c ≡ true
-    → is_digits (unsigned behind) ≡ true → n ≡ min exponent_limit (spelled (unsigned behind))
-    → limited ≡ signed (is_negative behind) n → IsExponentOf text (Some limited)
-some_exponent text behind c n limited e mark digits number same = (
+pub some_exponent : (text after : List ℕ) (c n : ℕ) (limited : ℤ) → text ≡ c ∷ after → is_exponent_mark c ≡ true
+    → is_digits (unsigned after) ≡ true → n ≡ min exponent_limit (spelled (unsigned after))
+    → limited ≡ signed (is_negative after) n → IsExponentOf text (Some limited)
+some_exponent text after c n limited e mark digits number same = (
   ap is_exponent_text e ∙ and_from (is_exponent_mark c) _ mark digits,
-  subst IsInLimits (sym same) (IsInLimits-signed (is_negative behind) n (omega arith)),
+  subst IsInLimits (sym same) (IsInLimits-signed (is_negative after) n (omega arith)),
   subst (λ (z : ℤ). IsLimited (exponent_in text) z) (sym same)
-      (subst (λ (xs : List ℕ). IsLimited (exponent_in xs) (signed (is_negative behind) n)) (sym e)
-      (limited_signed (is_negative behind) (spelled (unsigned behind)) n number)),
+      (subst (λ (xs : List ℕ). IsLimited (exponent_in xs) (signed (is_negative after) n)) (sym e)
+      (limited_signed (is_negative after) (spelled (unsigned after)) n number)),
 )
 
 -- ---- the parts of a number are those that are read from the left
@@ -112,12 +107,12 @@ abbrev pub exponent_part : List ℕ → Option (List ℕ)
 exponent_part [] = None
 exponent_part (c ∷ cs) = Some cs
 
-split_mark-behind : (p : ℕ → Bool) (cs : List ℕ) → (split_mark p cs).1 ≡ exponent_part (from_first p cs)
-split_mark-behind p [] = refl
-split_mark-behind p (c ∷ cs) = by_test (split_mark-behind p cs) (p c)
+split_at_first-after : (p : ℕ → Bool) (cs : List ℕ) → (split_at_first p cs).1 ≡ exponent_part (from_first p cs)
+split_at_first-after p [] = refl
+split_at_first-after p (c ∷ cs) = by_test (split_at_first-after p cs) (p c)
   where
-    by_test : (split_mark p cs).1 ≡ exponent_part (from_first p cs) → (b : Bool)
-        → (cond b (cut [] (Some cs)) (cut (c ∷ (split_mark p cs).0) (split_mark p cs).1)).1
+    by_test : (split_at_first p cs).1 ≡ exponent_part (from_first p cs) → (b : Bool)
+        → (cond b (cut [] (Some cs)) (cut (c ∷ (split_at_first p cs).0) (split_at_first p cs).1)).1
         ≡ exponent_part (cond b (c ∷ cs) (from_first p cs))
     by_test ih true = refl
     by_test ih false = ih
@@ -126,65 +121,67 @@ mark-no_point : (form : NumberForm) (c : ℕ) → is_exponent_mark c ≡ true �
 mark-no_point form c h = and_right (eqb c form.decimal && not (is_digit c)) (not (is_exponent_mark c)) (ap not h)
 
 pub record SameParts (form : NumberForm) (cs : List ℕ) : Type 0 where
-  pub whole : (split_mark (is_point form) (split_mark is_exponent_mark cs).0).0 ≡ whole_in form cs
-  pub fraction : unwrap_or (split_mark (is_point form) (split_mark is_exponent_mark cs).0).1 []
-      ≡ fraction_in form (from_first (is_stop form) cs)
-  pub exponent : (split_mark is_exponent_mark cs).1
-      ≡ exponent_part (behind_fraction form (from_first (is_stop form) cs))
+  pub whole : (split_at_first (is_point form) (split_at_first is_exponent_mark cs).0).0 ≡ whole_in form cs
+  pub fraction : unwrap_or (split_at_first (is_point form) (split_at_first is_exponent_mark cs).0).1 []
+      ≡ fraction_in form (from_first (ends_whole_part form) cs)
+  pub exponent : (split_at_first is_exponent_mark cs).1
+      ≡ exponent_part (after_fraction form (from_first (ends_whole_part form) cs))
 
--- One more character in front, in the three cases of what it is.
+-- One more leading character, by the three cases of what it is.
 more_mark : (form : NumberForm) (c : ℕ) (cs : List ℕ) → is_exponent_mark c ≡ true → SameParts form (c ∷ cs)
 more_mark form c cs mark =
-    let split : split_mark is_exponent_mark (c ∷ cs) ≡ cut [] (Some cs) = split_mark-here is_exponent_mark c cs mark in
+    let split : split_at_first is_exponent_mark (c ∷ cs) ≡ cut [] (Some cs) =
+    split_at_first-here is_exponent_mark c cs mark in
     let point = mark-no_point form c mark in
-    let stop : is_stop form c ≡ true = rw (point, mark) refl in
-    let stays : from_first (is_stop form) (c ∷ cs) ≡ c ∷ cs = cond-true _ _ _ stop in
+    let stop : ends_whole_part form c ≡ true = rw (point, mark) refl in
+    let stays : from_first (ends_whole_part form) (c ∷ cs) ≡ c ∷ cs = cond-true _ _ _ stop in
     record {
-      whole = ap (λ (x : List ℕ × Option (List ℕ)). (split_mark (is_point form) x.0).0) split
+      whole = ap (λ (x : List ℕ × Option (List ℕ)). (split_at_first (is_point form) x.0).0) split
           ∙ sym (whole_in-here form c cs stop);
-      fraction = ap (λ (x : List ℕ × Option (List ℕ)). unwrap_or (split_mark (is_point form) x.0).1 []) split
+      fraction = ap (λ (x : List ℕ × Option (List ℕ)). unwrap_or (split_at_first (is_point form) x.0).1 []) split
           ∙ sym (ap (fraction_in form) stays ∙ cond-false _ _ _ point);
       exponent = ap (λ (x : List ℕ × Option (List ℕ)). x.1) split
-          ∙ sym (ap (λ xs. exponent_part (behind_fraction form xs)) stays ∙ ap exponent_part (cond-false _ _ _ point));
+          ∙ sym (ap (λ xs. exponent_part (after_fraction form xs)) stays ∙ ap exponent_part (cond-false _ _ _ point));
     }
 
 more_point : (form : NumberForm) (c : ℕ) (cs : List ℕ) → is_exponent_mark c ≡ false → is_point form c ≡ true
     → SameParts form (c ∷ cs)
 more_point form c cs mark point =
-    let split : split_mark is_exponent_mark (c ∷ cs) ≡ cut (c ∷ (split_mark is_exponent_mark cs).0)
-    (split_mark is_exponent_mark cs).1 = split_mark-past is_exponent_mark c cs mark in
-    let at : split_mark (is_point form) (c ∷ (split_mark is_exponent_mark cs).0)
-    ≡ cut [] (Some (split_mark is_exponent_mark cs).0) =
-    split_mark-here (is_point form) c (split_mark is_exponent_mark cs).0 point in
-    let stop : is_stop form c ≡ true = rw point refl in
-    let stays : from_first (is_stop form) (c ∷ cs) ≡ c ∷ cs = cond-true _ _ _ stop in
+    let split : split_at_first is_exponent_mark (c ∷ cs) ≡ cut (c ∷ (split_at_first is_exponent_mark cs).0)
+    (split_at_first is_exponent_mark cs).1 = split_at_first-past is_exponent_mark c cs mark in
+    let at : split_at_first (is_point form) (c ∷ (split_at_first is_exponent_mark cs).0)
+    ≡ cut [] (Some (split_at_first is_exponent_mark cs).0) =
+    split_at_first-here (is_point form) c (split_at_first is_exponent_mark cs).0 point in
+    let stop : ends_whole_part form c ≡ true = rw point refl in
+    let stays : from_first (ends_whole_part form) (c ∷ cs) ≡ c ∷ cs = cond-true _ _ _ stop in
     record {
-      whole = ap (λ (x : List ℕ × Option (List ℕ)). (split_mark (is_point form) x.0).0) split
+      whole = ap (λ (x : List ℕ × Option (List ℕ)). (split_at_first (is_point form) x.0).0) split
           ∙ ap (λ (x : List ℕ × Option (List ℕ)). x.0) at ∙ sym (whole_in-here form c cs stop);
-      fraction = ap (λ (x : List ℕ × Option (List ℕ)). unwrap_or (split_mark (is_point form) x.0).1 []) split
+      fraction = ap (λ (x : List ℕ × Option (List ℕ)). unwrap_or (split_at_first (is_point form) x.0).1 []) split
           ∙ ap (λ (x : List ℕ × Option (List ℕ)). unwrap_or x.1 []) at ∙ sym
           (ap (fraction_in form) stays ∙ cond-true _ _ _ point);
-      exponent = ap (λ (x : List ℕ × Option (List ℕ)). x.1) split ∙ split_mark-behind is_exponent_mark cs
-          ∙ sym (ap (λ xs. exponent_part (behind_fraction form xs)) stays ∙ ap exponent_part (cond-true _ _ _ point));
+      exponent = ap (λ (x : List ℕ × Option (List ℕ)). x.1) split ∙ split_at_first-after is_exponent_mark cs
+          ∙ sym (ap (λ xs. exponent_part (after_fraction form xs)) stays ∙ ap exponent_part (cond-true _ _ _ point));
     }
 
 more_other : (form : NumberForm) (c : ℕ) (cs : List ℕ) → is_exponent_mark c ≡ false → is_point form c ≡ false
     → SameParts form cs → SameParts form (c ∷ cs)
 more_other form c cs mark point same =
-    let split : split_mark is_exponent_mark (c ∷ cs) ≡ cut (c ∷ (split_mark is_exponent_mark cs).0)
-    (split_mark is_exponent_mark cs).1 = split_mark-past is_exponent_mark c cs mark in
-    let at = split_mark-past (is_point form) c (split_mark is_exponent_mark cs).0 point in
-    let stop : is_stop form c ≡ false = rw (point, mark) refl in
-    let goes_on : from_first (is_stop form) (c ∷ cs) ≡ from_first (is_stop form) cs = cond-false _ _ _ stop in
+    let split : split_at_first is_exponent_mark (c ∷ cs) ≡ cut (c ∷ (split_at_first is_exponent_mark cs).0)
+    (split_at_first is_exponent_mark cs).1 = split_at_first-past is_exponent_mark c cs mark in
+    let at = split_at_first-past (is_point form) c (split_at_first is_exponent_mark cs).0 point in
+    let stop : ends_whole_part form c ≡ false = rw (point, mark) refl in
+    let goes_on : from_first (ends_whole_part form) (c ∷ cs) ≡ from_first (ends_whole_part form) cs =
+    cond-false _ _ _ stop in
     record {
-      whole = ap (λ (x : List ℕ × Option (List ℕ)). (split_mark (is_point form) x.0).0) split
+      whole = ap (λ (x : List ℕ × Option (List ℕ)). (split_at_first (is_point form) x.0).0) split
           ∙ ap (λ (x : List ℕ × Option (List ℕ)). x.0) at ∙ ap (λ xs. c ∷ xs) same.whole
           ∙ sym (whole_in-past form c cs stop);
-      fraction = ap (λ (x : List ℕ × Option (List ℕ)). unwrap_or (split_mark (is_point form) x.0).1 []) split
+      fraction = ap (λ (x : List ℕ × Option (List ℕ)). unwrap_or (split_at_first (is_point form) x.0).1 []) split
           ∙ ap (λ (x : List ℕ × Option (List ℕ)). unwrap_or x.1 []) at ∙ same.fraction
           ∙ sym (ap (fraction_in form) goes_on);
       exponent = ap (λ (x : List ℕ × Option (List ℕ)). x.1) split ∙ same.exponent
-          ∙ sym (ap (λ xs. exponent_part (behind_fraction form xs)) goes_on);
+          ∙ sym (ap (λ xs. exponent_part (after_fraction form xs)) goes_on);
     }
 
 same_parts : (form : NumberForm) (cs : List ℕ) → SameParts form cs
@@ -206,8 +203,8 @@ made whole fraction exponent = record { whole = whole; fraction = fraction; expo
 -- The parts of a number, from the left.
 abbrev pub parts_in : NumberForm → List ℕ → Parts
 parts_in form cs =
-    made (whole_in form cs) (fraction_in form (from_first (is_stop form) cs))
-    (exponent_part (behind_fraction form (from_first (is_stop form) cs)))
+    made (whole_in form cs) (fraction_in form (from_first (ends_whole_part form) cs))
+    (exponent_part (after_fraction form (from_first (ends_whole_part form) cs)))
 
 parts_of-in : (form : NumberForm) (cs : List ℕ) → parts_of form cs ≡ parts_in form cs
 parts_of-in form cs =
@@ -240,26 +237,29 @@ reading-no_whole form cs none =
     parts = parts_in form cs
 
     by_digits : IsLong (filter is_digit (whole_in form cs)) → (b : Bool)
-        → list_all is_digit (fraction_in form (from_first (is_stop form) cs)) ≡ b
+        → list_all is_digit (fraction_in form (from_first (ends_whole_part form) cs)) ≡ b
         → (is_number form (parts_in form cs) ≡ false) ⊎ (billionths_of (parts_in form cs) ≡ None)
     by_digits long true digits =
         inr (long_digits (parts_in form cs)
-        (IsLong-append (filter is_digit (whole_in form cs)) (fraction_in form (from_first (is_stop form) cs)) digits
+        (IsLong-append (filter is_digit (whole_in form cs)) (fraction_in form (from_first (ends_whole_part form) cs))
+        digits
         long))
     by_digits long false other = inl (and_left _ _ (and_left _ _ (and_right _ _ other)))
 
     by_case : TakesWhole form cs None
         → (is_number form (parts_in form cs) ≡ false) ⊎ (billionths_of (parts_in form cs) ≡ None)
     by_case (inl h) = inl (and_left _ _ (and_left _ _ (and_left _ _ h)))
-    by_case (inr long) = by_digits long (list_all is_digit (fraction_in form (from_first (is_stop form) cs))) refl
+    by_case (inr long) =
+        by_digits long (list_all is_digit (fraction_in form (from_first (ends_whole_part form) cs))) refl
 
 pub reading-no_fraction : (form : NumberForm) (cs : List ℕ) (digits : Significand)
     → Spells digits (filter is_digit (whole_in form cs))
-    → TakesFraction form digits (from_first (is_stop form) cs) None → None ≡ unsigned_reading form (parts_of form cs)
+    → TakesFraction form digits (from_first (ends_whole_part form) cs) None
+    → None ≡ unsigned_reading form (parts_of form cs)
 reading-no_fraction form cs digits spells none =
     sym (ap (unsigned_reading form) (parts_of-in form cs) ∙ no_number form (parts_in form cs) (by_case none))
   where
-    by_case : TakesFraction form digits (from_first (is_stop form) cs) None
+    by_case : TakesFraction form digits (from_first (ends_whole_part form) cs) None
         → (is_number form (parts_in form cs) ≡ false) ⊎ (billionths_of (parts_in form cs) ≡ None)
     by_case (inl h) = inl (and_left _ _ (and_left _ _ (and_right _ _ h)))
     by_case (inr adds) = inr (long_digits (parts_in form cs) (adds (filter is_digit (whole_in form cs)) spells))
@@ -276,10 +276,10 @@ from_first-passes p (c ∷ cs) = by_test (from_first-passes p cs) (p c) refl
     by_test ih true e = e
     by_test ih false e = ih
 
-behind-passes : (form : NumberForm) (cs : List ℕ) → FirstPasses (is_stop form) cs
-    → FirstPasses is_exponent_mark (behind_fraction form cs)
-behind-passes form [] h = tt
-behind-passes form (c ∷ cs) h = by_test (is_point form c) refl
+after-passes : (form : NumberForm) (cs : List ℕ) → FirstPasses (ends_whole_part form) cs
+    → FirstPasses is_exponent_mark (after_fraction form cs)
+after-passes form [] h = tt
+after-passes form (c ∷ cs) h = by_test (is_point form c) refl
   where
     by_test : (b : Bool) → is_point form c ≡ b
         → FirstPasses is_exponent_mark (cond b (from_first is_exponent_mark cs) (c ∷ cs))
@@ -294,20 +294,20 @@ exponent_in-part : (cs : List ℕ) → exponent_in cs ≡ exponent_of (exponent_
 exponent_in-part [] = refl
 exponent_in-part (c ∷ cs) = refl
 
--- the rest behind the fraction
-abbrev pub behind_in : NumberForm → List ℕ → List ℕ
-behind_in form cs = behind_fraction form (from_first (is_stop form) cs)
+-- the text after the fraction
+abbrev pub exponent_text_in : NumberForm → List ℕ → List ℕ
+exponent_text_in form cs = after_fraction form (from_first (ends_whole_part form) cs)
 
 abbrev pub digits_in : NumberForm → List ℕ → List ℕ
-digits_in form cs = filter is_digit (whole_in form cs) ++ fraction_in form (from_first (is_stop form) cs)
+digits_in form cs = filter is_digit (whole_in form cs) ++ fraction_in form (from_first (ends_whole_part form) cs)
 
 exponent_test : (form : NumberForm) (cs : List ℕ)
-    → is_exponent_text (behind_in form cs) ≡ is_exponent (exponent_part (behind_in form cs))
+    → is_exponent_text (exponent_text_in form cs) ≡ is_exponent (exponent_part (exponent_text_in form cs))
 exponent_test form cs =
-    mark_text (behind_in form cs)
-    (behind-passes form (from_first (is_stop form) cs) (from_first-passes (is_stop form) cs))
+    mark_text (exponent_text_in form cs)
+    (after-passes form (from_first (ends_whole_part form) cs) (from_first-passes (ends_whole_part form) cs))
 
-pub reading-no_exponent : (form : NumberForm) (cs : List ℕ) → is_exponent_text (behind_in form cs) ≡ false
+pub reading-no_exponent : (form : NumberForm) (cs : List ℕ) → is_exponent_text (exponent_text_in form cs) ≡ false
     → None ≡ unsigned_reading form (parts_of form cs)
 reading-no_exponent form cs h =
     sym (ap (unsigned_reading form) (parts_of-in form cs)
@@ -325,30 +325,31 @@ some_digits [] h = absurd (h refl)
 some_digits (c ∷ cs) h = refl
 
 pub reading-number : (form : NumberForm) (cs : List ℕ) → is_grouped form.group false (whole_in form cs) ≡ true
-    → list_all is_digit (fraction_in form (from_first (is_stop form) cs)) ≡ true
-    → (length (digits_in form cs) ≡ 0 → ⊥) → is_exponent_text (behind_in form cs) ≡ true
-    → option_and_then in_size
+    → list_all is_digit (fraction_in form (from_first (ends_whole_part form) cs)) ≡ true
+    → (length (digits_in form cs) ≡ 0 → ⊥) → is_exponent_text (exponent_text_in form cs) ≡ true
+    → option_and_then in_range
     (scaled (spelled (digits_in form cs))
-    (pos 9 +ℤ exponent_in (behind_in form cs) -ℤ pos (length (fraction_in form (from_first (is_stop form) cs)))))
+    (pos 9 +ℤ exponent_in (exponent_text_in form cs)
+    -ℤ pos (length (fraction_in form (from_first (ends_whole_part form) cs)))))
     ≡ unsigned_reading form (parts_of form cs)
 reading-number form cs grouped digits some exponent =
     let number : is_number form (parts_in form cs) ≡ true =
     and_from _ _ (and_from _ _ (and_from _ _ grouped digits) (ap not (some_digits (digits_in form cs) some)))
     (sym (exponent_test form cs) ∙ exponent) in
-    ap (λ (z : ℤ). option_and_then in_size
+    ap (λ (z : ℤ). option_and_then in_range
     (scaled (spelled (digits_in form cs))
-    (pos 9 +ℤ z -ℤ pos (length (fraction_in form (from_first (is_stop form) cs))))))
-    (exponent_in-part (behind_in form cs))
+    (pos 9 +ℤ z -ℤ pos (length (fraction_in form (from_first (ends_whole_part form) cs))))))
+    (exponent_in-part (exponent_text_in form cs))
     ∙ sym (ap (unsigned_reading form) (parts_of-in form cs) ∙ cond-true _ _ _ number)
 
--- ---- how long the parts are
+-- ---- the lengths of the parts
 
-length-from_first : (p : ℕ → Bool) (cs : List ℕ) → length (split_mark p cs).0 + length (from_first p cs) ≡ length cs
+length-from_first : (p : ℕ → Bool) (cs : List ℕ) → length (split_at_first p cs).0 + length (from_first p cs) ≡ length cs
 length-from_first p [] = refl
 length-from_first p (c ∷ cs) = by_test (length-from_first p cs) (p c)
   where
-    by_test : length (split_mark p cs).0 + length (from_first p cs) ≡ length cs → (b : Bool)
-        → length (cond b (cut [] (Some cs)) (cut (c ∷ (split_mark p cs).0) (split_mark p cs).1)).0 + length
+    by_test : length (split_at_first p cs).0 + length (from_first p cs) ≡ length cs → (b : Bool)
+        → length (cond b (cut [] (Some cs)) (cut (c ∷ (split_at_first p cs).0) (split_at_first p cs).1)).0 + length
         (cond b (c ∷ cs) (from_first p cs)) ≡ suc (length cs)
     by_test ih true = omega arith
     by_test ih false = omega arith
@@ -363,8 +364,8 @@ length-filter-le (c ∷ cs) = by_test (length-filter-le cs) (is_digit c)
     by_test ih false = omega arith
 
 pub room_left : (form : NumberForm) (cs : List ℕ)
-    → length (filter is_digit (whole_in form cs)) + length (from_first (is_stop form) cs) ≤ length cs
-room_left form cs = omega (arith, length-from_first (is_stop form) cs, length-filter-le (whole_in form cs))
+    → length (filter is_digit (whole_in form cs)) + length (from_first (ends_whole_part form) cs) ≤ length cs
+room_left form cs = omega (arith, length-from_first (ends_whole_part form) cs, length-filter-le (whole_in form cs))
 
 -- ---- what was read from the left
 
@@ -374,10 +375,10 @@ took digits rest = Some (digits, rest)
 -- The whole part and the fraction are read.
 record Read (form : NumberForm) (cs tail : List ℕ) (digits all : Significand) : Type 0 where
   grouped : is_grouped form.group false (whole_in form cs) ≡ true
-  places : list_all is_digit (fraction_in form (from_first (is_stop form) cs)) ≡ true
+  places : list_all is_digit (fraction_in form (from_first (ends_whole_part form) cs)) ≡ true
   whole : Spells digits (filter is_digit (whole_in form cs))
   spells : Spells all (digits_in form cs)
-  left : tail ≡ behind_in form cs
+  left : tail ≡ exponent_text_in form cs
 
 read_of : (form : NumberForm) (cs rest tail : List ℕ) (digits all : Significand)
     → TakesWhole form cs (took digits rest) → TakesFraction form digits rest (took all tail)
@@ -412,16 +413,16 @@ empty_read form cs rest tail digits all whole fraction h =
     let read = read_of form cs rest tail digits all whole fraction in
     reading-empty form cs (sym read.spells.counted ∙ h)
 
-pub number_read : (form : NumberForm) (cs rest tail : List ℕ) (digits all : Significand) (exponent given behind : ℤ)
+pub number_read : (form : NumberForm) (cs rest tail : List ℕ) (digits all : Significand) (exponent given after : ℤ)
     (result : Option ℕ) → TakesWhole form cs (took digits rest) → TakesFraction form digits rest (took all tail)
     → (all.count ≡ 0 → ⊥) → IsExponentOf tail (Some exponent) → given ≡ exponent
-    → behind ≡ pos (all.count - digits.count)
+    → after ≡ pos (all.count - digits.count)
     → ((ds : List ℕ) (e : ℤ) → Spells all ds → IsLimited e given
-    → result ≡ option_and_then in_size (scaled (spelled ds) (pos 9 +ℤ e -ℤ behind)))
+    → result ≡ option_and_then in_range (scaled (spelled ds) (pos 9 +ℤ e -ℤ after)))
     → result ≡ unsigned_reading form (parts_of form cs)
-number_read form cs rest tail digits all exponent given behind result whole fraction some limited kept same is =
+number_read form cs rest tail digits all exponent given after result whole fraction some limited kept same is =
     let read = read_of form cs rest tail digits all whole fraction in
-    let places = fraction_in form (from_first (is_stop form) cs) in
+    let places = fraction_in form (from_first (ends_whole_part form) cs) in
     let count : all.count - digits.count ≡ length places =
     omega (
       arith,
@@ -430,12 +431,12 @@ number_read form cs rest tail digits all exponent given behind result whole frac
       length-append (filter is_digit (whole_in form cs))
           places,
     ) in
-    let there : IsExponentOf (behind_in form cs) (Some exponent) =
+    let there : IsExponentOf (exponent_text_in form cs) (Some exponent) =
     subst (λ (xs : List ℕ). IsExponentOf xs (Some exponent)) read.left limited in
-    is (digits_in form cs) (exponent_in (behind_in form cs)) read.spells
-    (subst (λ (z : ℤ). IsLimited (exponent_in (behind_in form cs)) z) (sym kept) there.2)
-    ∙ ap (λ (z : ℤ). option_and_then in_size
-    (scaled (spelled (digits_in form cs)) (pos 9 +ℤ exponent_in (behind_in form cs) -ℤ z))) (same ∙ ap pos count)
+    is (digits_in form cs) (exponent_in (exponent_text_in form cs)) read.spells
+    (subst (λ (z : ℤ). IsLimited (exponent_in (exponent_text_in form cs)) z) (sym kept) there.2)
+    ∙ ap (λ (z : ℤ). option_and_then in_range
+    (scaled (spelled (digits_in form cs)) (pos 9 +ℤ exponent_in (exponent_text_in form cs) -ℤ z))) (same ∙ ap pos count)
     ∙ reading-number form cs read.grouped read.places (λ h. some (read.spells.counted ∙ h)) there.0
 
 pub unsigned_reading-small : (form : NumberForm) (parts : Parts) (n : ℕ) → Some n ≡ unsigned_reading form parts
@@ -443,7 +444,7 @@ pub unsigned_reading-small : (form : NumberForm) (parts : Parts) (n : ℕ) → S
 unsigned_reading-small form parts n e =
     let size = (if-some (is_number form parts) (billionths_of parts) n (sym e)).1 in
     let found =
-    then-some in_size
+    then-some in_range
     (scaled (spelled (digits_of parts)) (pos 9 +ℤ exponent_of parts.exponent -ℤ pos (length parts.fraction))) n
     size in
     let small = if-some (ltb found.0 (10 ^ 27)) (Some found.0) n found.2 in

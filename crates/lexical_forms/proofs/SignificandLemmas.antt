@@ -17,7 +17,7 @@ use Rattle.std.proofs.lemmas.Bool.{cases_lt, le-ltb, eq-eqb, eqb-true, ltb-true,
 use Rattle.std.proofs.lemmas.Bool.{cond-false}
 use Rattle.lexical_forms.specs.declared.number.significand.Significand.{Significand}
 use Rattle.lexical_forms.specs.Digits.{is_digit, spelled}
-use Rattle.lexical_forms.specs.Number.{scaled, in_size}
+use Rattle.lexical_forms.specs.Number.{scaled, in_range}
 use Rattle.lexical_forms.specs.Significand.{Spells, IsLong, Adds, IsLimited}
 use Rattle.lexical_forms.proofs.NumberLemmas.{spelled-append, spelled-push, spelled-lt}
 
@@ -42,7 +42,7 @@ long_already value start k zeros e h long =
 ten : (k : ℕ) → 0 < 10 ^ k
 ten k = one-le-pow k 10 (omega arith)
 
--- ---- long numbers
+-- ---- numbers that are too long
 
 times_power : (value k : ℕ) → (value * 10 ^ suc k) % 10 ≡ 0
 times_power value k =
@@ -56,7 +56,7 @@ pub IsLong-last : (cs : List ℕ) → 10 ^ 27 ≤ spelled cs → 0 < spelled cs 
 IsLong-last cs long last value zero e = omega arith
 IsLong-last cs long last value (suc k) e = absurd (omega (arith, times_power value k, ap (λ n. n % 10) e))
 
--- What follows a long number makes it longer.
+-- Appending digits keeps a too long number too long.
 pub IsLong-append : (cs ds : List ℕ) → list_all is_digit ds ≡ true → IsLong cs → IsLong (cs ++ ds)
 IsLong-append cs ds digits long value zeros e =
     let total : spelled cs * 10 ^ length ds + spelled ds ≡ value * 10 ^ zeros = sym (spelled-append cs ds) ∙ e in
@@ -98,8 +98,8 @@ IsLong-append cs ds digits long value zeros e =
             let total : s * p + t ≡ v * w * p + 0 = omega (arith, ap (λ n. v * n) e) in
             (same_from_place s t (v * w) 0 p h (omega arith) total).0
 
--- A long number is no number of billionths.
-pub scaled-long : (cs : List ℕ) (e : ℤ) → IsLong cs → option_and_then in_size (scaled (spelled cs) e) ≡ None
+-- A too long number isn't a number of billionths.
+pub scaled-long : (cs : List ℕ) (e : ℤ) → IsLong cs → option_and_then in_range (scaled (spelled cs) e) ≡ None
 scaled-long cs (pos up) long =
     let big : 10 ^ 27 ≤ spelled cs = long (spelled cs) 0 (omega arith) in
     let size : ltb (spelled cs * 10 ^ up) (10 ^ 27) ≡ false =
@@ -108,7 +108,7 @@ scaled-long cs (pos up) long =
 scaled-long cs (negsuc down) long = by_rest (eqb (spelled cs % 10 ^ suc down) 0) refl
   where
     by_rest : (b : Bool) → eqb (spelled cs % 10 ^ suc down) 0 ≡ b
-        → option_and_then in_size (cond b (Some (spelled cs / 10 ^ suc down)) None) ≡ None
+        → option_and_then in_range (cond b (Some (spelled cs / 10 ^ suc down)) None) ≡ None
     by_rest true e =
         let rest : spelled cs % 10 ^ suc down ≡ 0 = eqb-true (spelled cs % 10 ^ suc down) 0 e in
         let total : spelled cs ≡ spelled cs / 10 ^ suc down * 10 ^ suc down =
@@ -121,7 +121,7 @@ scaled-long cs (negsuc down) long = by_rest (eqb (spelled cs % 10 ^ suc down) 0)
 
 -- ---- the size of a number in billionths
 
--- The point is moved behind the last zero that is left.
+-- The decimal point moves to the end of the trailing zeros.
 pub scaled-exact : (value zeros k : ℕ) (e : ℤ) → e +ℤ pos zeros ≡ pos k
     → scaled (value * 10 ^ zeros) e ≡ Some (value * 10 ^ k)
 scaled-exact value zeros k (pos up) h =
@@ -161,8 +161,8 @@ scaled-low value places (negsuc down) last h =
         eq_of_mul-eq-mul_right (10 ^ places) (ten places) value (quotient * 10 ^ suc (down - places)) total in
         omega (arith, times_power quotient (down - places), ap (λ x. x % 10) same)
 
-in_size-high : (value k : ℕ) → 0 < value → 26 < k → in_size (value * 10 ^ k) ≡ None
-in_size-high value k h high =
+in_range-high : (value k : ℕ) → 0 < value → 26 < k → in_range (value * 10 ^ k) ≡ None
+in_range-high value k h high =
     let bound : 10 ^ 27 ≤ 10 ^ k = pow-le-pow_right (omega arith) high in
     let raised : 1 * 10 ^ k ≤ value * 10 ^ k = mul-le-mul_right (10 ^ k) h in
     cond-false _ _ _ (le-ltb (value * 10 ^ k) (10 ^ 27) (omega (arith, bound, raised)))
@@ -171,12 +171,12 @@ pub natural : (z : ℤ) → pos 0 ≤ℤ z → z ≡ pos (unsigned_abs z)
 natural (pos n) h = refl
 natural (negsuc n) h = absurd (omega (arith, ints))
 
--- What the size in billionths is, by how many zeros stand behind the value then.
+-- The size in billionths, by the count of zeros after the value.
 pub record Moved (digits : Significand) (cs : List ℕ) (e z : ℤ) : Type 0 where
-  pub low : z <ℤ pos 0 → option_and_then in_size (scaled (spelled cs) e) ≡ None
-  pub high : pos 26 <ℤ z → option_and_then in_size (scaled (spelled cs) e) ≡ None
+  pub low : z <ℤ pos 0 → option_and_then in_range (scaled (spelled cs) e) ≡ None
+  pub high : pos 26 <ℤ z → option_and_then in_range (scaled (spelled cs) e) ≡ None
   pub exact : (k : ℕ) → z ≡ pos k → k ≤ 26
-      → option_and_then in_size (scaled (spelled cs) e) ≡ in_size (digits.value * 10 ^ k)
+      → option_and_then in_range (scaled (spelled cs) e) ≡ in_range (digits.value * 10 ^ k)
 
 moved-by : (digits : Significand) (cs : List ℕ) (e z : ℤ) → Spells digits cs → 0 < digits.value % 10
     → (z <ℤ pos 0 → (e +ℤ pos digits.zeros) <ℤ pos 0) → (pos 26 <ℤ z → pos 26 <ℤ (e +ℤ pos digits.zeros))
@@ -190,24 +190,24 @@ moved-by digits cs e z spells last low high exact = record {
     number : spelled cs ≡ digits.value * 10 ^ digits.zeros
     number = spells.number
 
-    above : pos 26 <ℤ (e +ℤ pos digits.zeros) → option_and_then in_size (scaled (spelled cs) e) ≡ None
+    above : pos 26 <ℤ (e +ℤ pos digits.zeros) → option_and_then in_range (scaled (spelled cs) e) ≡ None
     above h =
         let k = unsigned_abs (e +ℤ pos digits.zeros) in
         let there : e +ℤ pos digits.zeros ≡ pos k = natural (e +ℤ pos digits.zeros) (omega (arith, ints)) in
         let filled : 0 < digits.value = omega arith in
         rw number
         (rw (scaled-exact digits.value digits.zeros k e there)
-        (in_size-high digits.value k filled (omega (arith, ints))))
+        (in_range-high digits.value k filled (omega (arith, ints))))
 
-pub moved : (digits : Significand) (cs : List ℕ) (whole exponent behind : ℤ) → Spells digits cs
-    → IsLimited whole exponent → digits.value ≢ 0 → digits.zeros < 2 ^ 64 → pos 0 ≤ℤ behind → behind <ℤ pos (2 ^ 64)
-    → Moved digits cs (pos 9 +ℤ whole -ℤ behind) (pos 9 +ℤ exponent +ℤ pos digits.zeros -ℤ behind)
-moved digits cs whole exponent behind spells limited some small low high =
+pub moved : (digits : Significand) (cs : List ℕ) (whole exponent after : ℤ) → Spells digits cs
+    → IsLimited whole exponent → digits.value ≢ 0 → digits.zeros < 2 ^ 64 → pos 0 ≤ℤ after → after <ℤ pos (2 ^ 64)
+    → Moved digits cs (pos 9 +ℤ whole -ℤ after) (pos 9 +ℤ exponent +ℤ pos digits.zeros -ℤ after)
+moved digits cs whole exponent after spells limited some small low high =
     let last : 0 < digits.value % 10 = ⊎_elim (λ h. absurd (some h.0)) (λ h. h) spells.trimmed in
     by_case last limited
   where
     by_case : 0 < digits.value % 10 → IsLimited whole exponent
-        → Moved digits cs (pos 9 +ℤ whole -ℤ behind) (pos 9 +ℤ exponent +ℤ pos digits.zeros -ℤ behind)
+        → Moved digits cs (pos 9 +ℤ whole -ℤ after) (pos 9 +ℤ exponent +ℤ pos digits.zeros -ℤ after)
     by_case last (inl e) = moved-by digits cs _ _ spells last (λ h. omega (arith, ints)) (λ h. omega (arith, ints))
         (λ k h le. omega (arith, ints))
     by_case last (inr (inl e)) = moved-by digits cs _ _ spells last (λ h. omega (arith, ints, e.0, e.1))
@@ -216,25 +216,25 @@ moved digits cs whole exponent behind spells limited some small low high =
         (λ h. omega (arith, ints, e.0, e.1)) (λ k h le. omega (arith, ints, e.0, e.1))
 
 -- the sum of the zeros, as it is computed
-pub zeros_computed : (exponent other behind : ℤ) (places : ℕ) → neg_ℤ (pos (2 ^ 100)) ≤ℤ exponent
-    → exponent ≤ℤ pos (2 ^ 100) → other ≡ pos places → places < 2 ^ 64 → pos 0 ≤ℤ behind → behind <ℤ pos (2 ^ 64)
+pub zeros_computed : (exponent other after : ℤ) (places : ℕ) → neg_ℤ (pos (2 ^ 100)) ≤ℤ exponent
+    → exponent ≤ℤ pos (2 ^ 100) → other ≡ pos places → places < 2 ^ 64 → pos 0 ≤ℤ after → after <ℤ pos (2 ^ 64)
     → to_z w128
     (of_z w128
     (to_z w128
     (of_z w128 (to_z w128 (of_z w128 (pos 9 +ℤ to_z w128 (of_z w128 exponent))) +ℤ to_z w128 (of_z w128 other))) -ℤ
-    to_z w128 (of_z w128 behind))) ≡ pos 9 +ℤ exponent +ℤ pos places -ℤ behind
-zeros_computed exponent other behind places low high same small first last = omega (arith, ints)
+    to_z w128 (of_z w128 after))) ≡ pos 9 +ℤ exponent +ℤ pos places -ℤ after
+zeros_computed exponent other after places low high same small first last = omega (arith, ints)
 
 pub at_zeros : (digits : Significand) (cs : List ℕ) (e z computed : ℤ) → Moved digits cs e z → computed ≡ z
     → lt_z computed (pos 0) ≡ false → lt_z (pos 26) computed ≡ false
-    → in_size (digits.value * 10 ^ unsigned_abs computed) ≡ option_and_then in_size (scaled (spelled cs) e)
+    → in_range (digits.value * 10 ^ unsigned_abs computed) ≡ option_and_then in_range (scaled (spelled cs) e)
 at_zeros digits cs e z computed m same low high =
     let there = natural z (omega (arith, ints)) in
-    ap (λ x. in_size (digits.value * 10 ^ unsigned_abs x)) same
+    ap (λ x. in_range (digits.value * 10 ^ unsigned_abs x)) same
     ∙ sym (m.exact (unsigned_abs z) there (omega (arith, ints)))
 
 pub shifted-is : (o : Option ℕ) (n : ℕ) → IfNone o (10 ^ 27 ≤ n) → IfSome o (λ v. (v ≡ n) × (v < 10 ^ 27))
-    → o ≡ in_size n
+    → o ≡ in_range n
 shifted-is None n h k = sym (cond-false _ _ _ (le-ltb n (10 ^ 27) h))
 shifted-is (Some v) n h k = ap Some k.0 ∙ sym (cond-true _ _ _ (lt-ltb n (10 ^ 27) (omega (arith, k.0, k.1))))
 

@@ -1,4 +1,4 @@
--- The size of a number: moving the point is multiplying and dividing by powers of ten.
+-- The size of a number: moving the decimal point multiplies or divides by powers of ten.
 use Rattle.std.proofs.Common.{◌≡◌, ℕ, suc, ◌+◌, ◌*◌, ◌/◌, ◌%◌, ◌^◌, ◌<◌, refl, sym, ap, ◌∙◌, arith, eqb, ℤ, pos}
 use Rattle.std.proofs.Common.{negsuc, ◌+ℤ◌, ◌-ℤ◌}
 use Rattle.std.specs.Prelude.{Some}
@@ -6,7 +6,7 @@ use Rattle.std.proofs.Math.Nat.{one-le-pow, eq_of_mul-eq-mul_right}
 use Rattle.std.proofs.lemmas.Bool.{eqb-true}
 use Rattle.std.proofs.lemmas.Int.{ints}
 use Rattle.std.proofs.lemmas.Nat.{pow-add, div-add-mod'}
-use Rattle.lexical_forms.specs.Forms.{times, divided}
+use Rattle.lexical_forms.specs.Forms.{multiplier, divisor}
 use Rattle.lexical_forms.specs.Number.{scaled}
 use Rattle.lexical_forms.proofs.ReadingLemmas.{if-some}
 use Rattle.lexical_forms.proofs.SignificandLemmas.{scaled-exact}
@@ -14,14 +14,14 @@ use Rattle.lexical_forms.proofs.SignificandLemmas.{scaled-exact}
 ten : (k : ℕ) → 0 < 10 ^ k
 ten k = one-le-pow k 10 (omega arith)
 
--- a product whose one factor is a product
+-- a product with a factor that is a product
 regroup : (v p q r : ℕ) → r ≡ p * q → v * p * q ≡ v * r
 regroup v p q r e = omega (arith, ap (λ n. v * n) e)
 
 raised : (v j k m : ℕ) → m ≡ j + k → v * 10 ^ j * 10 ^ k ≡ v * 10 ^ m
 raised v j k m e = regroup v (10 ^ j) (10 ^ k) (10 ^ m) (ap (λ n. 10 ^ n) e ∙ pow-add 10 j k)
 
--- What is moved is the equation of the two, over powers of which one is the other moved.
+-- The equation of two numbers stays true when both powers of ten move by the same count.
 scaled-gives : (value n down up : ℕ) (e : ℤ) → e +ℤ pos down ≡ pos up → scaled value e ≡ Some n
     → n * 10 ^ down ≡ value * 10 ^ up
 scaled-gives value n down up (pos k) h e =
@@ -56,7 +56,7 @@ one_more : (a b : ℕ) → a ≡ b → a * 1 ≡ b
 one_more a b e = omega arith
 
 pub size_of : (value n places : ℕ) (power : ℤ) → scaled value (pos 9 +ℤ power -ℤ pos places) ≡ Some n
-    → n * 10 ^ places * divided power ≡ value * 10 ^ 9 * times power
+    → n * 10 ^ places * divisor power ≡ value * 10 ^ 9 * multiplier power
 size_of value n places (pos up) e =
     one_more (n * 10 ^ places) (value * 10 ^ 9 * 10 ^ up)
     (scaled-gives value n places (9 + up) _ (omega (arith, ints)) e ∙ sym (raised value 9 up (9 + up) refl))
@@ -64,7 +64,7 @@ size_of value n places (negsuc down) e =
     raised n places (suc down) (places + suc down) refl
     ∙ scaled-gives value n (places + suc down) 9 _ (omega (arith, ints)) e ∙ sym (one_more (value * 10 ^ 9) _ refl)
 
-pub of_size : (value n places : ℕ) (power : ℤ) → n * 10 ^ places * divided power ≡ value * 10 ^ 9 * times power
+pub of_size : (value n places : ℕ) (power : ℤ) → n * 10 ^ places * divisor power ≡ value * 10 ^ 9 * multiplier power
     → scaled value (pos 9 +ℤ power -ℤ pos places) ≡ Some n
 of_size value n places (pos up) e =
     gives-scaled value n places (9 + up) _ (omega (arith, ints))

@@ -18,7 +18,7 @@ is_empty (x ∷ xs) = false
 abbrev pub is_digits : List ℕ → Bool
 is_digits cs = not (is_empty cs) && list_all is_digit cs
 
--- The number that digits spell: each counts for itself times ten to the power of how many follow it.
+-- The number that digits spell: the sum of each digit times ten to the power of the count of digits after it.
 abbrev pub spelled : List ℕ → ℕ
 spelled [] = 0
 spelled (c ∷ cs) = (c - 48) * 10 ^ length cs + spelled cs
@@ -28,7 +28,7 @@ abbrev pub is_negative : List ℕ → Bool
 is_negative [] = false
 is_negative (c ∷ cs) = c == 45
 
--- what follows the sign, if the text begins with one
+-- the text without its leading sign, if it has one
 abbrev pub unsigned : List ℕ → List ℕ
 unsigned [] = []
 unsigned (c ∷ cs) = if is_sign c then cs else c ∷ cs
@@ -36,11 +36,11 @@ unsigned (c ∷ cs) = if is_sign c then cs else c ∷ cs
 abbrev pub signed : Bool → ℕ → ℤ
 signed negative n = if negative then neg_ℤ (pos n) else pos n
 
--- from the first character that passes on
+-- the text from the first character on that passes the test
 abbrev pub from_first : (ℕ → Bool) → List ℕ → List ℕ
 from_first passes [] = []
 from_first passes (c ∷ cs) = if passes c then c ∷ cs else from_first passes cs
 
--- up to the last character that passes
+-- the text up to the last character that passes the test
 abbrev pub until_last : (ℕ → Bool) → List ℕ → List ℕ
 until_last passes cs = reverse (from_first passes (reverse cs))

@@ -1,7 +1,7 @@
 pub mod Digits
 pub mod FieldName
 pub mod Forms
-pub mod Mark
+pub mod Separator
 pub mod Number
 pub mod NumberText
 pub mod Significand

@@ -1,8 +1,9 @@
--- How numbers are printed.
+-- The texts that numbers are printed as.
 use Rattle.std.specs.Prelude.{ℕ, zero, suc, ◌+◌, ◌/◌, ◌%◌, ◌^◌, ◌==◌, if◌then◌else◌, List, [], ◌∷◌, ◌++◌, decimal, ℤ}
 use Rattle.std.specs.Prelude.{pos, negsuc}
 
--- The decimal places of a number below 10 to the power of so many, from the first on, up to the last that isn't 0.
+-- The first `count` decimal places of a fraction below 10 ^ `count`, without trailing zeros. The count is the first
+-- argument.
 abbrev pub places_text : ℕ → ℕ → List ℕ
 places_text zero rest = []
 places_text (suc more) rest =
@@ -14,8 +15,8 @@ fraction_text billionths = if billionths == 0 then [] else 46 ∷ places_text 9 
 abbrev pub size_text : ℕ → List ℕ
 size_text billionths = decimal (billionths / 10 ^ 9) ++ fraction_text (billionths % 10 ^ 9)
 
--- A number of billionths: `-` where it is below 0, its whole part, and its fraction where it has one, without zeros
--- at the end.
+-- The text of a number of billionths: `-` if it is below 0, its whole part, and its fraction without trailing zeros if
+-- it has one.
 abbrev pub number_text : ℤ → List ℕ
 number_text (pos billionths) = size_text billionths
 number_text (negsuc more) = 45 ∷ size_text (suc more)

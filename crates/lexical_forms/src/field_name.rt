@@ -7,16 +7,16 @@ ghost use Rattle.lexical_forms.specs.FieldName.{begins_with_underscore};
 
 use crate::split::{split_first, split_last};
 
-/// The most bytes of a name.
-const LONGEST_FIELD_NAME: usize = 63;
+/// The maximum length of a field name in bytes.
+const MAX_FIELD_NAME_BYTES: usize = 63;
 
-/// Whether the text may name a field: it is not empty, has no white space at an end, no `_` in front, no double quote,
-/// and at most 63 bytes.
+/// Whether the text is a valid field name: it isn't empty, neither starts nor ends with white space, doesn't start with
+/// `_`, contains no double quote, and has at most 63 bytes.
 pub fn is_field_name(name: &str) -> bool
     ensures { result ≡ is_field_name name.now }
 {
     !name.is_empty()
-        && name.len() <= LONGEST_FIELD_NAME
+        && name.len() <= MAX_FIELD_NAME_BYTES
         && !begins_with_space(name)
         && !ends_with_space(name)
         && !begins_with_underscore(name.as_bytes())

@@ -1,12 +1,12 @@
-//! How numbers are spelled.
+//! The spelling of numbers.
 
-/// How numbers are spelled: `decimalChar`, `groupChar` and `bareNumber`.
+/// The spelling of numbers (Table Schema v1, "number"): `decimalChar`, `groupChar` and `bareNumber`.
 #[derive(Clone, Copy, Debug, PartialEq, Eq)]
 pub struct NumberForm {
-    /// What stands between the whole part and the fraction.
+    /// The character between the whole part and the fraction.
     pub decimal: char,
-    /// What may stand between two digits of the whole part.
+    /// The character that may separate two digits of the whole part.
     pub group: Option<char>,
-    /// Whether nothing else may stand around the number.
+    /// `bareNumber`: whether the text must be the number alone, without other characters before or after it.
     pub bare: bool,
 }

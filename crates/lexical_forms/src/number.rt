@@ -1,12 +1,13 @@
-//! Whole numbers and numbers of texts.
+//! Parses the texts of whole numbers and of numbers (Table Schema v1, "integer" and "number").
 ghost use Rattle.std.specs.Prelude.{◌≡◌, ◌+◌, ◌<◌, ◌^◌, true, false, length, IfSome, IfNone, Some, option_map};
 ghost use Rattle.std.specs.Str.{chars};
 ghost use Rattle.lexical_forms.specs.Digits.{is_negative, unsigned, signed, is_digit, is_sign, from_first, until_last};
-ghost use Rattle.lexical_forms.specs.Number.{integer_reading, whole_reading, number_reading, bare_reading, bare_part};
-ghost use Rattle.lexical_forms.specs.Number.{begins_number, is_that, is_point, unsigned_reading, parts_of};
+ghost use Rattle.lexical_forms.specs.Number.{integer_reading, integer_text_reading, number_reading};
+ghost use Rattle.lexical_forms.specs.Number.{number_text_reading, numeric_part};
+ghost use Rattle.lexical_forms.specs.Number.{begins_number, is_same_character, is_point, unsigned_reading, parts_of};
 ghost use Rattle.lexical_forms.specs.Number.{begins_with_digit, is_exponent_mark, i64_only};
-ghost use Rattle.lexical_forms.specs.Significand.{IsNumberOf, IsLimitedNumberOf, IsExponentOf, IsRead, TakesWhole};
-ghost use Rattle.lexical_forms.specs.Significand.{TakesFraction, TakesDigits, is_stop};
+ghost use Rattle.lexical_forms.specs.Significand.{IsDigitsValue, IsLimitedValue, IsExponentOf, IsRead, TakesWhole};
+ghost use Rattle.lexical_forms.specs.Significand.{TakesFraction, TakesDigits, ends_whole_part};
 
 mod significand;
 
@@ -14,24 +15,25 @@ use crate::form::NumberForm;
 use crate::split::{split_first, split_last};
 use significand::Significand;
 
-/// The whole number of a text.
-pub fn integer_of(bare: bool, text: &str) -> Option<i64>
+/// Parses a text as an integer of 64 bits. If `bare` is false, the characters around the number are ignored. Returns
+/// none if the text is no such integer.
+pub fn parse_integer(bare: bool, text: &str) -> Option<i64>
     ensures { result ≡ integer_reading bare (chars text.now) }
 {
-    whole_of(bare_part(bare, None, text))
+    parse_integer_text(numeric_part(bare, None, text))
 }
 
-// An optional sign and digits.
-#[tactic(auto, unfolding(crate::specs::Number::whole_reading))]
-fn whole_of(text: &str) -> Option<i64>
-    ensures { result ≡ whole_reading (chars text.now) }
+// Parses an optional sign and digits, with nothing around them.
+#[tactic(auto, unfolding(crate::specs::Number::integer_text_reading))]
+fn parse_integer_text(text: &str) -> Option<i64>
+    ensures { result ≡ integer_text_reading (chars text.now) }
 {
     let negative = is_negative(text);
     let magnitude = digits_value(without_sign(text))?;
     signed_i64(negative, magnitude)
 }
 
-// The number with its sign, if it is an `i64`.
+// The number with its sign, if it fits an `i64`.
 fn signed_i64(negative: bool, magnitude: u64) -> Option<i64>
     ensures { result ≡ i64_only (signed negative magnitude) }
 {
@@ -46,36 +48,37 @@ fn signed_i64(negative: bool, magnitude: u64) -> Option<i64>
     }
 }
 
-// The number that the text's digits spell, if it has a digit and nothing else, and they are below 2^64.
+// The number that the digits of the text spell, if the text is one or more digits and the number is below 2^64.
 fn digits_value(text: &str) -> Option<u64>
-    ensures { IsNumberOf (chars text.now) result }
+    ensures { IsDigitsValue (chars text.now) result }
 {
     if text.is_empty() {
         return None;
     }
     let mut value: u64 = 0;
     let mut rest = text;
-    while let Some((character, behind)) = split_first(rest) {
+    while let Some((character, after)) = split_first(rest) {
         let digit = digit_of(character)?;
         value = value.checked_mul(10)?.checked_add(u64::from(digit))?;
-        rest = behind;
+        rest = after;
     }
     Some(value)
 }
 
-/// How many billionths the text is.
-pub fn number_of(form: NumberForm, text: &str) -> Option<i128>
+/// Parses a text as a number and returns it in billionths. Returns none if the text isn't a number in this spelling,
+/// if the number isn't a whole number of billionths, or if its magnitude isn't below 10^27 billionths.
+pub fn parse_number(form: NumberForm, text: &str) -> Option<i128>
     ensures { result ≡ number_reading form (chars text.now) }
 {
-    bare_number_of(form, bare_part(form.bare, Some(form.decimal), text))
+    parse_number_text(form, numeric_part(form.bare, Some(form.decimal), text))
 }
 
-// A number with nothing around it.
-#[tactic(auto, unfolding(crate::specs::Number::bare_reading))]
-fn bare_number_of(form: NumberForm, text: &str) -> Option<i128>
-    ensures { result ≡ bare_reading form (chars text.now) }
+// Parses a number with nothing around it.
+#[tactic(auto, unfolding(crate::specs::Number::number_text_reading))]
+fn parse_number_text(form: NumberForm, text: &str) -> Option<i128>
+    ensures { result ≡ number_text_reading form (chars text.now) }
 {
-    let billionths = unsigned_number_of(form, without_sign(text))?;
+    let billionths = parse_unsigned_number(form, without_sign(text))?;
     if is_negative(text) {
         Some(-(billionths as i128))
     } else {
@@ -83,8 +86,8 @@ fn bare_number_of(form: NumberForm, text: &str) -> Option<i128>
     }
 }
 
-// A number without its sign.
-fn unsigned_number_of(form: NumberForm, text: &str) -> Option<u128>
+// Parses a number without a sign.
+fn parse_unsigned_number(form: NumberForm, text: &str) -> Option<u128>
     ensures value { result ≡ unsigned_reading form (parts_of form (chars text.now)) }
 {
     let (digits, rest) = take_whole(form, text)?;
@@ -96,42 +99,45 @@ fn unsigned_number_of(form: NumberForm, text: &str) -> Option<u128>
     all.billionths((all.count - digits.count) as i128, exponent)
 }
 
-// The digits of the whole part, and the text behind it.
+// Reads the digits of the whole part, and returns the text after it.
 fn take_whole(form: NumberForm, text: &str) -> Option<(Significand, &str)>
     ensures { TakesWhole form (chars text.now) (option_map (λ x. (x.0, chars x.1.now)) result) }
 {
     let mut digits = Significand::new();
-    let mut behind_digit = false;
+    let mut after_digit = false;
     let mut rest = text;
-    while let Some((character, behind)) = split_first(rest) {
+    while let Some((character, after)) = split_first(rest) {
         if let Some(digit) = digit_of(character) {
             digits = digits.push(digit)?;
-            behind_digit = true;
-        } else if is_stop(form, character) {
+            after_digit = true;
+        } else if ends_whole_part(form, character) {
             break;
-        } else if is_that(form.group, character) && behind_digit && begins_with_digit(behind) {
-            behind_digit = false;
+        } else if is_same_character(form.group, character)
+            && after_digit
+            && begins_with_digit(after)
+        {
+            after_digit = false;
         } else {
             return None;
         }
-        rest = behind;
+        rest = after;
     }
     Some((digits, rest))
 }
 
-// The digits with those of the fraction, if the text goes on with one, and the text behind it.
+// Appends the digits of the fraction, if the text starts with one, and returns the text after it.
 fn take_fraction(form: NumberForm, digits: Significand, text: &str) -> Option<(Significand, &str)>
     requires read { IsRead digits }
     requires room { digits.count + length (chars text.now) < 2 ^ 64 }
     ensures { TakesFraction form digits (chars text.now) (option_map (λ x. (x.0, chars x.1.now)) result) }
 {
     match split_first(text) {
-        Some((character, behind)) if is_point(form, character) => take_digits(digits, behind),
+        Some((character, after)) if is_point(form, character) => take_digits(digits, after),
         _ => Some((digits, text)),
     }
 }
 
-// The digits with those in front of the text, and the text behind them.
+// Appends the digits at the start of the text, and returns the text after them.
 fn take_digits(before: Significand, text: &str) -> Option<(Significand, &str)>
     requires read { IsRead before }
     requires room { before.count + length (chars text.now) < 2 ^ 64 }
@@ -139,57 +145,58 @@ fn take_digits(before: Significand, text: &str) -> Option<(Significand, &str)>
 {
     let mut digits = before;
     let mut rest = text;
-    while let Some((character, behind)) = split_first(rest) {
+    while let Some((character, after)) = split_first(rest) {
         if is_exponent_mark(character) {
             break;
         }
         digits = digits.push(digit_of(character)?)?;
-        rest = behind;
+        rest = after;
     }
     Some((digits, rest))
 }
 
-// The exponent of a text that is empty or begins with `e` or `E`. One beyond the limit stands for all beyond it.
+// The exponent of a text that is empty or starts with `e` or `E`. An exponent beyond the limit becomes the limit.
 fn exponent_of(text: &str) -> Option<i128>
     ensures { IsExponentOf (chars text.now) result }
 {
-    let Some((character, behind)) = split_first(text) else {
+    let Some((character, after)) = split_first(text) else {
         return Some(0);
     };
     if !is_exponent_mark(character) {
         return None;
     }
-    let magnitude = limited_value(without_sign(behind))? as i128;
-    if is_negative(behind) {
+    let magnitude = limited_value(without_sign(after))? as i128;
+    if is_negative(after) {
         Some(-magnitude)
     } else {
         Some(magnitude)
     }
 }
 
-/// Above every count of characters, so that an exponent of this size decides alone.
+/// The limit of exponents. It is above every count of characters, so an exponent of this size decides the result alone.
 const EXPONENT_LIMIT: u128 = 1 << 100;
 
-// The number that the text's digits spell, or the limit where that is smaller, if it has a digit and nothing else.
+// The smaller of the limit and the number that the digits of the text spell, if the text is one or more digits.
 fn limited_value(text: &str) -> Option<u128>
-    ensures { IsLimitedNumberOf (chars text.now) result }
+    ensures { IsLimitedValue (chars text.now) result }
 {
     if text.is_empty() {
         return None;
     }
     let mut value: u128 = 0;
     let mut rest = text;
-    while let Some((character, behind)) = split_first(rest) {
+    while let Some((character, after)) = split_first(rest) {
         let digit = digit_of(character)?;
         value = EXPONENT_LIMIT.min(value * 10 + u128::from(digit));
-        rest = behind;
+        rest = after;
     }
     Some(value)
 }
 
-// What is left of a text where only the number in it counts.
-fn bare_part(bare: bool, decimal: Option<char>, text: &str) -> &str
-    ensures { chars result.now ≡ bare_part bare decimal (chars text.now) }
+// The part of the text that is parsed: all of it if `bare`, and otherwise the text without the characters around the
+// number.
+fn numeric_part(bare: bool, decimal: Option<char>, text: &str) -> &str
+    ensures { chars result.now ≡ numeric_part bare decimal (chars text.now) }
 {
     if bare {
         text
@@ -198,21 +205,21 @@ fn bare_part(bare: bool, decimal: Option<char>, text: &str) -> &str
     }
 }
 
-// From the first character on that a number may begin with.
+// The text from the first character on that may begin a number.
 fn from_first(decimal: Option<char>, text: &str) -> &str
     ensures { chars result.now ≡ from_first (begins_number decimal) (chars text.now) }
 {
     let mut rest = text;
-    while let Some((character, behind)) = split_first(rest) {
+    while let Some((character, after)) = split_first(rest) {
         if begins_number(decimal, character) {
             break;
         }
-        rest = behind;
+        rest = after;
     }
     rest
 }
 
-// Up to the last digit.
+// The text up to its last digit.
 fn until_last_digit(text: &str) -> &str
     ensures { chars result.now ≡ until_last is_digit (chars text.now) }
 {
@@ -229,28 +236,28 @@ fn until_last_digit(text: &str) -> &str
 fn begins_number(decimal: Option<char>, character: char) -> bool
     ensures { result ≡ begins_number decimal character }
 {
-    is_digit(character) || is_sign(character) || is_that(decimal, character)
+    is_digit(character) || is_sign(character) || is_same_character(decimal, character)
 }
 
-// The end of the whole part of a number.
-fn is_stop(form: NumberForm, character: char) -> bool
-    ensures { result ≡ is_stop form character }
+// Whether the character ends the whole part of a number.
+fn ends_whole_part(form: NumberForm, character: char) -> bool
+    ensures { result ≡ ends_whole_part form character }
 {
     is_point(form, character) || is_exponent_mark(character)
 }
 
-// The character before a fraction.
+// Whether the character is the decimal point before a fraction.
 fn is_point(form: NumberForm, character: char) -> bool
     ensures { result ≡ is_point form character }
 {
     character == form.decimal && !is_digit(character) && !is_exponent_mark(character)
 }
 
-fn is_that(wanted: Option<char>, character: char) -> bool
-    ensures { result ≡ is_that wanted character }
+fn is_same_character(expected: Option<char>, character: char) -> bool
+    ensures { result ≡ is_same_character expected character }
 {
-    match wanted {
-        Some(wanted) => character == wanted,
+    match expected {
+        Some(expected) => character == expected,
         None => false,
     }
 }
@@ -273,7 +280,7 @@ pub(crate) fn is_digit(character: char) -> bool
     '0' <= character && character <= '9'
 }
 
-// The number that a digit stands for.
+// The value of a digit.
 fn digit_of(character: char) -> Option<u8>
     ensures none { IfNone result (is_digit character ≡ false) }
     ensures some { IfSome result (λ digit. (is_digit character ≡ true) × (character ≡ digit + 48) × (digit < 10)) }
@@ -303,12 +310,12 @@ fn is_negative(text: &str) -> bool
     }
 }
 
-// What follows the sign, if the text begins with one.
+// The text without its leading sign, if it has one.
 fn without_sign(text: &str) -> &str
     ensures { chars result.now ≡ unsigned (chars text.now) }
 {
     match split_first(text) {
-        Some((character, behind)) if is_sign(character) => behind,
+        Some((character, after)) if is_sign(character) => after,
         _ => text,
     }
 }

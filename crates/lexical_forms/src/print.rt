@@ -1,4 +1,4 @@
-//! How numbers are printed.
+//! Prints numbers.
 ghost use Rattle.std.specs.Prelude.{◌≡◌, ◌<◌, ◌+◌, ◌^◌, ◌++◌, ◌∷◌, [], IfOk, OnOk, Some, string_bytes, unsigned_abs};
 ghost use Rattle.std.specs.Str.{chars};
 ghost use Rattle.lexical_forms.specs.Number.{number_reading, default_spelling};
@@ -7,10 +7,10 @@ ghost use Rattle.lexical_forms.specs.NumberText.{fraction_text, number_text};
 use std::alloc::{AllocError, Global};
 use std::fmt::Write;
 
-/// How many billionths are one.
+/// The count of billionths in one.
 const BILLION: u128 = 1_000_000_000;
 
-/// The text of a number of billionths, without zeros at its end. It is read as that number.
+/// The text of a number that is given in billionths, without trailing zeros. It reads back as the same number.
 pub fn number_text(alloc: Global, billionths: i128) -> Result<String, AllocError>
     requires { unsigned_abs billionths < 10 ^ 27 }
     ensures text { IfOk result (λ text. string_bytes text ≡ number_text billionths) }
@@ -27,7 +27,7 @@ pub fn number_text(alloc: Global, billionths: i128) -> Result<String, AllocError
     Ok(text)
 }
 
-// Adds the point and the places behind it, unless there are none.
+// Appends the decimal point and the fraction without its trailing zeros. Appends nothing for a fraction of zero.
 fn push_fraction(text: &mut String, billionths: u32) -> Result<(), AllocError>
     requires { billionths < 10 ^ 9 }
     ensures { OnOk result (string_bytes text.new ≡ string_bytes text.old ++ fraction_text billionths) }
@@ -46,7 +46,7 @@ fn push_fraction(text: &mut String, billionths: u32) -> Result<(), AllocError>
     Ok(())
 }
 
-/// Adds the digit.
+/// Appends a decimal digit.
 pub fn push_digit(text: &mut String, digit: u8) -> Result<(), AllocError>
     requires { digit < 10 }
     ensures { OnOk result (string_bytes text.new ≡ string_bytes text.old ++ (48 + digit) ∷ []) }

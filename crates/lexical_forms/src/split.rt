@@ -1,8 +1,8 @@
-//! One character at a time off a text.
+//! Splits the first or the last character off a text.
 ghost use Rattle.std.specs.Prelude.{◌≡◌, ◌∷◌, ◌++◌, [], IfNone, IfSome};
 ghost use Rattle.std.specs.Str.{chars};
 
-/// The first character, and the text behind it.
+/// The first character and the text after it, or none for the empty text.
 pub(crate) fn split_first(text: &str) -> Option<(char, &str)>
     ensures none { IfNone result (chars text.now ≡ []) }
     ensures some { IfSome result (λ found. chars text.now ≡ found.0 ∷ chars found.1.now) }
@@ -12,7 +12,7 @@ pub(crate) fn split_first(text: &str) -> Option<(char, &str)>
     Some((character, characters.as_str()))
 }
 
-/// The text before the last character, and that character.
+/// The text before the last character and that character, or none for the empty text.
 pub(crate) fn split_last(text: &str) -> Option<(&str, char)>
     ensures none { IfNone result (chars text.now ≡ []) }
     ensures some { IfSome result (λ found. chars text.now ≡ chars found.0.now ++ found.1 ∷ []) }

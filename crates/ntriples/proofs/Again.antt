@@ -1,4 +1,4 @@
--- Text that a production reads again, up to the space behind it.
+-- Text that a production reads again, up to the space after it.
 use Rattle.std.proofs.Common.{◌≡◌, ℕ, Bool, true, false, List, ◌∷◌, ◌++◌, Option, Some, not}
 use lib.Utf8.{scalars, encodes}
 use Rattle.std.proofs.lemmas.Bool.{ne_eqb, both_ways}

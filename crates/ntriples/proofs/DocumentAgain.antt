@@ -10,7 +10,7 @@ use Rattle.std.specs.Str.{is_utf8}
 use lib.Utf8.{scalar, scalars, encode, encodes}
 use Rattle.ntriples.specs.declared.term.Term.{Term}
 use Rattle.ntriples.specs.declared.term.Triple.{Triple}
-use Rattle.ntriples.specs.Reading.{◌>>=◌, skip_blanks, behind}
+use Rattle.ntriples.specs.Reading.{◌>>=◌, skip_blanks, following}
 use Rattle.ntriples.specs.Parsing.{subject, object, iriref, triple, is_end, triple_alone, line}
 use Rattle.ntriples.specs.Document.{is_line_end, onto_first, lines}
 use Rattle.ntriples.specs.ParsedLines.{line_of, triples_of, IsParsed}
@@ -18,7 +18,7 @@ use Rattle.ntriples.proofs.Lines.{form_line}
 use Rattle.ntriples.specs.Written.{iri_text, term_text, triple_text, document_text, CanBeRead}
 use Rattle.ntriples.proofs.DocumentLemmas.{feed_line, lines_inside, lines_none, empty_line, line_of_text}
 use Rattle.ntriples.proofs.Encoded.{no_ends, no_ends-append, scalars-append, no_ends_encodes}
-use Rattle.ntriples.proofs.Readings.{Makes, makes_bind, makes_behind, iriref_makes}
+use Rattle.ntriples.proofs.Readings.{Makes, makes_bind, makes_following, iriref_makes}
 use Rattle.ntriples.proofs.TermsAgain.{IriStarts, iri_again, SubjectAgain, TermAgain, is_solid, subject_makes}
 use Rattle.ntriples.proofs.TermsAgain.{object_makes}
 
@@ -49,7 +49,7 @@ triple_makes cs h =
     (λ p u m.
     makes_bind (TermAgain object) TripleAgain (object (skip_blanks p.1)) _
     (object_makes (skip_blanks p.1) (scalars_skip p.1 m)) (λ o b n.
-    makes_behind TripleAgain 46 (skip_blanks o.1) _ (scalars_skip o.1 n)
+    makes_following TripleAgain 46 (skip_blanks o.1) _ (scalars_skip o.1 n)
     (λ rest r. (record { subject = a; predicate = iri_again p.0 u; object = b }, r)))))
 
 IfTriple : Option Triple → Type 0
@@ -132,18 +132,18 @@ record LineAgain (value : Triple) : Type 0 where
   pub spell : encodes characters ++ 10 ∷ [] ≡ triple_text value
   pub again : line characters ≡ Some (Some value)
 
-spaced_scalars : (front later : List ℕ) → scalars front ≡ true → scalars later ≡ true
-    → scalars (front ++ 32 ∷ later) ≡ true
-spaced_scalars front later h k = scalars-append front (32 ∷ later) h k
+spaced_scalars : (prefix later : List ℕ) → scalars prefix ≡ true → scalars later ≡ true
+    → scalars (prefix ++ 32 ∷ later) ≡ true
+spaced_scalars prefix later h k = scalars-append prefix (32 ∷ later) h k
 
-spaced_no_ends : (front later : List ℕ) → no_ends front ≡ true → no_ends later ≡ true
-    → no_ends (front ++ 32 ∷ later) ≡ true
-spaced_no_ends front later h k = no_ends-append front (32 ∷ later) h k
+spaced_no_ends : (prefix later : List ℕ) → no_ends prefix ≡ true → no_ends later ≡ true
+    → no_ends (prefix ++ 32 ∷ later) ≡ true
+spaced_no_ends prefix later h k = no_ends-append prefix (32 ∷ later) h k
 
-spaced_spell : (front later text behind : List ℕ) → encodes front ≡ text → encodes later ≡ behind
-    → encodes (front ++ 32 ∷ later) ≡ text ++ 32 ∷ behind
-spaced_spell front later text behind e f =
-    encodes-append front (32 ∷ later)
+spaced_spell : (prefix later text following : List ℕ) → encodes prefix ≡ text → encodes later ≡ following
+    → encodes (prefix ++ 32 ∷ later) ≡ text ++ 32 ∷ following
+spaced_spell prefix later text following e f =
+    encodes-append prefix (32 ∷ later)
     ∙ ap₂ (λ (x y : List ℕ). x ++ y) e
     (ap (λ (t : List ℕ). t ++ encodes later) (encode_ascii 32 (omega arith)) ∙ ap (λ (t : List ℕ). 32 ∷ t) f)
 
@@ -151,8 +151,8 @@ last_spell : encodes (32 ∷ 46 ∷ []) ≡ 32 ∷ 46 ∷ []
 unfolding encode
 last_spell = refl
 
-object_spell : (front text : List ℕ) → encodes front ≡ text → encodes (front ++ 32 ∷ 46 ∷ []) ≡ text ++ 32 ∷ 46 ∷ []
-object_spell front text e = encodes-append front (32 ∷ 46 ∷ []) ∙ ap₂ (λ (x y : List ℕ). x ++ y) e last_spell
+object_spell : (prefix text : List ℕ) → encodes prefix ≡ text → encodes (prefix ++ 32 ∷ 46 ∷ []) ≡ text ++ 32 ∷ 46 ∷ []
+object_spell prefix text e = encodes-append prefix (32 ∷ 46 ∷ []) ∙ ap₂ (λ (x y : List ℕ). x ++ y) e last_spell
 
 triple_order : (value : Triple)
     → (term_text value.subject ++ 32 ∷ (iri_text value.predicate ++ 32 ∷ (term_text value.object ++ 32 ∷ 46 ∷ [])))
@@ -227,12 +227,12 @@ all_again : (values : List Triple) → AllByRecursion CanBeRead values
 all_again [] h = ap triples_of lines_none ∙ nothing_again
 all_again (value ∷ values) h =
     let l : LineAgain value = line_again value (can_again value h.0) in
-    let behind : List ℕ = document_text values in
-    let cut : lines (triple_text value ++ behind) ≡ encodes l.characters ∷ lines behind =
-    ap (λ (b : List ℕ). lines (b ++ behind)) (sym l.spell)
-    ∙ ap lines (append_assoc (encodes l.characters) (10 ∷ []) behind)
-    ∙ lines_through (encodes l.characters) behind (no_ends_encodes l.characters l.whole) in
-    ap triples_of cut ∙ one_again (encodes l.characters) (lines behind) value values (line_of_again value l)
+    let following : List ℕ = document_text values in
+    let cut : lines (triple_text value ++ following) ≡ encodes l.characters ∷ lines following =
+    ap (λ (b : List ℕ). lines (b ++ following)) (sym l.spell)
+    ∙ ap lines (append_assoc (encodes l.characters) (10 ∷ []) following)
+    ∙ lines_through (encodes l.characters) following (no_ends_encodes l.characters l.whole) in
+    ap triples_of cut ∙ one_again (encodes l.characters) (lines following) value values (line_of_again value l)
     (all_again values h.1)
 
 pub reads_back : (values : List Triple) → All CanBeRead values → IsParsed (document_text values) values

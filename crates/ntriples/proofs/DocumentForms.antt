@@ -1,4 +1,4 @@
--- What is read of whole documents is what their lines are of.
+-- The lines that are read are the lines that are of the form.
 use Rattle.std.proofs.Common.{◌≡◌, ℕ, List, [], ◌∷◌, ◌++◌, Option, Some, None, Result, Ok, Err, inl, inr}
 use Rattle.std.proofs.Common.{refl, sym, ap, ◌∙◌, subst}
 use Rattle.std.proofs.lemmas.Bool.{false≢true}
@@ -12,7 +12,7 @@ use Rattle.ntriples.specs.ParsedLines.{line_of, triples_of, IsParsed, IsFirstUnp
 use Rattle.ntriples.specs.Written.{CanBeRead, document_text}
 use Rattle.ntriples.proofs.Pieces.{bind_some}
 use Rattle.ntriples.proofs.Lines.{line_form, form_line, line_no_form, no_form_line}
-use Rattle.ntriples.proofs.DocumentLemmas.{none_yet, good_front, one_document, never_both, one_bad_line}
+use Rattle.ntriples.proofs.DocumentLemmas.{none_yet, good_prefix, one_document, never_both, one_bad_line}
 use Rattle.ntriples.proofs.DocumentLemmas.{document_or_bad_line, only_document, only_bad_line}
 use Rattle.ntriples.proofs.DocumentAgain.{reads_back}
 
@@ -30,7 +30,7 @@ triples_form (l ∷ ls) ts e =
 form_triples : (ls : List (List ℕ)) (ts : List Triple) → HaveTriples ls ts → triples_of ls ≡ Some ts
 form_triples [] ts e = none_yet ∙ ap Some (sym e)
 form_triples (l ∷ ls) ts h =
-    good_front l ls h.0 h.1 (form_line l h.0 h.2) (form_triples ls h.1 h.3) ∙ ap Some (sym h.4)
+    good_prefix l ls h.0 h.1 (form_line l h.0 h.2) (form_triples ls h.1 h.3) ∙ ap Some (sym h.4)
 
 good_by : (o : Option (List Triple)) (ls : List (List ℕ)) → triples_of ls ≡ o → IsSome o
     → (ts : List Triple) × HaveTriples ls ts
@@ -42,7 +42,7 @@ bad_form bytes number h =
     record {
       before = h.before;
       bad = h.bad;
-      behind = h.behind;
+      following = h.following;
       cut = h.cut;
       good = good_by (triples_of h.before) h.before refl h.good;
       malformed = line_no_form h.bad h.malformed;
@@ -54,7 +54,7 @@ form_bad bytes number h =
     record {
       before = h.before;
       bad = h.bad;
-      behind = h.behind;
+      following = h.following;
       cut = h.cut;
       good = ap is_some (form_triples h.before h.good.0 h.good.1);
       malformed = no_form_line h.bad h.malformed;
@@ -109,9 +109,9 @@ pub documents_are_read : (bytes : List ℕ) (r : Result (List Triple) NtFault) �
     → IfErr r (IsParseFault bytes) → (ts : List Triple) → IsDocument bytes ts → (r ≡ Ok ts) ⊎ (r ≡ Err OutOfMemory)
 documents_are_read bytes r h k ts d = only_document bytes r h k ts (form_triples (lines bytes) ts d)
 
-pub bad_lines_are_told : (bytes : List ℕ) (r : Result (List Triple) NtFault) → IfOk r (IsParsed bytes)
+pub bad_lines_are_reported : (bytes : List ℕ) (r : Result (List Triple) NtFault) → IfOk r (IsParsed bytes)
     → IfErr r (IsParseFault bytes) → (n : ℕ) → IsFirstBadLine bytes n → (r ≡ Err (Line n)) ⊎ (r ≡ Err OutOfMemory)
-bad_lines_are_told bytes r h k n d = only_bad_line bytes r h k n (form_bad bytes n d)
+bad_lines_are_reported bytes r h k n d = only_bad_line bytes r h k n (form_bad bytes n d)
 
 pub written_back : {V E : Type 0} (items : V → List ℕ) (written : Result V E) (values : List Triple)
     → IfOk written (λ out. items out ≡ document_text values) → All CanBeRead values

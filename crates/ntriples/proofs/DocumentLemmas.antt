@@ -30,18 +30,18 @@ pub feed_line : (bs : List ℕ) → lines (10 ∷ bs) ≡ [] ∷ lines bs
 unfolding lines
 feed_line bs = refl
 
-lines_behind : (test : Bool) (bs : List ℕ) → (test ≡ true → begins_with_feed bs ≡ true)
+following_lines : (test : Bool) (bs : List ℕ) → (test ≡ true → begins_with_feed bs ≡ true)
     → cond test (drop 1 (lines bs)) (lines bs) ≡ lines_after (cond test (Some (drop 1 bs)) (Some bs))
-lines_behind false bs h = refl
-lines_behind true [] h = absurd (let e : false ≡ true = h refl in cc)
-lines_behind true (b ∷ bs) h = ap (λ (x : ℕ). drop 1 (lines (x ∷ bs))) (eqb-true b 10 (h refl))
+following_lines false bs h = refl
+following_lines true [] h = absurd (let e : false ≡ true = h refl in cc)
+following_lines true (b ∷ bs) h = ap (λ (x : ℕ). drop 1 (lines (x ∷ bs))) (eqb-true b 10 (h refl))
     ∙ ap (drop 1) (feed_line bs)
 
 lines_end : (b : ℕ) (bs : List ℕ) → is_line_end b ≡ true → lines (b ∷ bs) ≡ [] ∷ lines_after (after_end (b ∷ bs))
 unfolding lines
 lines_end b bs e =
     rw e (ap (λ (ls : List (List ℕ)). [] ∷ ls)
-    (lines_behind ((b == 13) && begins_with_feed bs) bs (λ h. and_right (b == 13) (begins_with_feed bs) h)))
+    (following_lines ((b == 13) && begins_with_feed bs) bs (λ h. and_right (b == 13) (begins_with_feed bs) h)))
 
 pub lines_inside : (b : ℕ) (bs : List ℕ) → is_line_end b ≡ false → lines (b ∷ bs) ≡ onto_first b (lines bs)
 unfolding lines
@@ -51,7 +51,7 @@ pub lines_none : lines [] ≡ [] ∷ []
 unfolding lines
 lines_none = refl
 
--- the first line is what stands before the first line end
+-- the first line is what is before the first line end
 pub lines_cut : (bs : List ℕ) (n : ℕ) → n ≤ length bs → ((k : ℕ) → k < n → is_line_end (get_or bs k 0) ≡ false)
     → (n < length bs → is_line_end (get_or bs n 0) ≡ true) → lines bs ≡ take n bs ∷ lines_after (after_end (drop n bs))
 lines_cut [] zero within before found = lines_none
@@ -83,16 +83,16 @@ empty_line = refl
 
 triples_after : Option (List Triple) → List (List ℕ) → Option (List Triple)
 triples_after None ls = None
-triples_after (Some front) ls = triples_of ls >>= λ ts. Some (front ++ ts)
+triples_after (Some prefix) ls = triples_of ls >>= λ ts. Some (prefix ++ ts)
 
 nothing : (o : Option (List Triple)) → o ≡ (o >>= λ ts. Some ([] ++ ts))
 nothing None = refl
 nothing (Some ts) = refl
 
-regroup : (t : Option Triple) (front : List Triple) (o : Option (List Triple))
-    → ((o >>= λ ts. Some (front ++ ts)) >>= λ ts. Some (given t ++ ts)) ≡ (o >>= λ ts. Some ((given t ++ front) ++ ts))
-regroup t front None = refl
-regroup t front (Some ts) = ap Some (sym (append_assoc (given t) front ts))
+regroup : (t : Option Triple) (prefix : List Triple) (o : Option (List Triple))
+    → ((o >>= λ ts. Some (prefix ++ ts)) >>= λ ts. Some (given t ++ ts)) ≡ (o >>= λ ts. Some ((given t ++ prefix) ++ ts))
+regroup t prefix None = refl
+regroup t prefix (Some ts) = ap Some (sym (append_assoc (given t) prefix ts))
 
 cons : Option (Option Triple) → Option (List Triple) → Option (List Triple)
 cons o later = o >>= λ t. later >>= λ ts. Some (given t ++ ts)
@@ -102,7 +102,7 @@ triples_step : (o : Option (Option Triple)) (mid whole : Option (List Triple)) (
 unfolding triples_after cons
 triples_step None mid whole ls e = refl
 triples_step (Some t) None whole ls e = rw e refl
-triples_step (Some t) (Some front) whole ls e = rw e (regroup t front (triples_of ls))
+triples_step (Some t) (Some prefix) whole ls e = rw e (regroup t prefix (triples_of ls))
 
 triples_nil : (ls : List (List ℕ)) → triples_of ls ≡ triples_after (triples_of []) ls
 unfolding triples_of triples_after
@@ -119,12 +119,12 @@ triples_append (l ∷ before) ls =
     (triples_append before ls)
     ∙ ap (λ o. triples_after o ls) (sym (triples_cons l before))
 
-triples_one : (front : List Triple) (l : List ℕ) (o : Option (Option Triple)) (ts : List Triple) → line_of l ≡ o
-    → option_map (λ t. front ++ given t) o ≡ Some ts → triples_after (Some front) (l ∷ []) ≡ Some ts
+triples_one : (prefix : List Triple) (l : List ℕ) (o : Option (Option Triple)) (ts : List Triple) → line_of l ≡ o
+    → option_map (λ t. prefix ++ given t) o ≡ Some ts → triples_after (Some prefix) (l ∷ []) ≡ Some ts
 unfolding triples_of triples_after
-triples_one front l None ts e given_all = absurd cc
-triples_one front l (Some t) ts e given_all =
-    rw e (ap (λ (v : List Triple). Some (front ++ v)) (append-nil (given t)) ∙ given_all)
+triples_one prefix l None ts e given_all = absurd cc
+triples_one prefix l (Some t) ts e given_all =
+    rw e (ap (λ (v : List Triple). Some (prefix ++ v)) (append-nil (given t)) ∙ given_all)
 
 triples_bad : (l : List ℕ) (ls : List (List ℕ)) → line_of l ≡ None → triples_of (l ∷ ls) ≡ None
 unfolding triples_of
@@ -132,7 +132,7 @@ triples_bad l ls e = rw e refl
 
 -- ---- reading them in order
 
--- so many lines were read, with these triples, and these bytes are left
+-- this count of lines was read, with these triples, and these bytes are left
 pub record UnderWay (bytes rest : List ℕ) (triples : List Triple) (ended : ℕ) : Type 0 where
   pub before : List (List ℕ)
   pub cut : lines bytes ≡ before ++ lines rest
@@ -182,7 +182,7 @@ module _ (bytes rest : List ℕ) (triples : List Triple) (ended : ℕ) (u : Unde
   UnderWay-bad later cut refused = record {
     before = u.before;
     bad = first;
-    behind = later;
+    following = later;
     cut = u.cut ∙ ap (λ (ls : List (List ℕ)). u.before ++ ls) cut;
     good = ap is_some u.good;
     malformed = no_line (line_of first) refused;
@@ -207,14 +207,14 @@ one_document bytes ts us h k = same_Some ts us (sym h ∙ k)
 after_none : (o : Option (List Triple)) (ls : List (List ℕ)) → triples_of ls ≡ None → triples_after o ls ≡ None
 unfolding triples_after
 after_none None ls e = refl
-after_none (Some front) ls e = rw e refl
+after_none (Some prefix) ls e = rw e refl
 
 pub never_both : (bytes : List ℕ) (ts : List Triple) (number : ℕ) → IsParsed bytes ts → IsFirstUnparsed bytes number
     → ⊥
 never_both bytes ts number h k =
     let none : triples_of (lines bytes) ≡ None =
-    ap triples_of k.cut ∙ triples_append k.before (k.bad ∷ k.behind)
-    ∙ after_none (triples_of k.before) (k.bad ∷ k.behind) (triples_bad k.bad k.behind k.malformed) in
+    ap triples_of k.cut ∙ triples_append k.before (k.bad ∷ k.following)
+    ∙ after_none (triples_of k.before) (k.bad ∷ k.following) (triples_bad k.bad k.following k.malformed) in
     none-some ts (sym none ∙ h)
 
 not_good : (l : List ℕ) (ls : List (List ℕ)) → line_of l ≡ None → IsSome (triples_of (l ∷ ls)) → ⊥
@@ -229,15 +229,15 @@ good_tail_by (Some t) (Some ts) h = refl
 good_tail : (l : List ℕ) (ls : List (List ℕ)) → IsSome (triples_of (l ∷ ls)) → IsSome (triples_of ls)
 good_tail l ls h = good_tail_by (line_of l) (triples_of ls) (subst IsSome (triples_cons l ls) h)
 
-same_place : (a b : List (List ℕ)) (x y : List ℕ) (p q : List (List ℕ)) → IsSome (triples_of a)
+same_position : (a b : List (List ℕ)) (x y : List ℕ) (p q : List (List ℕ)) → IsSome (triples_of a)
     → IsSome (triples_of b) → line_of x ≡ None → line_of y ≡ None → a ++ x ∷ p ≡ b ++ y ∷ q → length a ≡ length b
-same_place [] [] x y p q ga gb ex ey e = refl
-same_place [] (l ∷ b) x y p q ga gb ex ey e =
+same_position [] [] x y p q ga gb ex ey e = refl
+same_position [] (l ∷ b) x y p q ga gb ex ey e =
     absurd (let same : x ≡ l = cc in not_good l b (ap line_of (sym same) ∙ ex) gb)
-same_place (l ∷ a) [] x y p q ga gb ex ey e = absurd (let same : l ≡ y = cc in not_good l a (ap line_of same ∙ ey) ga)
-same_place (l ∷ a) (m ∷ b) x y p q ga gb ex ey e =
+same_position (l ∷ a) [] x y p q ga gb ex ey e = absurd (let same : l ≡ y = cc in not_good l a (ap line_of same ∙ ey) ga)
+same_position (l ∷ a) (m ∷ b) x y p q ga gb ex ey e =
     let tails : a ++ x ∷ p ≡ b ++ y ∷ q = cc in
-    ap suc (same_place a b x y p q (good_tail l a ga) (good_tail m b gb) ex ey tails)
+    ap suc (same_position a b x y p q (good_tail l a ga) (good_tail m b gb) ex ey tails)
 
 pub one_bad_line : (bytes : List ℕ) (m n : ℕ) → IsFirstUnparsed bytes m → IsFirstUnparsed bytes n → m ≡ n
 one_bad_line bytes m n h k =
@@ -245,16 +245,16 @@ one_bad_line bytes m n h k =
       arith,
       h.counted,
       k.counted,
-      same_place h.before k.before h.bad k.bad h.behind k.behind h.good k.good
+      same_position h.before k.before h.bad k.bad h.following k.following h.good k.good
           h.malformed k.malformed (sym h.cut ∙ k.cut),
     )
 
--- the lines up to the first that is bad, and those behind it
+-- the lines up to the first that is bad, and those after it
 record HasBad (ls : List (List ℕ)) : Type 0 where
   pub before : List (List ℕ)
   pub bad : List ℕ
-  pub behind : List (List ℕ)
-  pub cut : ls ≡ before ++ bad ∷ behind
+  pub following : List (List ℕ)
+  pub cut : ls ≡ before ++ bad ∷ following
   pub good : IsSome (triples_of before)
   pub malformed : line_of bad ≡ None
 
@@ -266,28 +266,28 @@ unfolding cons
 cons_some t None h = h
 cons_some t (Some ts) h = refl
 
-with_front_line : (l : List ℕ) (ls : List (List ℕ)) (t : Option Triple) → line_of l ≡ Some t → IsSome (triples_of ls)
+prepended_line : (l : List ℕ) (ls : List (List ℕ)) (t : Option Triple) → line_of l ≡ Some t → IsSome (triples_of ls)
     → IsSome (triples_of (l ∷ ls))
-with_front_line l ls t e h = subst IsSome (sym (triples_cons l ls ∙ ap (λ o. cons o (triples_of ls)) e))
+prepended_line l ls t e h = subst IsSome (sym (triples_cons l ls ∙ ap (λ o. cons o (triples_of ls)) e))
     (cons_some t (triples_of ls) h)
 
-pub good_front : (l : List ℕ) (ls : List (List ℕ)) (t : Option Triple) (ts : List Triple) → line_of l ≡ Some t
+pub good_prefix : (l : List ℕ) (ls : List (List ℕ)) (t : Option Triple) (ts : List Triple) → line_of l ≡ Some t
     → triples_of ls ≡ Some ts → triples_of (l ∷ ls) ≡ Some (given t ++ ts)
 unfolding triples_of
-good_front l ls t ts e f = rw (e, f) refl
+good_prefix l ls t ts e f = rw (e, f) refl
 
 find_by : (o : Option (Option Triple)) (l : List ℕ) (ls : List (List ℕ)) → line_of l ≡ o
     → ((ts : List Triple) × (triples_of ls ≡ Some ts)) ⊎ HasBad ls
     → ((ts : List Triple) × (triples_of (l ∷ ls) ≡ Some ts)) ⊎ HasBad (l ∷ ls)
 find_by None l ls e later =
-    inr (record { before = []; bad = l; behind = ls; cut = refl; good = some_yet; malformed = e })
-find_by (Some t) l ls e (inl (ts, f)) = inl (given t ++ ts, good_front l ls t ts e f)
+    inr (record { before = []; bad = l; following = ls; cut = refl; good = some_yet; malformed = e })
+find_by (Some t) l ls e (inl (ts, f)) = inl (given t ++ ts, good_prefix l ls t ts e f)
 find_by (Some t) l ls e (inr b) = inr (record {
   before = l ∷ b.before;
   bad = b.bad;
-  behind = b.behind;
+  following = b.following;
   cut = ap (λ (rest : List (List ℕ)). l ∷ rest) b.cut;
-  good = with_front_line l b.before t e b.good;
+  good = prepended_line l b.before t e b.good;
   malformed = b.malformed;
 })
 
@@ -304,7 +304,7 @@ number_of bytes (inr b) =
       record {
         before = b.before;
         bad = b.bad;
-        behind = b.behind;
+        following = b.following;
         cut = b.cut;
         good = b.good;
         malformed = b.malformed;

@@ -55,7 +55,7 @@ unfolding line_of is_utf8 chars encode_utf8 skip_blanks is_iri_character hex hex
     literal_escape quoted_character quoted_from iriref literal subject object triple triple_alone line
 surrogate = line_no_form (codes "<a> <b> \"\\uD800\" .") refl
 
--- a dot inside a label belongs to it, and one behind it doesn't
+-- a dot inside a label belongs to it, and one after it doesn't
 abbrev dotted_label : Triple
 dotted_label = record { subject = Blank (codes "a"); predicate = codes "p"; object = Blank (codes "b.c") }
 
@@ -64,10 +64,10 @@ unfolding line_of is_utf8 chars encode_utf8 skip_blanks is_iri_character is_pn_c
     quoted_character quoted_from iriref label_rest blank_node_label subject object triple triple_alone line
 label_with_dot = line_form (codes "_:a <p> _:b.c .") (Some dotted_label) refl
 
-dot_behind_label : HasNoForm (codes "_:a <p> _:b. .")
+dot_after_label : HasNoForm (codes "_:a <p> _:b. .")
 unfolding line_of is_utf8 chars encode_utf8 skip_blanks is_iri_character is_pn_chars_base is_pn_chars_u is_pn_chars
     quoted_character quoted_from iriref label_rest blank_node_label subject object triple triple_alone line
-dot_behind_label = line_no_form (codes "_:a <p> _:b. .") refl
+dot_after_label = line_no_form (codes "_:a <p> _:b. .") refl
 
 language : IsLineOf (codes "<a> <p> \"x\"@en-GB.")
     (Some (about (codes "a") (codes "p") (Literal (codes "x") rdf_lang_string (Some (codes "en-GB")))))
@@ -89,7 +89,7 @@ raw_line_end =
     record {
       before = [];
       bad = codes "<a> <b> \"x";
-      behind = codes "\" ." ∷ [];
+      following = codes "\" ." ∷ [];
       cut = refl;
       good = ([], refl);
       malformed = line_no_form (codes "<a> <b> \"x") refl;

@@ -8,14 +8,14 @@ use Rattle.std.proofs.lemmas.Str.{length-le-encodes}
 use Rattle.std.specs.List.{list_all}
 use lib.Utf8.{encode, encodes}
 use Rattle.ntriples.specs.Characters.{is_digit, is_pn_chars_base, is_pn_chars_u, is_pn_chars}
-use Rattle.ntriples.specs.Reading.{onto, character, behind}
+use Rattle.ntriples.specs.Reading.{onto, character, following}
 use Rattle.ntriples.specs.Parsing.{dotted, label_rest, blank_node_label}
 use Rattle.ntriples.specs.Grammar.{is_inside_label, IsLabelRest, IsLabel}
-use Rattle.ntriples.proofs.NameLemmas.{dot_label, dotted_onto, behind_ends}
+use Rattle.ntriples.proofs.NameLemmas.{dot_label, dotted_onto, following_ends}
 use Rattle.ntriples.proofs.NameLemmas.{onto_onto, onto_nil}
 use Rattle.ntriples.proofs.Pieces.{Takes, bind_some, character_some}
 
--- what may follow a term on a line: a space, a tab, `<`, or a `.` behind which stands a space, a tab, `#` or nothing
+-- what may follow a term on a line: a space, a tab, `<`, or a `.` followed by a space, a tab, `#` or nothing
 pub data Stops : List ℕ → Type 0 where
   space : {cs : List ℕ} → Stops (32 ∷ cs)
   tab : {cs : List ℕ} → Stops (9 ∷ cs)
@@ -36,13 +36,13 @@ unfolding label_rest
 label_cons c cs e = rw e refl
 
 record LabelAt (cs : List ℕ) (x : List ℕ × List ℕ) : Type 0 where
-  pub front : List ℕ
-  pub parts : cs ≡ front ++ x.1
-  pub form : IsLabelRest front
-  pub named : x.0 ≡ encodes front
+  pub prefix : List ℕ
+  pub parts : cs ≡ prefix ++ x.1
+  pub form : IsLabelRest prefix
+  pub named : x.0 ≡ encodes prefix
 
-longer : (c : ℕ) (front : List ℕ) → is_pn_chars c ≡ true → IsLabelRest front → IsLabelRest (c ∷ front)
-longer c front h i = elim i [
+longer : (c : ℕ) (prefix : List ℕ) → is_pn_chars c ≡ true → IsLabelRest prefix → IsLabelRest (c ∷ prefix)
+longer c prefix h i = elim i [
   | inl e ↦ inr ([], c, ap (λ (t : List ℕ). c ∷ t) e, refl, h)
   | inr p ↦ inr (
     c ∷ p.0,
@@ -57,9 +57,9 @@ is_dot_inside : is_inside_label 46 ≡ true
 unfolding is_pn_chars is_pn_chars_u is_pn_chars_base
 is_dot_inside = refl
 
-dotted_form : (front : List ℕ) (b : ℕ) (bs : List ℕ) → b ∷ bs ≡ encodes front → IsLabelRest front
-    → IsLabelRest (46 ∷ front)
-dotted_form front b bs e i = elim i [
+dotted_form : (prefix : List ℕ) (b : ℕ) (bs : List ℕ) → b ∷ bs ≡ encodes prefix → IsLabelRest prefix
+    → IsLabelRest (46 ∷ prefix)
+dotted_form prefix b bs e i = elim i [
   | inl none ↦ absurd (let no : b ∷ bs ≡ [] = e ∙ ap encodes none in cc)
   | inr p ↦ inr (
     46 ∷ p.0,
@@ -71,13 +71,13 @@ dotted_form front b bs e i = elim i [
 ]
 
 dotted_at : (cs : List ℕ) (x : List ℕ × List ℕ) → LabelAt cs x → LabelAt (46 ∷ cs) (dotted cs x)
-dotted_at cs ([], rest) h = record { front = []; parts = refl; form = inl refl; named = refl }
+dotted_at cs ([], rest) h = record { prefix = []; parts = refl; form = inl refl; named = refl }
 dotted_at cs (b ∷ bs, rest) h =
     record {
-      front = 46 ∷ h.front;
+      prefix = 46 ∷ h.prefix;
       parts = ap (λ (t : List ℕ). 46 ∷ t) h.parts;
-      form = dotted_form h.front b bs h.named h.form;
-      named = ap (λ (t : List ℕ). 46 ∷ t) h.named ∙ ap (λ (t : List ℕ). t ++ encodes h.front) (sym dot);
+      form = dotted_form h.prefix b bs h.named h.form;
+      named = ap (λ (t : List ℕ). 46 ∷ t) h.named ∙ ap (λ (t : List ℕ). t ++ encodes h.prefix) (sym dot);
     }
 
 label_by : (pn is_dot : Bool) (c : ℕ) (cs : List ℕ) → is_pn_chars c ≡ pn → nat_eq c 46 ≡ is_dot
@@ -86,39 +86,39 @@ label_by : (pn is_dot : Bool) (c : ℕ) (cs : List ℕ) → is_pn_chars c ≡ pn
     (cond pn (onto (encode c) (label_rest cs)) (cond is_dot (dotted cs (label_rest cs)) ([], c ∷ cs)))
 label_by true is_dot c cs e f h =
     record {
-      front = c ∷ h.front;
+      prefix = c ∷ h.prefix;
       parts = ap (λ (t : List ℕ). c ∷ t) h.parts;
-      form = longer c h.front e h.form;
+      form = longer c h.prefix e h.form;
       named = ap (λ (t : List ℕ). encode c ++ t) h.named;
     }
 label_by false true c cs e f h =
     subst (λ (k : ℕ). LabelAt (k ∷ cs) (dotted cs (label_rest cs))) (sym (eqb-true c 46 f))
     (dotted_at cs (label_rest cs) h)
-label_by false false c cs e f h = record { front = []; parts = refl; form = inl refl; named = refl }
+label_by false false c cs e f h = record { prefix = []; parts = refl; form = inl refl; named = refl }
 
 label_at : (cs : List ℕ) → LabelAt cs (label_rest cs)
 unfolding label_rest
-label_at [] = record { front = []; parts = refl; form = inl refl; named = refl }
+label_at [] = record { prefix = []; parts = refl; form = inl refl; named = refl }
 label_at (c ∷ cs) = label_by (is_pn_chars c) (nat_eq c 46) c cs refl refl (label_at cs)
 
 pub label_some : (cs : List ℕ) (x : List ℕ × List ℕ) → blank_node_label cs ≡ Some x → Takes IsLabel cs x.0 x.1
 unfolding blank_node_label
 label_some cs x e =
-    let p = bind_some (behind 95 cs) _ x e in
-    let q = bind_some (behind 58 p.0) _ x p.2 in
+    let p = bind_some (following 95 cs) _ x e in
+    let q = bind_some (following 58 p.0) _ x p.2 in
     let r = bind_some (character q.0) _ x q.2 in
     let s = cond_some {A = List ℕ × List ℕ} (is_pn_chars_u r.0.0 || is_digit r.0.0)
     (onto (encode r.0.0) (label_rest r.0.1)) x r.2 in
     let l = label_at r.0.1 in
     record {
-      front = 95 ∷ 58 ∷ r.0.0 ∷ l.front;
-      parts = (behind_ends 95 cs p.0 p.1).1 ∙ ap (λ (t : List ℕ). 95 ∷ t) ((behind_ends 58 p.0 q.0 q.1).1
+      prefix = 95 ∷ 58 ∷ r.0.0 ∷ l.prefix;
+      parts = (following_ends 95 cs p.0 p.1).1 ∙ ap (λ (t : List ℕ). 95 ∷ t) ((following_ends 58 p.0 q.0 q.1).1
           ∙ ap (λ (t : List ℕ). 58 ∷ t) (character_some q.0 r.0 r.1 ∙ ap (λ (t : List ℕ). r.0.0 ∷ t) (l.parts
-          ∙ ap (λ (y : List ℕ × List ℕ). l.front ++ y.1) s.1)));
+          ∙ ap (λ (y : List ℕ × List ℕ). l.prefix ++ y.1) s.1)));
       form =
           record {
             first = r.0.0;
-            rest = l.front;
+            rest = l.prefix;
             form = refl;
             begins = s.0;
             goes_on = l.form;
@@ -126,16 +126,16 @@ label_some cs x e =
           };
     }
 
-inside_label : (b : Bool) (c : ℕ) (cs front : List ℕ) (read : List ℕ × List ℕ) → is_pn_chars c ≡ b
-    → is_inside_label c ≡ true → 0 < length front → label_rest cs ≡ onto front read
-    → label_rest (c ∷ cs) ≡ onto (encode c ++ front) read
-inside_label true c cs front read e h some later =
-    label_cons c cs e ∙ ap (onto (encode c)) later ∙ onto_onto (encode c) front read
-inside_label false c cs front read e h some later = elim (or_cases (is_pn_chars c) (nat_eq c 46) h) [
+inside_label : (b : Bool) (c : ℕ) (cs prefix : List ℕ) (read : List ℕ × List ℕ) → is_pn_chars c ≡ b
+    → is_inside_label c ≡ true → 0 < length prefix → label_rest cs ≡ onto prefix read
+    → label_rest (c ∷ cs) ≡ onto (encode c ++ prefix) read
+inside_label true c cs prefix read e h some later =
+    label_cons c cs e ∙ ap (onto (encode c)) later ∙ onto_onto (encode c) prefix read
+inside_label false c cs prefix read e h some later = elim (or_cases (is_pn_chars c) (nat_eq c 46) h) [
   | inl pn ↦ absurd (both_ways (is_pn_chars c) e pn)
-  | inr is ↦ subst (λ (k : ℕ). label_rest (k ∷ cs) ≡ onto (encode k ++ front) read) (sym (eqb-true c 46 is))
-      (dot_label cs ∙ ap (dotted cs) later ∙ dotted_onto cs front read some
-      ∙ ap (λ (t : List ℕ). onto (t ++ front) read) (sym dot))
+  | inr is ↦ subst (λ (k : ℕ). label_rest (k ∷ cs) ≡ onto (encode k ++ prefix) read) (sym (eqb-true c 46 is))
+      (dot_label cs ∙ ap (dotted cs) later ∙ dotted_onto cs prefix read some
+      ∙ ap (λ (t : List ℕ). onto (t ++ prefix) read) (sym dot))
 ]
 
 ending : (inside : List ℕ) (last : ℕ) → 0 < length (encodes (inside ++ last ∷ []))
@@ -152,20 +152,20 @@ up_to_last (c ∷ inside) last rest h i =
     inside_label (is_pn_chars c) c ((inside ++ last ∷ []) ++ rest) (encodes (inside ++ last ∷ [])) (label_rest rest)
     refl p.0 (ending inside last) (up_to_last inside last rest p.1 i)
 
-label_rest_of : (front rest : List ℕ) → IsLabelRest front
-    → label_rest (front ++ rest) ≡ onto (encodes front) (label_rest rest)
-label_rest_of front rest i = elim i [
+label_rest_of : (prefix rest : List ℕ) → IsLabelRest prefix
+    → label_rest (prefix ++ rest) ≡ onto (encodes prefix) (label_rest rest)
+label_rest_of prefix rest i = elim i [
   | inl e ↦ ap (λ (t : List ℕ). label_rest (t ++ rest)) e
       ∙ ap (λ (t : List ℕ). onto (encodes t) (label_rest rest)) (sym e)
   | inr p ↦ ap (λ (t : List ℕ). label_rest (t ++ rest)) p.2 ∙ up_to_last p.0 p.1 rest p.3 p.4
       ∙ ap (λ (t : List ℕ). onto (encodes t) (label_rest rest)) (sym p.2)
 ]
 
-begun : (first : ℕ) (front rest : List ℕ) → (is_pn_chars_u first || is_digit first) ≡ true → IsLabelRest front
-    → blank_node_label (95 ∷ 58 ∷ first ∷ front ++ rest) ≡ Some (onto (encodes (first ∷ front)) (label_rest rest))
+begun : (first : ℕ) (prefix rest : List ℕ) → (is_pn_chars_u first || is_digit first) ≡ true → IsLabelRest prefix
+    → blank_node_label (95 ∷ 58 ∷ first ∷ prefix ++ rest) ≡ Some (onto (encodes (first ∷ prefix)) (label_rest rest))
 unfolding blank_node_label
-begun first front rest h i =
-    rw (h, label_rest_of front rest i) (ap Some (onto_onto (encode first) (encodes front) (label_rest rest)))
+begun first prefix rest h i =
+    rw (h, label_rest_of prefix rest i) (ap Some (onto_onto (encode first) (encodes prefix) (label_rest rest)))
 
 -- a label, and what of a label still follows it
 pub label_more : (text label rest : List ℕ) → IsLabel text label
@@ -197,4 +197,4 @@ label_longest text label rest x l e =
     let same = same_Some {A = List ℕ × List ℕ} (onto label (label_rest rest)) x
     (sym (label_more text label rest l) ∙ e) in
     let ends : length (label_rest rest).1 ≡ length x.1 = ap (λ (y : List ℕ × List ℕ). length y.1) same in
-    omega (arith, length-append left.front (label_rest rest).1, ap length left.parts, ends)
+    omega (arith, length-append left.prefix (label_rest rest).1, ap length left.parts, ends)

@@ -1,7 +1,7 @@
 mod Examples
 mod Productions
 pub mod DocumentLemmas
-pub mod Behind
+pub mod Suffixes
 pub mod QuotedLemmas
 pub mod NameLemmas
 pub mod Encoded

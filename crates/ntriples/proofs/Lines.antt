@@ -1,4 +1,4 @@
--- Triples and whole lines: what is read is of the form, and what is of the form is read.
+-- Triples and lines: what is read is of the form, and what is of the form is read.
 use Rattle.std.proofs.Common.{◌≡◌, ℕ, Bool, true, false, cond, nat_eq, List, [], ◌∷◌, ◌++◌, Option, Some, None}
 use Rattle.std.proofs.Common.{inl, inr, refl, sym, ap, ◌∙◌, subst, append_assoc}
 use Rattle.std.proofs.lemmas.Bool.{and_parts, and_from, or_cases, eqb-true}
@@ -10,13 +10,13 @@ use Rattle.std.specs.Str.{is_utf8, chars}
 use Rattle.ntriples.specs.declared.term.Term.{Term}
 use Rattle.ntriples.specs.declared.term.Term.TheVariants.{Iri, Blank, Literal}
 use Rattle.ntriples.specs.declared.term.Triple.{Triple}
-use Rattle.ntriples.specs.Reading.{◌>>=◌, behind, skip_blanks}
+use Rattle.ntriples.specs.Reading.{◌>>=◌, following, skip_blanks}
 use Rattle.ntriples.specs.Parsing.{iriref, subject, object, triple, is_end, triple_alone, line}
 use Rattle.ntriples.specs.Grammar.{is_blank, IsIri, IsString, IsLabel, IsLiteral, IsSubject, IsObject}
 use Rattle.ntriples.specs.Document.{IsLineOf}
 use Rattle.ntriples.specs.ParsedLines.{line_of}
 use Rattle.ntriples.specs.Grammar.{IsRead, AreBlanks, IsTriple, IsComment, IsLine}
-use Rattle.ntriples.proofs.NameLemmas.{behind_ends}
+use Rattle.ntriples.proofs.NameLemmas.{following_ends}
 use Rattle.ntriples.proofs.Pieces.{bind_some}
 use Rattle.ntriples.proofs.Quotes.{iriref_some, iriref_of}
 use Rattle.ntriples.proofs.Labels.{Stops}
@@ -27,23 +27,23 @@ use Rattle.ntriples.proofs.Objects.{object_longest, read_whole}
 -- ---- blanks
 
 record BlanksAt (cs rest : List ℕ) : Type 0 where
-  pub front : List ℕ
-  pub parts : cs ≡ front ++ rest
-  pub blank : AreBlanks front
+  pub prefix : List ℕ
+  pub parts : cs ≡ prefix ++ rest
+  pub blank : AreBlanks prefix
 
 blanks_by : (b : Bool) (c : ℕ) (cs rest : List ℕ) → is_blank c ≡ b → BlanksAt cs rest
     → BlanksAt (c ∷ cs) (cond b rest (c ∷ cs))
 blanks_by true c cs rest e h =
     record {
-      front = c ∷ h.front;
+      prefix = c ∷ h.prefix;
       parts = ap (λ (t : List ℕ). c ∷ t) h.parts;
-      blank = and_from (is_blank c) (list_all is_blank h.front) e h.blank;
+      blank = and_from (is_blank c) (list_all is_blank h.prefix) e h.blank;
     }
-blanks_by false c cs rest e h = record { front = []; parts = refl; blank = refl }
+blanks_by false c cs rest e h = record { prefix = []; parts = refl; blank = refl }
 
 blanks_at : (cs : List ℕ) → BlanksAt cs (skip_blanks cs)
 unfolding skip_blanks
-blanks_at [] = record { front = []; parts = refl; blank = refl }
+blanks_at [] = record { prefix = []; parts = refl; blank = refl }
 blanks_at (c ∷ cs) = blanks_by (is_blank c) c cs (skip_blanks cs) refl (blanks_at cs)
 
 skip_one : (c : ℕ) (cs : List ℕ) → is_blank c ≡ true → skip_blanks (c ∷ cs) ≡ skip_blanks cs
@@ -54,11 +54,11 @@ skip_none : (c : ℕ) (cs : List ℕ) → is_blank c ≡ false → skip_blanks (
 unfolding skip_blanks
 skip_none c cs e = rw e refl
 
-skip_front : (front rest : List ℕ) → AreBlanks front → skip_blanks (front ++ rest) ≡ skip_blanks rest
-skip_front [] rest h = refl
-skip_front (c ∷ front) rest h =
-    let p = and_parts (is_blank c) (list_all is_blank front) h in
-    skip_one c (front ++ rest) p.0 ∙ skip_front front rest p.1
+skip_prefix : (prefix rest : List ℕ) → AreBlanks prefix → skip_blanks (prefix ++ rest) ≡ skip_blanks rest
+skip_prefix [] rest h = refl
+skip_prefix (c ∷ prefix) rest h =
+    let p = and_parts (is_blank c) (list_all is_blank prefix) h in
+    skip_one c (prefix ++ rest) p.0 ∙ skip_prefix prefix rest p.1
 
 -- a text that begins with no space, tab or `#`
 record Begins (text : List ℕ) : Type 0 where
@@ -73,10 +73,10 @@ skip_to text rest b =
     ap (λ (t : List ℕ). skip_blanks (t ++ rest)) b.parts ∙ skip_none b.head (b.more ++ rest) b.no_blank
     ∙ ap (λ (t : List ℕ). t ++ rest) (sym b.parts)
 
--- up to a text behind blanks
-past : (front text rest : List ℕ) → AreBlanks front → Begins text
-    → skip_blanks (front ++ (text ++ rest)) ≡ text ++ rest
-past front text rest h b = skip_front front (text ++ rest) h ∙ skip_to text rest b
+-- up to a text after blanks
+past : (prefix text rest : List ℕ) → AreBlanks prefix → Begins text
+    → skip_blanks (prefix ++ (text ++ rest)) ≡ text ++ rest
+past prefix text rest h b = skip_prefix prefix (text ++ rest) h ∙ skip_to text rest b
 
 iri_begins : (text iri : List ℕ) → IsIri text iri → Begins text
 iri_begins text iri h = record { head = 60; more = _; parts = h.form; no_blank = refl; no_comment = refl }
@@ -124,10 +124,10 @@ blank_stops c cs h = elim (or_cases (nat_eq c 32) (nat_eq c 9) h) [
   | inr e ↦ subst (λ (k : ℕ). Stops (k ∷ cs)) (sym (eqb-true c 9 e)) tab
 ]
 
-stops_behind : (front rest : List ℕ) → AreBlanks front → Stops rest → Stops (front ++ rest)
-stops_behind [] rest h s = s
-stops_behind (c ∷ front) rest h s =
-    blank_stops c (front ++ rest) (and_parts (is_blank c) (list_all is_blank front) h).0
+stops_following : (prefix rest : List ℕ) → AreBlanks prefix → Stops rest → Stops (prefix ++ rest)
+stops_following [] rest h s = s
+stops_following (c ∷ prefix) rest h s =
+    blank_stops c (prefix ++ rest) (and_parts (is_blank c) (list_all is_blank prefix) h).0
 
 iri_stops : (text iri rest : List ℕ) → IsIri text iri → Stops (text ++ rest)
 iri_stops text iri rest h = subst (λ (t : List ℕ). Stops (t ++ rest)) (sym h.form) bracket
@@ -146,14 +146,14 @@ end_stops (c ∷ room) comment h k =
 
 -- ---- triples
 
--- spaces and tabs in several places
+-- spaces and tabs in several positions
 two_blanks : (a b : List ℕ) → AreBlanks (a ++ b) → AreBlanks a × AreBlanks b
 two_blanks a b h = and_parts (list_all is_blank a) (list_all is_blank b) (sym (list_all-append is_blank a b) ∙ h)
 
 both_blanks : (a b : List ℕ) → AreBlanks a → AreBlanks b → AreBlanks (a ++ b)
 both_blanks a b h k = list_all-append is_blank a b ∙ and_from (list_all is_blank a) (list_all is_blank b) h k
 
--- the texts of a triple, the last with what is behind it
+-- the texts of a triple, the last with what is after it
 module _ (s g p h o k rest : List ℕ) where
   abbrev pub from_object : List ℕ
   from_object = k ++ 46 ∷ rest
@@ -167,19 +167,19 @@ module _ (s g p h o k rest : List ℕ) where
   whole : (s ++ g ++ p ++ h ++ o ++ k ++ 46 ∷ []) ++ rest ≡ s ++ from_subject
   whole = simp append_assoc
 
-  behind_subject : g ++ p ++ h ++ o ++ k ++ (46 ∷ []) ++ rest ≡ from_subject
-  behind_subject = simp append_assoc
+  suffix_subject : g ++ p ++ h ++ o ++ k ++ (46 ∷ []) ++ rest ≡ from_subject
+  suffix_subject = simp append_assoc
 
-  behind_predicate : h ++ o ++ k ++ (46 ∷ []) ++ rest ≡ from_predicate
-  behind_predicate = simp append_assoc
+  suffix_predicate : h ++ o ++ k ++ (46 ∷ []) ++ rest ≡ from_predicate
+  suffix_predicate = simp append_assoc
 
-  behind_object : k ++ (46 ∷ []) ++ rest ≡ from_object
-  behind_object = append_assoc k (46 ∷ []) rest
+  suffix_object : k ++ (46 ∷ []) ++ rest ≡ from_object
+  suffix_object = append_assoc k (46 ∷ []) rest
 
 record TripleAt (cs : List ℕ) (x : Triple × List ℕ) : Type 0 where
-  pub front : List ℕ
-  pub parts : cs ≡ front ++ x.1
-  pub form : IsTriple front x.1 x.0
+  pub prefix : List ℕ
+  pub parts : cs ≡ prefix ++ x.1
+  pub form : IsTriple prefix x.1 x.0
 
 triple_some : (cs : List ℕ) (x : Triple × List ℕ) → triple cs ≡ Some x → TripleAt cs x
 unfolding triple
@@ -187,43 +187,43 @@ triple_some cs x e =
     let a = bind_some (subject cs) _ x e in
     let b = bind_some (iriref (skip_blanks a.0.1)) _ x a.2 in
     let c = bind_some (object (skip_blanks b.0.1)) _ x b.2 in
-    let d = bind_some (behind 46 (skip_blanks c.0.1)) _ x c.2 in
+    let d = bind_some (following 46 (skip_blanks c.0.1)) _ x c.2 in
     let s = subject_some cs a.0 a.1 in
     let p = iriref_some (skip_blanks a.0.1) b.0 b.1 in
     let o = object_some (skip_blanks b.0.1) c.0 c.1 in
     let g = blanks_at a.0.1 in
     let h = blanks_at b.0.1 in
     let k = blanks_at c.0.1 in
-    let after_object = k.parts ∙ ap (λ (t : List ℕ). k.front ++ t) (behind_ends 46 (skip_blanks c.0.1) d.0 d.1).1 in
+    let after_object = k.parts ∙ ap (λ (t : List ℕ). k.prefix ++ t) (following_ends 46 (skip_blanks c.0.1) d.0 d.1).1 in
     let after_predicate = h.parts
-    ∙ ap (λ (t : List ℕ). h.front ++ t) (o.parts ∙ ap (λ (t : List ℕ). o.front ++ t) after_object) in
+    ∙ ap (λ (t : List ℕ). h.prefix ++ t) (o.parts ∙ ap (λ (t : List ℕ). o.prefix ++ t) after_object) in
     let after_subject = g.parts
-    ∙ ap (λ (t : List ℕ). g.front ++ t) (p.parts ∙ ap (λ (t : List ℕ). p.front ++ t) after_predicate) in
+    ∙ ap (λ (t : List ℕ). g.prefix ++ t) (p.parts ∙ ap (λ (t : List ℕ). p.prefix ++ t) after_predicate) in
     let t : Triple = record { subject = a.0.0; predicate = b.0.0; object = c.0.0 } in
     subst (TripleAt cs) (same_Some {A = Triple × List ℕ} (t, d.0) x d.2)
     (record {
-      front = s.front ++ g.front ++ p.front ++ h.front ++ o.front ++ k.front ++ 46 ∷ [];
-      parts = s.parts ∙ ap (λ (l : List ℕ). s.front ++ l) after_subject
-          ∙ sym (whole s.front g.front p.front h.front o.front k.front d.0);
+      prefix = s.prefix ++ g.prefix ++ p.prefix ++ h.prefix ++ o.prefix ++ k.prefix ++ 46 ∷ [];
+      parts = s.parts ∙ ap (λ (l : List ℕ). s.prefix ++ l) after_subject
+          ∙ sym (whole s.prefix g.prefix p.prefix h.prefix o.prefix k.prefix d.0);
       form =
           record {
-            subject = s.front;
-            predicate = p.front;
-            object = o.front;
-            after_subject = g.front;
-            after_predicate = h.front;
-            after_object = k.front;
+            subject = s.prefix;
+            predicate = p.prefix;
+            object = o.prefix;
+            after_subject = g.prefix;
+            after_predicate = h.prefix;
+            after_object = k.prefix;
             form = refl;
-            is_subject = subst (λ (l : List ℕ). IsRead IsSubject s.front l a.0.0)
-                (after_subject ∙ sym (behind_subject s.front g.front p.front h.front o.front k.front d.0))
+            is_subject = subst (λ (l : List ℕ). IsRead IsSubject s.prefix l a.0.0)
+                (after_subject ∙ sym (suffix_subject s.prefix g.prefix p.prefix h.prefix o.prefix k.prefix d.0))
                 (read_whole IsSubject subject subject_longest cs a.0 a.1 s);
-            is_predicate = subst (λ (l : List ℕ). IsRead IsIri p.front l b.0.0)
-                (after_predicate ∙ sym (behind_predicate s.front g.front p.front h.front o.front k.front d.0))
+            is_predicate = subst (λ (l : List ℕ). IsRead IsIri p.prefix l b.0.0)
+                (after_predicate ∙ sym (suffix_predicate s.prefix g.prefix p.prefix h.prefix o.prefix k.prefix d.0))
                 (read_whole IsIri iriref iriref_longest (skip_blanks a.0.1) b.0 b.1 p);
-            is_object = subst (λ (l : List ℕ). IsRead IsObject o.front l c.0.0)
-                (after_object ∙ sym (behind_object s.front g.front p.front h.front o.front k.front d.0))
+            is_object = subst (λ (l : List ℕ). IsRead IsObject o.prefix l c.0.0)
+                (after_object ∙ sym (suffix_object s.prefix g.prefix p.prefix h.prefix o.prefix k.prefix d.0))
                 (read_whole IsObject object object_longest (skip_blanks b.0.1) c.0 c.1 o);
-            blank = both_blanks (g.front ++ h.front) k.front (both_blanks g.front h.front g.blank h.blank) k.blank;
+            blank = both_blanks (g.prefix ++ h.prefix) k.prefix (both_blanks g.prefix h.prefix g.blank h.blank) k.blank;
           };
     })
 
@@ -242,24 +242,24 @@ triple_of : (text room comment : List ℕ) (t : Triple) → IsTriple text (room 
 triple_of text room comment t i b c =
     let rest : List ℕ = room ++ comment in
     let blank = two_blanks (i.after_subject ++ i.after_predicate) i.after_object i.blank in
-    let blank_front = two_blanks i.after_subject i.after_predicate blank.0 in
+    let blank_prefix = two_blanks i.after_subject i.after_predicate blank.0 in
     let after_object : List ℕ = i.after_object ++ 46 ∷ rest in
     let after_predicate : List ℕ = i.after_predicate ++ (i.object ++ after_object) in
     let after_subject : List ℕ = i.after_subject ++ (i.predicate ++ after_predicate) in
-    let stops_object = stops_behind i.after_object (46 ∷ rest) blank.1 (end_stops room comment b c) in
-    let stops_subject = stops_behind i.after_subject (i.predicate ++ after_predicate) blank_front.0
+    let stops_object = stops_following i.after_object (46 ∷ rest) blank.1 (end_stops room comment b c) in
+    let stops_subject = stops_following i.after_subject (i.predicate ++ after_predicate) blank_prefix.0
     (iri_stops i.predicate t.predicate after_predicate i.is_predicate.form) in
     let at : text ++ rest ≡ i.subject ++ after_subject =
     ap (λ (l : List ℕ). l ++ rest) i.form
     ∙ whole i.subject i.after_subject i.predicate i.after_predicate i.object i.after_object rest in
     triple_read (text ++ rest) i.subject i.after_subject i.predicate i.after_predicate i.object i.after_object rest t
     (ap subject at ∙ subject_of i.subject t.subject after_subject i.is_subject.form stops_subject)
-    (past i.after_subject i.predicate after_predicate blank_front.0
+    (past i.after_subject i.predicate after_predicate blank_prefix.0
     (iri_begins i.predicate t.predicate i.is_predicate.form))
     (iriref_of i.predicate t.predicate after_predicate i.is_predicate.form)
-    (past i.after_predicate i.object after_object blank_front.1 (object_begins i.object t.object i.is_object.form))
+    (past i.after_predicate i.object after_object blank_prefix.1 (object_begins i.object t.object i.is_object.form))
     (object_of i.object t.object after_object i.is_object.form stops_object)
-    (skip_front i.after_object (46 ∷ rest) blank.1 ∙ skip_none 46 rest refl)
+    (skip_prefix i.after_object (46 ∷ rest) blank.1 ∙ skip_none 46 rest refl)
 
 -- ---- lines
 
@@ -280,13 +280,13 @@ empty_line : (cs : List ℕ) → is_end (skip_blanks cs) ≡ true → IsLine cs 
 empty_line cs h =
     let b = blanks_at cs in
     record {
-      indent = b.front;
+      indent = b.prefix;
       statement = [];
       room = [];
       comment = skip_blanks cs;
       form = b.parts ∙ ap (λ (t : List ℕ). t ++ skip_blanks cs)
-          (sym (append-nil b.front) ∙ sym (append-nil (b.front ++ [])));
-      blank = both_blanks b.front [] b.blank refl;
+          (sym (append-nil b.prefix) ∙ sym (append-nil (b.prefix ++ [])));
+      blank = both_blanks b.prefix [] b.blank refl;
       is_statement = refl;
       is_comment = is_comment (skip_blanks cs) h;
     }
@@ -298,14 +298,14 @@ triple_line cs x e h =
     let t = triple_some (skip_blanks cs) x e in
     let r = blanks_at x.1 in
     record {
-      indent = b.front;
-      statement = t.front;
-      room = r.front;
+      indent = b.prefix;
+      statement = t.prefix;
+      room = r.prefix;
       comment = skip_blanks x.1;
-      form = b.parts ∙ ap (λ (l : List ℕ). b.front ++ l) (t.parts ∙ ap (λ (l : List ℕ). t.front ++ l) r.parts)
+      form = b.parts ∙ ap (λ (l : List ℕ). b.prefix ++ l) (t.parts ∙ ap (λ (l : List ℕ). t.prefix ++ l) r.parts)
           ∙ simp append_assoc;
-      blank = both_blanks b.front r.front b.blank r.blank;
-      is_statement = subst (λ (l : List ℕ). IsTriple t.front l x.0) r.parts t.form;
+      blank = both_blanks b.prefix r.prefix b.blank r.blank;
+      is_statement = subst (λ (l : List ℕ). IsTriple t.prefix l x.0) r.parts t.form;
       is_comment = is_comment (skip_blanks x.1) h;
     }
 
@@ -343,7 +343,7 @@ no_statement text indent room comment e b c =
     let at : text ≡ indent ++ (room ++ comment) =
     e ∙ ap (λ (t : List ℕ). t ++ room ++ comment) (append-nil indent) ∙ append_assoc indent room comment in
     line_empty text comment
-    (ap skip_blanks at ∙ skip_front indent (room ++ comment) p.0 ∙ skip_front room comment p.1
+    (ap skip_blanks at ∙ skip_prefix indent (room ++ comment) p.0 ∙ skip_prefix room comment p.1
     ∙ skip_comment comment c) c
 
 no_end : (text rest : List ℕ) → Begins text → is_end (text ++ rest) ≡ false
@@ -355,8 +355,8 @@ line_triple : (cs text rest comment : List ℕ) (t : Triple) → skip_blanks cs 
 unfolding line triple_alone
 line_triple cs text rest comment t e b f g c = rw (e, no_end text rest b, f, g, comment_is comment c) refl
 
-triple_begins : (text behind : List ℕ) (t : Triple) → IsTriple text behind t → Begins text
-triple_begins text behind t i =
+triple_begins : (text following : List ℕ) (t : Triple) → IsTriple text following t → Begins text
+triple_begins text following t i =
     begins_more text i.subject
     (i.after_subject ++ (i.predicate ++ (i.after_predicate ++ (i.object ++ (i.after_object ++ 46 ∷ [])))))
     (i.form ∙ simp append_assoc)
@@ -370,7 +370,7 @@ one_statement text indent statement room comment t e b i c =
     let begins = triple_begins statement (room ++ comment) t i in
     line_triple text statement (room ++ comment) comment t
     (ap skip_blanks (e ∙ simp append_assoc) ∙ past indent statement (room ++ comment) p.0 begins) begins
-    (triple_of statement room comment t i p.1 c) (skip_front room comment p.1 ∙ skip_comment comment c) c
+    (triple_of statement room comment t i p.1 c) (skip_prefix room comment p.1 ∙ skip_comment comment c) c
 
 -- a line of the form is read
 pub line_is : (text : List ℕ) (t : Option Triple) → IsLine text t → line text ≡ Some t

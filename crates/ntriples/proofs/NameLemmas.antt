@@ -12,9 +12,9 @@ use Rattle.ntriples.specs.declared.fault.Refusal.TheVariants.{Malformed, OutOfMe
 use Rattle.ntriples.specs.declared.names.Class.{Class}
 use Rattle.ntriples.specs.declared.names.Class.TheVariants.{Alphanumerics, Label, Dots}
 use Rattle.ntriples.specs.Characters.{is_pn_chars_base, is_pn_chars_u, is_pn_chars}
-use Rattle.ntriples.specs.Reading.{Fails, onto, with_front, behind}
+use Rattle.ntriples.specs.Reading.{Fails, onto, prepended, following}
 use Rattle.ntriples.specs.Parsing.{is_in, begins_in, run, some_of, tag_part, subtags_from, dotted, label_rest}
-use Rattle.ntriples.proofs.Behind.{EndsWith, Ends, ends_same, ends_more, ends_at, ends_drop, ends_shorter}
+use Rattle.ntriples.proofs.Suffixes.{EndsWith, Ends, ends_same, ends_more, ends_at, ends_drop, ends_shorter}
 
 pub run_cons : (class : Class) (c : ℕ) (cs : List ℕ) → is_in class c ≡ true
     → run class (c ∷ cs) ≡ onto (encode_utf8 c) (run class cs)
@@ -26,24 +26,24 @@ unfolding run
 run_none class [] e = refl
 run_none class (c ∷ cs) e = rw e refl
 
-pub onto_onto : (front more : List ℕ) (read : List ℕ × List ℕ) → onto front (onto more read) ≡ onto (front ++ more) read
-onto_onto front more read =
-    ap (λ (v : List ℕ). let r : List ℕ × List ℕ = (v, read.1) in r) (sym (append_assoc front more read.0))
+pub onto_onto : (prefix more : List ℕ) (read : List ℕ × List ℕ) → onto prefix (onto more read) ≡ onto (prefix ++ more) read
+onto_onto prefix more read =
+    ap (λ (v : List ℕ). let r : List ℕ × List ℕ = (v, read.1) in r) (sym (append_assoc prefix more read.0))
 
-pub onto_nil : (front rest : List ℕ) → onto front ([], rest) ≡ (front, rest)
-onto_nil front rest = ap (λ (v : List ℕ). let r : List ℕ × List ℕ = (v, rest) in r) (append-nil front)
+pub onto_nil : (prefix rest : List ℕ) → onto prefix ([], rest) ≡ (prefix, rest)
+onto_nil prefix rest = ap (λ (v : List ℕ). let r : List ℕ × List ℕ = (v, rest) in r) (append-nil prefix)
 
 -- a loop over the characters of a class
-pub run_more : (class : Class) (front now : List ℕ) (c : ℕ) (rest : List ℕ) (total : List ℕ × List ℕ)
-    → is_in class c ≡ true → now ≡ c ∷ rest → onto front (run class now) ≡ total
-    → onto (front ++ encode_utf8 c) (run class rest) ≡ total
-run_more class front now c rest total e parts so_far =
-    sym (onto_onto front (encode_utf8 c) (run class rest))
-    ∙ ap (onto front) (sym (ap (run class) parts ∙ run_cons class c rest e)) ∙ so_far
+pub run_more : (class : Class) (prefix now : List ℕ) (c : ℕ) (rest : List ℕ) (total : List ℕ × List ℕ)
+    → is_in class c ≡ true → now ≡ c ∷ rest → onto prefix (run class now) ≡ total
+    → onto (prefix ++ encode_utf8 c) (run class rest) ≡ total
+run_more class prefix now c rest total e parts so_far =
+    sym (onto_onto prefix (encode_utf8 c) (run class rest))
+    ∙ ap (onto prefix) (sym (ap (run class) parts ∙ run_cons class c rest e)) ∙ so_far
 
-pub run_done : (class : Class) (front now : List ℕ) (total : List ℕ × List ℕ) → begins_in class now ≡ false
-    → onto front (run class now) ≡ total → (front, now) ≡ total
-run_done class front now total e so_far = sym (onto_nil front now) ∙ ap (onto front) (sym (run_none class now e))
+pub run_done : (class : Class) (prefix now : List ℕ) (total : List ℕ × List ℕ) → begins_in class now ≡ false
+    → onto prefix (run class now) ≡ total → (prefix, now) ≡ total
+run_done class prefix now total e so_far = sym (onto_nil prefix now) ∙ ap (onto prefix) (sym (run_none class now e))
     ∙ so_far
 
 pub skip_more : (class : Class) (now : List ℕ) (c : ℕ) (rest : List ℕ) → is_in class c ≡ true → now ≡ c ∷ rest
@@ -68,8 +68,8 @@ run_ends class (c ∷ cs) = run_ends_by (is_in class c) class c cs _ refl (run_e
 encode_some : (c : ℕ) → 0 < length (encode_utf8 c)
 encode_some c = omega (arith, length-encode c, len_utf8_bounds c)
 
-some_of_onto : (front : List ℕ) (read : List ℕ × List ℕ) → 0 < length front
-    → some_of (onto front read) ≡ Some (onto front read)
+some_of_onto : (prefix : List ℕ) (read : List ℕ × List ℕ) → 0 < length prefix
+    → some_of (onto prefix read) ≡ Some (onto prefix read)
 some_of_onto [] read h = absurd (omega arith)
 some_of_onto (b ∷ bs) read h = refl
 
@@ -90,13 +90,13 @@ tag_part_ends : (part : Class) (cs : List ℕ) → Ends cs (tag_part part cs)
 unfolding tag_part
 tag_part_ends part cs = some_of_ends cs (run part cs) (run_ends part cs)
 
-pub behind_ends : (wanted : ℕ) (cs rest : List ℕ) → behind wanted cs ≡ Some rest
-    → (nat_eq wanted wanted ≡ nat_eq wanted wanted) × (cs ≡ wanted ∷ rest)
-behind_ends wanted [] rest e = absurd cc
-behind_ends wanted (c ∷ cs) rest e =
-    let p = cond_some (nat_eq c wanted) cs rest e in
-    let same : c ≡ wanted = eqb-true c wanted p.0 in
-    (refl, ap (λ (x : ℕ). x ∷ cs) same ∙ ap (λ (t : List ℕ). wanted ∷ t) p.1)
+pub following_ends : (expected : ℕ) (cs rest : List ℕ) → following expected cs ≡ Some rest
+    → (nat_eq expected expected ≡ nat_eq expected expected) × (cs ≡ expected ∷ rest)
+following_ends expected [] rest e = absurd cc
+following_ends expected (c ∷ cs) rest e =
+    let p = cond_some (nat_eq c expected) cs rest e in
+    let same : c ≡ expected = eqb-true c expected p.0 in
+    (refl, ap (λ (x : ℕ). x ∷ cs) same ∙ ap (λ (t : List ℕ). expected ∷ t) p.1)
 
 subtags_skip : (skip : ℕ) (cs : List ℕ) → subtags_from skip cs ≡ subtags_from 0 (drop skip cs)
 unfolding subtags_from
@@ -105,10 +105,10 @@ subtags_skip (suc skip) [] = refl
 subtags_skip (suc skip) (c ∷ cs) = subtags_skip skip cs
 
 pub subtags_cons : (cs : List ℕ) (x : List ℕ × List ℕ) → tag_part Alphanumerics cs ≡ Some x
-    → subtags_from 0 (45 ∷ cs) ≡ with_front (45 ∷ x.0) (subtags_from 0 x.1)
+    → subtags_from 0 (45 ∷ cs) ≡ prepended (45 ∷ x.0) (subtags_from 0 x.1)
 unfolding subtags_from
 subtags_cons cs x e =
-    rw e (ap (with_front (45 ∷ x.0))
+    rw e (ap (prepended (45 ∷ x.0))
     (subtags_skip (length cs - length x.1) cs
     ∙ ap (subtags_from 0)
     (ends_drop cs x.1 (ends_at cs (tag_part Alphanumerics cs) x (tag_part_ends Alphanumerics cs) e))))
@@ -121,70 +121,70 @@ cond_none : (b : Bool) (cs : List ℕ) → cond b (Some cs) None ≡ None → b 
 cond_none true cs e = absurd cc
 cond_none false cs e = refl
 
-pub subtags_end : (cs : List ℕ) → behind 45 cs ≡ None → subtags_from 0 cs ≡ Some ([], cs)
+pub subtags_end : (cs : List ℕ) → following 45 cs ≡ None → subtags_from 0 cs ≡ Some ([], cs)
 unfolding subtags_from
 subtags_end [] e = refl
 subtags_end (c ∷ cs) e = rw (cond_none (nat_eq c 45) cs e) refl
 
-regroup : (front more : List ℕ) (read : Option (List ℕ × List ℕ))
-    → with_front front (with_front more read) ≡ with_front (front ++ more) read
-regroup front more None = refl
-regroup front more (Some x) = ap Some (onto_onto front more x)
+regroup : (prefix more : List ℕ) (read : Option (List ℕ × List ℕ))
+    → prepended prefix (prepended more read) ≡ prepended (prefix ++ more) read
+regroup prefix more None = refl
+regroup prefix more (Some x) = ap Some (onto_onto prefix more x)
 
 -- a loop over subtags
-subtags_more_at : (front cs new rest : List ℕ) (total part : Option (List ℕ × List ℕ))
-    → tag_part Alphanumerics cs ≡ part → with_front (front ++ 45 ∷ []) part ≡ Some (new, rest)
-    → with_front front (subtags_from 0 (45 ∷ cs)) ≡ total → with_front new (subtags_from 0 rest) ≡ total
-subtags_more_at front cs new rest total None e given so_far = absurd cc
-subtags_more_at front cs new rest total (Some x) e given so_far =
-    let p = some_pair_parts ((front ++ 45 ∷ []) ++ x.0) new x.1 rest given in
-    let text : front ++ 45 ∷ x.0 ≡ new = sym (append_assoc front (45 ∷ []) x.0) ∙ p.0 in
-    ap (λ (v : List ℕ). with_front v (subtags_from 0 rest)) (sym text)
-    ∙ ap (λ (v : List ℕ). with_front (front ++ 45 ∷ x.0) (subtags_from 0 v)) (sym p.1)
-    ∙ sym (regroup front (45 ∷ x.0) (subtags_from 0 x.1))
-    ∙ ap (with_front front) (sym (subtags_cons cs x e)) ∙ so_far
+subtags_more_at : (prefix cs new rest : List ℕ) (total part : Option (List ℕ × List ℕ))
+    → tag_part Alphanumerics cs ≡ part → prepended (prefix ++ 45 ∷ []) part ≡ Some (new, rest)
+    → prepended prefix (subtags_from 0 (45 ∷ cs)) ≡ total → prepended new (subtags_from 0 rest) ≡ total
+subtags_more_at prefix cs new rest total None e given so_far = absurd cc
+subtags_more_at prefix cs new rest total (Some x) e given so_far =
+    let p = some_pair_parts ((prefix ++ 45 ∷ []) ++ x.0) new x.1 rest given in
+    let text : prefix ++ 45 ∷ x.0 ≡ new = sym (append_assoc prefix (45 ∷ []) x.0) ∙ p.0 in
+    ap (λ (v : List ℕ). prepended v (subtags_from 0 rest)) (sym text)
+    ∙ ap (λ (v : List ℕ). prepended (prefix ++ 45 ∷ x.0) (subtags_from 0 v)) (sym p.1)
+    ∙ sym (regroup prefix (45 ∷ x.0) (subtags_from 0 x.1))
+    ∙ ap (prepended prefix) (sym (subtags_cons cs x e)) ∙ so_far
 
-subtags_more : (front now cs new rest : List ℕ) (total : Option (List ℕ × List ℕ)) → behind 45 now ≡ Some cs
-    → with_front (front ++ 45 ∷ []) (tag_part Alphanumerics cs) ≡ Some (new, rest)
-    → with_front front (subtags_from 0 now) ≡ total → with_front new (subtags_from 0 rest) ≡ total
-subtags_more front now cs new rest total e given so_far =
-    subtags_more_at front cs new rest total (tag_part Alphanumerics cs) refl given
-    (ap (λ (v : List ℕ). with_front front (subtags_from 0 v)) (sym (behind_ends 45 now cs e).1) ∙ so_far)
+subtags_more : (prefix now cs new rest : List ℕ) (total : Option (List ℕ × List ℕ)) → following 45 now ≡ Some cs
+    → prepended (prefix ++ 45 ∷ []) (tag_part Alphanumerics cs) ≡ Some (new, rest)
+    → prepended prefix (subtags_from 0 now) ≡ total → prepended new (subtags_from 0 rest) ≡ total
+subtags_more prefix now cs new rest total e given so_far =
+    subtags_more_at prefix cs new rest total (tag_part Alphanumerics cs) refl given
+    (ap (λ (v : List ℕ). prepended prefix (subtags_from 0 v)) (sym (following_ends 45 now cs e).1) ∙ so_far)
 
-subtags_fails_at : (r : Refusal) (front cs : List ℕ) (total part : Option (List ℕ × List ℕ))
-    → tag_part Alphanumerics cs ≡ part → Fails r (with_front (front ++ 45 ∷ []) part)
-    → with_front front (subtags_from 0 (45 ∷ cs)) ≡ total → Fails r total
-subtags_fails_at OutOfMemory front cs total part e given so_far = tt
-subtags_fails_at Malformed front cs total (Some x) e given so_far = absurd cc
-subtags_fails_at Malformed front cs total None e given so_far = sym so_far ∙ ap (with_front front) (subtags_none cs e)
+subtags_fails_at : (r : Refusal) (prefix cs : List ℕ) (total part : Option (List ℕ × List ℕ))
+    → tag_part Alphanumerics cs ≡ part → Fails r (prepended (prefix ++ 45 ∷ []) part)
+    → prepended prefix (subtags_from 0 (45 ∷ cs)) ≡ total → Fails r total
+subtags_fails_at OutOfMemory prefix cs total part e given so_far = tt
+subtags_fails_at Malformed prefix cs total (Some x) e given so_far = absurd cc
+subtags_fails_at Malformed prefix cs total None e given so_far = sym so_far ∙ ap (prepended prefix) (subtags_none cs e)
 
-subtags_fails : (r : Refusal) (front now cs : List ℕ) (total : Option (List ℕ × List ℕ)) → behind 45 now ≡ Some cs
-    → Fails r (with_front (front ++ 45 ∷ []) (tag_part Alphanumerics cs))
-    → with_front front (subtags_from 0 now) ≡ total → Fails r total
-subtags_fails r front now cs total e given so_far =
-    subtags_fails_at r front cs total (tag_part Alphanumerics cs) refl given
-    (ap (λ (v : List ℕ). with_front front (subtags_from 0 v)) (sym (behind_ends 45 now cs e).1) ∙ so_far)
+subtags_fails : (r : Refusal) (prefix now cs : List ℕ) (total : Option (List ℕ × List ℕ)) → following 45 now ≡ Some cs
+    → Fails r (prepended (prefix ++ 45 ∷ []) (tag_part Alphanumerics cs))
+    → prepended prefix (subtags_from 0 now) ≡ total → Fails r total
+subtags_fails r prefix now cs total e given so_far =
+    subtags_fails_at r prefix cs total (tag_part Alphanumerics cs) refl given
+    (ap (λ (v : List ℕ). prepended prefix (subtags_from 0 v)) (sym (following_ends 45 now cs e).1) ∙ so_far)
 
-pub subtags_done : (front now : List ℕ) (total : Option (List ℕ × List ℕ)) → behind 45 now ≡ None
-    → with_front front (subtags_from 0 now) ≡ total → total ≡ Some (front, now)
-subtags_done front now total e so_far = sym so_far ∙ ap (with_front front) (subtags_end now e)
-    ∙ ap Some (onto_nil front now)
+pub subtags_done : (prefix now : List ℕ) (total : Option (List ℕ × List ℕ)) → following 45 now ≡ None
+    → prepended prefix (subtags_from 0 now) ≡ total → total ≡ Some (prefix, now)
+subtags_done prefix now total e so_far = sym so_far ∙ ap (prepended prefix) (subtags_end now e)
+    ∙ ap Some (onto_nil prefix now)
 
-subtags_shorter_at : (front cs new rest : List ℕ) (part : Option (List ℕ × List ℕ)) → Ends cs part
-    → with_front (front ++ 45 ∷ []) part ≡ Some (new, rest) → length rest ≤ length cs
-subtags_shorter_at front cs new rest None h given = absurd cc
-subtags_shorter_at front cs new rest (Some x) h given =
-    let p = some_pair_parts ((front ++ 45 ∷ []) ++ x.0) new x.1 rest given in
+subtags_shorter_at : (prefix cs new rest : List ℕ) (part : Option (List ℕ × List ℕ)) → Ends cs part
+    → prepended (prefix ++ 45 ∷ []) part ≡ Some (new, rest) → length rest ≤ length cs
+subtags_shorter_at prefix cs new rest None h given = absurd cc
+subtags_shorter_at prefix cs new rest (Some x) h given =
+    let p = some_pair_parts ((prefix ++ 45 ∷ []) ++ x.0) new x.1 rest given in
     omega (arith, ends_shorter cs x.1 h, ap length p.1)
 
-subtags_shorter : (front now cs new rest : List ℕ) → behind 45 now ≡ Some cs
-    → with_front (front ++ 45 ∷ []) (tag_part Alphanumerics cs) ≡ Some (new, rest) → length rest < length now
-subtags_shorter front now cs new rest e given =
+subtags_shorter : (prefix now cs new rest : List ℕ) → following 45 now ≡ Some cs
+    → prepended (prefix ++ 45 ∷ []) (tag_part Alphanumerics cs) ≡ Some (new, rest) → length rest < length now
+subtags_shorter prefix now cs new rest e given =
     omega (
       arith,
-      subtags_shorter_at front cs new rest (tag_part Alphanumerics cs) (tag_part_ends Alphanumerics cs)
+      subtags_shorter_at prefix cs new rest (tag_part Alphanumerics cs) (tag_part_ends Alphanumerics cs)
           given,
-      ap length (behind_ends 45 now cs e).1,
+      ap length (following_ends 45 now cs e).1,
     )
 
 -- ---- labels
@@ -202,8 +202,8 @@ pub other_label : (c : ℕ) (cs : List ℕ) → nat_eq c 46 ≡ false
 unfolding label_rest
 other_label c cs e = rw e refl
 
-pub dotted_onto : (cs front : List ℕ) (read : List ℕ × List ℕ) → 0 < length front
-    → dotted cs (onto front read) ≡ onto (46 ∷ front) read
+pub dotted_onto : (cs prefix : List ℕ) (read : List ℕ × List ℕ) → 0 < length prefix
+    → dotted cs (onto prefix read) ≡ onto (46 ∷ prefix) read
 dotted_onto cs [] read h = absurd (omega arith)
 dotted_onto cs (b ∷ bs) read h = refl
 
@@ -241,9 +241,9 @@ label_step_by true c cs d rest e before h pn =
     let same : c ≡ 46 = eqb-true c 46 e in
     let h1 : (run Dots (46 ∷ cs)).1 ≡ d ∷ rest = subst (λ (x : ℕ). (run Dots (x ∷ cs)).1 ≡ d ∷ rest) same h in
     let h2 : (run Dots cs).1 ≡ d ∷ rest = subst (λ (r : List ℕ × List ℕ). r.1 ≡ d ∷ rest) (dot_run cs) h1 in
-    let front = (run Dots cs).0 ++ encode_utf8 d in
+    let prefix = (run Dots cs).0 ++ encode_utf8 d in
     rw same (dot_label cs ∙ ap (dotted cs) (before h2)
-    ∙ dotted_onto cs front (label_rest rest)
+    ∙ dotted_onto cs prefix (label_rest rest)
     (omega (arith, length-append (run Dots cs).0 (encode_utf8 d), encode_some d))
     ∙ ap (λ (r : List ℕ × List ℕ). onto (r.0 ++ encode_utf8 d) (label_rest rest)) (sym (dot_run cs)))
 label_step_by false c cs d rest e before h pn =
@@ -268,54 +268,54 @@ label_step [] d rest h pn =
 label_step (c ∷ cs) d rest h pn = label_step_by (nat_eq c 46) c cs d rest refl (λ k. label_step cs d rest k pn) h pn
 
 -- a loop over the characters of a label
-pub label_more : (front now mid end : List ℕ) (d : ℕ) (rest : List ℕ) (total : List ℕ × List ℕ)
+pub label_more : (prefix now mid end : List ℕ) (d : ℕ) (rest : List ℕ) (total : List ℕ × List ℕ)
     → (run Dots now).1 ≡ d ∷ rest → is_pn_chars d ≡ true
-    → ◌≡◌ {A = List ℕ × List ℕ} (mid, end) (onto front (run Dots now)) → onto front (label_rest now) ≡ total
+    → ◌≡◌ {A = List ℕ × List ℕ} (mid, end) (onto prefix (run Dots now)) → onto prefix (label_rest now) ≡ total
     → onto (mid ++ encode_utf8 d) (label_rest rest) ≡ total
 unfolding IsStep
-label_more front now mid end d rest total parts pn pushed so_far =
-    let text : mid ≡ front ++ (run Dots now).0 = ap (λ (r : List ℕ × List ℕ). r.0) pushed in
+label_more prefix now mid end d rest total parts pn pushed so_far =
+    let text : mid ≡ prefix ++ (run Dots now).0 = ap (λ (r : List ℕ × List ℕ). r.0) pushed in
     ap (λ (v : List ℕ). onto (v ++ encode_utf8 d) (label_rest rest)) text
-    ∙ ap (λ (v : List ℕ). onto v (label_rest rest)) (append_assoc front (run Dots now).0 (encode_utf8 d))
-    ∙ sym (onto_onto front ((run Dots now).0 ++ encode_utf8 d) (label_rest rest))
-    ∙ ap (onto front) (sym (label_step now d rest parts pn)) ∙ so_far
+    ∙ ap (λ (v : List ℕ). onto v (label_rest rest)) (append_assoc prefix (run Dots now).0 (encode_utf8 d))
+    ∙ sym (onto_onto prefix ((run Dots now).0 ++ encode_utf8 d) (label_rest rest))
+    ∙ ap (onto prefix) (sym (label_step now d rest parts pn)) ∙ so_far
 
-pub label_done : (front now : List ℕ) (total : List ℕ × List ℕ) → begins_in Label (run Dots now).1 ≡ false
-    → onto front (label_rest now) ≡ total → ◌≡◌ {A = List ℕ × List ℕ} (front, now) total
-label_done front now total e so_far = sym (onto_nil front now) ∙ ap (onto front) (sym (label_none now e)) ∙ so_far
+pub label_done : (prefix now : List ℕ) (total : List ℕ × List ℕ) → begins_in Label (run Dots now).1 ≡ false
+    → onto prefix (label_rest now) ≡ total → ◌≡◌ {A = List ℕ × List ℕ} (prefix, now) total
+label_done prefix now total e so_far = sym (onto_nil prefix now) ∙ ap (onto prefix) (sym (label_none now e)) ∙ so_far
 
 pub label_shorter : (now : List ℕ) (d : ℕ) (rest : List ℕ) → (run Dots now).1 ≡ d ∷ rest → length rest < length now
 label_shorter now d rest parts = omega (arith, ends_shorter now (run Dots now).1 (run_ends Dots now), ap length parts)
 
--- ---- behind a hyphen that was pushed
+-- ---- after a hyphen that was pushed
 
 pub hyphen : encode_utf8 45 ≡ 45 ∷ []
 unfolding encode_utf8
 hyphen = refl
 
-hyphened : (front mid : List ℕ) → mid ≡ front ++ encode_utf8 45 → mid ≡ front ++ 45 ∷ []
-hyphened front mid e = e ∙ ap (λ (v : List ℕ). front ++ v) hyphen
+hyphened : (prefix mid : List ℕ) → mid ≡ prefix ++ encode_utf8 45 → mid ≡ prefix ++ 45 ∷ []
+hyphened prefix mid e = e ∙ ap (λ (v : List ℕ). prefix ++ v) hyphen
 
-module _ (front mid now cs : List ℕ) (at : behind 45 now ≡ Some cs) (pushed : mid ≡ front ++ encode_utf8 45) where
+module _ (prefix mid now cs : List ℕ) (at : following 45 now ≡ Some cs) (pushed : mid ≡ prefix ++ encode_utf8 45) where
   pub loop_more : (new rest : List ℕ) (total : Option (List ℕ × List ℕ))
-      → with_front mid (tag_part Alphanumerics cs) ≡ Some (new, rest) → with_front front (subtags_from 0 now) ≡ total
-      → with_front new (subtags_from 0 rest) ≡ total
+      → prepended mid (tag_part Alphanumerics cs) ≡ Some (new, rest) → prepended prefix (subtags_from 0 now) ≡ total
+      → prepended new (subtags_from 0 rest) ≡ total
   loop_more new rest total given so_far =
-      subtags_more front now cs new rest total
-      at (subst (λ (v : List ℕ). with_front v (tag_part Alphanumerics cs) ≡ Some (new, rest))
-      (hyphened front mid pushed) given) so_far
+      subtags_more prefix now cs new rest total
+      at (subst (λ (v : List ℕ). prepended v (tag_part Alphanumerics cs) ≡ Some (new, rest))
+      (hyphened prefix mid pushed) given) so_far
 
-  pub loop_shorter : (new rest : List ℕ) → with_front mid (tag_part Alphanumerics cs) ≡ Some (new, rest)
+  pub loop_shorter : (new rest : List ℕ) → prepended mid (tag_part Alphanumerics cs) ≡ Some (new, rest)
       → length rest < length now
   loop_shorter new rest given =
-      subtags_shorter front now cs new rest
-      at (subst (λ (v : List ℕ). with_front v (tag_part Alphanumerics cs) ≡ Some (new, rest))
-      (hyphened front mid pushed) given)
+      subtags_shorter prefix now cs new rest
+      at (subst (λ (v : List ℕ). prepended v (tag_part Alphanumerics cs) ≡ Some (new, rest))
+      (hyphened prefix mid pushed) given)
 
   pub loop_fails : (r : Refusal) (total : Option (List ℕ × List ℕ))
-      → Fails r (with_front mid (tag_part Alphanumerics cs)) → with_front front (subtags_from 0 now) ≡ total
+      → Fails r (prepended mid (tag_part Alphanumerics cs)) → prepended prefix (subtags_from 0 now) ≡ total
       → Fails r total
   loop_fails r total given so_far =
-      subtags_fails r front now cs total
-      at (subst (λ (v : List ℕ). Fails r (with_front v (tag_part Alphanumerics cs))) (hyphened front mid pushed)
+      subtags_fails r prefix now cs total
+      at (subst (λ (v : List ℕ). Fails r (prepended v (tag_part Alphanumerics cs))) (hyphened prefix mid pushed)
       given) so_far

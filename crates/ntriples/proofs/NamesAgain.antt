@@ -9,12 +9,12 @@ use Rattle.ntriples.specs.declared.names.Class.{Class}
 use Rattle.ntriples.specs.declared.names.Class.TheVariants.{Letters, Alphanumerics, Label, Dots}
 use Rattle.ntriples.specs.Characters.{is_digit, is_letter, is_pn_chars_base, is_pn_chars_u, is_pn_chars}
 use Rattle.ntriples.specs.Document.{is_line_end}
-use Rattle.ntriples.specs.Reading.{◌>>=◌, onto, with_front, character, behind}
+use Rattle.ntriples.specs.Reading.{◌>>=◌, onto, prepended, character, following}
 use Rattle.ntriples.specs.Parsing.{is_in, begins_in, run, dotted, label_rest, blank_node_label, some_of, tag_part}
 use Rattle.ntriples.specs.Parsing.{subtags_from, langtag}
 use Rattle.ntriples.proofs.NameLemmas.{run_cons, run_none, dot_label, other_label, subtags_cons}
 use Rattle.ntriples.proofs.Encoded.{no_ends, no_ends-append, scalars-append}
-use Rattle.ntriples.proofs.Readings.{Makes, makes_bind, makes_cond, makes_behind, character_makes}
+use Rattle.ntriples.proofs.Readings.{Makes, makes_bind, makes_cond, makes_following, character_makes}
 use Rattle.ntriples.proofs.Again.{Again, no_end}
 
 -- ---- labels
@@ -151,8 +151,8 @@ label_again c read s e h = (
 pub blank_makes : (cs : List ℕ) → scalars cs ≡ true → Makes LabelAgain (blank_node_label cs)
 unfolding blank_node_label is_first
 blank_makes cs h =
-    makes_behind LabelAgain 95 cs _ h (λ underscore k.
-    makes_behind LabelAgain 58 underscore _ k (λ colon m.
+    makes_following LabelAgain 95 cs _ h (λ underscore k.
+    makes_following LabelAgain 58 underscore _ k (λ colon m.
     makes_bind IsScalar LabelAgain (character colon) _ (character_makes colon m) (λ c s n.
     makes_cond LabelAgain (is_pn_chars_u c.0 || is_digit c.0) (Some (onto (encode c.0) (label_rest c.1))) None
     (λ e. label_again c.0 (label_rest c.1) s e (rest_is c.1 n)) (λ e. tt))))
@@ -253,16 +253,16 @@ no_subtags : SubtagsAgain []
 no_subtags =
     record { characters = []; are = refl; whole = refl; spell = refl; again = subtags_space; stops = λ more. refl }
 
-two_spell : (front later text behind : List ℕ) → encodes front ≡ text → encodes later ≡ behind
-    → encodes (front ++ later) ≡ text ++ behind
-two_spell front later text behind e f = encodes-append front later ∙ ap₂ (λ (x y : List ℕ). x ++ y) e f
+two_spell : (prefix later text following : List ℕ) → encodes prefix ≡ text → encodes later ≡ following
+    → encodes (prefix ++ later) ≡ text ++ following
+two_spell prefix later text following e f = encodes-append prefix later ∙ ap₂ (λ (x y : List ℕ). x ++ y) e f
 
 hyphen_spell : (cs text : List ℕ) → encodes cs ≡ text → encodes (45 ∷ cs) ≡ 45 ∷ text
 hyphen_spell cs text e = ap (λ (t : List ℕ). t ++ encodes cs) (encode_ascii 45 (omega arith))
     ∙ ap (λ (t : List ℕ). 45 ∷ t) e
 
 subtag_then : (text : List ℕ) (read : Option (List ℕ × List ℕ)) → PartAgain Alphanumerics text
-    → Makes SubtagsAgain read → Makes SubtagsAgain (with_front (45 ∷ text) read)
+    → Makes SubtagsAgain read → Makes SubtagsAgain (prepended (45 ∷ text) read)
 subtag_then text None p h = tt
 subtag_then text (Some x) p h = (
   record {
@@ -275,7 +275,7 @@ subtag_then text (Some x) p h = (
         ap (λ (t : List ℕ). subtags_from 0 (45 ∷ t)) (append_assoc p.characters h.0.characters (32 ∷ more))
         ∙ subtags_cons (p.characters ++ (h.0.characters ++ 32 ∷ more)) (text, h.0.characters ++ 32 ∷ more)
         (p.again (h.0.characters ++ 32 ∷ more) (h.0.stops more))
-        ∙ ap (with_front (45 ∷ text)) (h.0.again more);
+        ∙ ap (prepended (45 ∷ text)) (h.0.again more);
     stops = λ more. refl;
   },
   h.1,
@@ -288,7 +288,7 @@ subtags_make (suc skip) (c ∷ cs) h = subtags_make skip cs (and_parts (scalar c
 subtags_make zero (c ∷ cs) h =
     let tail : scalars cs ≡ true = (and_parts (scalar c) (scalars cs) h).1 in
     makes_cond SubtagsAgain (nat_eq c 45)
-    (tag_part Alphanumerics cs >>= λ part. with_front (45 ∷ part.0) (subtags_from (length cs - length part.1) cs))
+    (tag_part Alphanumerics cs >>= λ part. prepended (45 ∷ part.0) (subtags_from (length cs - length part.1) cs))
     (Some ([], c ∷ cs))
     (λ e. makes_bind (PartAgain Alphanumerics) SubtagsAgain (tag_part Alphanumerics cs) _
     (part_makes Alphanumerics cs tail) (λ part p k.
@@ -309,7 +309,7 @@ unfolding langtag
 tag_reads cs primary middle text rest e f = rw (e, f) refl
 
 tag_again : (primary : List ℕ) (read : Option (List ℕ × List ℕ)) → PartAgain Letters primary → Makes SubtagsAgain read
-    → Makes TagAgain (with_front primary read)
+    → Makes TagAgain (prepended primary read)
 tag_again primary None p h = tt
 tag_again primary (Some x) p h = (
   record {

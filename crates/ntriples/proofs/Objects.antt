@@ -8,12 +8,12 @@ use Rattle.std.proofs.lemmas.Option.{none-some, same_Some}
 use Rattle.ntriples.specs.declared.quoted.QuoteKind.TheVariants as kind
 use Rattle.ntriples.specs.declared.term.Term.{Term}
 use Rattle.ntriples.specs.declared.term.Term.TheVariants.{Iri, Blank, Literal}
-use Rattle.ntriples.specs.Reading.{◌>>=◌, behind}
+use Rattle.ntriples.specs.Reading.{◌>>=◌, following}
 use Rattle.ntriples.specs.Parsing.{quoted, iriref, blank_node_label, langtag, datatype, literal_suffix, literal}
 use Rattle.ntriples.specs.Parsing.{subject, object}
 use Rattle.ntriples.specs.Grammar.{IsString, IsIri, IsLabel, xsd_string, rdf_lang_string, IsTagged, IsTyped, IsLiteral}
 use Rattle.ntriples.specs.Grammar.{IsSubject, IsObject, IsRead, hyphened}
-use Rattle.ntriples.proofs.NameLemmas.{behind_ends}
+use Rattle.ntriples.proofs.NameLemmas.{following_ends}
 use Rattle.ntriples.proofs.Pieces.{Takes, bind_some}
 use Rattle.ntriples.proofs.Quotes.{quoted_some, enclosed, iriref_some, quoted_of, iriref_of}
 use Rattle.ntriples.proofs.Labels.{Stops, label_some, label_of, label_longest}
@@ -22,9 +22,9 @@ use Rattle.ntriples.proofs.Tags.{langtag_some, langtag_of, langtag_longest}
 
 -- ---- literals are of the form
 
--- what with a string in front is a literal of this lexical form
+-- what with a string at the start is a literal of this lexical form
 abbrev IsSuffix : List ℕ → List ℕ → Term → Type 0
-IsSuffix lexical front t = (text : List ℕ) → IsString text lexical → IsObject (text ++ front) t
+IsSuffix lexical prefix t = (text : List ℕ) → IsString text lexical → IsObject (text ++ prefix) t
 
 none_suffix : (lexical : List ℕ) → IsSuffix lexical [] (Literal lexical xsd_string None)
 none_suffix lexical text h = inl (subst (λ (t : List ℕ). IsString t lexical) (sym (append-nil text)) h, refl)
@@ -39,22 +39,22 @@ tag_suffix lexical c cs x is e =
     subst (λ (y : Term × List ℕ). Takes (IsSuffix lexical) (c ∷ cs) y.0 y.1)
     (same_Some {A = Term × List ℕ} (Literal lexical rdf_lang_string (Some p.0.0), p.0.1) x p.2)
     (record {
-      front = 64 ∷ t.front;
+      prefix = 64 ∷ t.prefix;
       parts = ap (λ (k : ℕ). k ∷ cs) is ∙ ap (λ (l : List ℕ). 64 ∷ l) t.parts;
       form = λ (text : List ℕ) (h : IsString text lexical).
-          record { quoted = text; suffix = 64 ∷ t.front; form = refl; string = h; language = t.form; typed = refl };
+          record { quoted = text; suffix = 64 ∷ t.prefix; form = refl; string = h; language = t.form; typed = refl };
     })
 
 datatype_some : (cs : List ℕ) (x : List ℕ × List ℕ) → datatype cs ≡ Some x
-    → Takes (λ (front iri : List ℕ). (rest : List ℕ) × (front ≡ 94 ∷ rest) × IsIri rest iri) cs x.0 x.1
+    → Takes (λ (prefix iri : List ℕ). (rest : List ℕ) × (prefix ≡ 94 ∷ rest) × IsIri rest iri) cs x.0 x.1
 unfolding datatype
 datatype_some cs x e =
-    let p = bind_some (behind 94 cs) iriref x e in
+    let p = bind_some (following 94 cs) iriref x e in
     let t = iriref_some p.0 x p.2 in
     record {
-      front = 94 ∷ t.front;
-      parts = (behind_ends 94 cs p.0 p.1).1 ∙ ap (λ (l : List ℕ). 94 ∷ l) t.parts;
-      form = (t.front, refl, t.form);
+      prefix = 94 ∷ t.prefix;
+      parts = (following_ends 94 cs p.0 p.1).1 ∙ ap (λ (l : List ℕ). 94 ∷ l) t.parts;
+      form = (t.prefix, refl, t.form);
     }
 
 typed_suffix : (lexical : List ℕ) (c : ℕ) (cs : List ℕ) (x : Term × List ℕ) → c ≡ 94
@@ -67,7 +67,7 @@ typed_suffix lexical c cs x is e =
     subst (λ (y : Term × List ℕ). Takes (IsSuffix lexical) (c ∷ cs) y.0 y.1)
     (same_Some {A = Term × List ℕ} (Literal lexical p.0.0 None, p.0.1) x p.2)
     (record {
-      front = 94 ∷ 94 ∷ t.form.0;
+      prefix = 94 ∷ 94 ∷ t.form.0;
       parts = ap (λ (k : ℕ). k ∷ cs) is ∙ ap (λ (l : List ℕ). 94 ∷ l) t.parts
           ∙ ap (λ (l : List ℕ). 94 ∷ l ++ p.0.1) t.form.1;
       form = λ (text : List ℕ) (h : IsString text lexical).
@@ -84,7 +84,7 @@ suffix_by false true lexical c cs x h i e = typed_suffix lexical c cs x (eqb-tru
 suffix_by false false lexical c cs x h i e =
     subst (λ (y : Term × List ℕ). Takes (IsSuffix lexical) (c ∷ cs) y.0 y.1)
     (same_Some {A = Term × List ℕ} (Literal lexical xsd_string None, c ∷ cs) x e)
-    (record { front = []; parts = refl; form = none_suffix lexical })
+    (record { prefix = []; parts = refl; form = none_suffix lexical })
 
 suffix_some : (lexical cs : List ℕ) (x : Term × List ℕ) → literal_suffix lexical cs ≡ Some x
     → Takes (IsSuffix lexical) cs x.0 x.1
@@ -92,21 +92,21 @@ unfolding literal_suffix
 suffix_some lexical [] x e =
     subst (λ (y : Term × List ℕ). Takes (IsSuffix lexical) [] y.0 y.1)
     (same_Some {A = Term × List ℕ} (Literal lexical xsd_string None, []) x e)
-    (record { front = []; parts = refl; form = none_suffix lexical })
+    (record { prefix = []; parts = refl; form = none_suffix lexical })
 suffix_some lexical (c ∷ cs) x e = suffix_by (nat_eq c 64) (nat_eq c 94) lexical c cs x refl refl e
 
 literal_some : (cs : List ℕ) (x : Term × List ℕ) → literal cs ≡ Some x → Takes IsObject cs x.0 x.1
 unfolding literal
 literal_some cs x e =
-    let p = bind_some (behind 34 cs) _ x e in
+    let p = bind_some (following 34 cs) _ x e in
     let q = bind_some (quoted kind.Literal p.0) _ x p.2 in
     let t = enclosed kind.Literal 34 p.0 q.0.0 q.0.1 (quoted_some kind.Literal p.0 q.0 q.1) in
     let s = suffix_some q.0.0 q.0.1 x q.2 in
     record {
-      front = t.front ++ s.front;
-      parts = (behind_ends 34 cs p.0 p.1).1 ∙ t.parts ∙ ap (λ (l : List ℕ). t.front ++ l) s.parts
-          ∙ sym (append_assoc t.front s.front x.1);
-      form = s.form t.front t.form;
+      prefix = t.prefix ++ s.prefix;
+      parts = (following_ends 34 cs p.0 p.1).1 ∙ t.parts ∙ ap (λ (l : List ℕ). t.prefix ++ l) s.parts
+          ∙ sym (append_assoc t.prefix s.prefix x.1);
+      form = s.form t.prefix t.form;
     }
 
 -- ---- subjects and objects are of the form
@@ -119,7 +119,7 @@ blank_some cs x e =
     let t = label_some cs p.0 p.1 in
     subst (λ (y : Term × List ℕ). Takes IsSubject cs y.0 y.1)
     (same_Some {A = Term × List ℕ} (Blank p.0.0, p.0.1) x p.2)
-    (record { front = t.front; parts = t.parts; form = t.form })
+    (record { prefix = t.prefix; parts = t.parts; form = t.form })
 
 iri_some : (cs : List ℕ) (x : Term × List ℕ) → (iriref cs >>= λ iri. Some (Iri iri.0, iri.1)) ≡ Some x
     → Takes IsSubject cs x.0 x.1
@@ -129,7 +129,7 @@ iri_some cs x e =
     let t = iriref_some cs p.0 p.1 in
     subst (λ (y : Term × List ℕ). Takes IsSubject cs y.0 y.1)
     (same_Some {A = Term × List ℕ} (Iri p.0.0, p.0.1) x p.2)
-    (record { front = t.front; parts = t.parts; form = t.form })
+    (record { prefix = t.prefix; parts = t.parts; form = t.form })
 
 subject_by : (b : Bool) (cs : List ℕ) (x : Term × List ℕ)
     → cond b (blank_node_label cs >>= λ label. Some (Blank label.0, label.1))
@@ -152,7 +152,7 @@ object_by : (b : Bool) (cs : List ℕ) (x : Term × List ℕ) → cond b (litera
 object_by true cs x e = literal_some cs x e
 object_by false cs x e =
     let t = subject_some cs x e in
-    record { front = t.front; parts = t.parts; form = as_object x.0 t.front t.form }
+    record { prefix = t.prefix; parts = t.parts; form = as_object x.0 t.prefix t.form }
 
 pub object_some : (cs : List ℕ) (x : Term × List ℕ) → object cs ≡ Some x → Takes IsObject cs x.0 x.1
 unfolding object
@@ -189,10 +189,10 @@ string_literal : (text lexical rest : List ℕ) → IsString text lexical
 unfolding object
 string_literal text lexical rest h = rw h.form refl
 
-begun : (front lexical rest : List ℕ) → quoted kind.Literal (front ++ rest) ≡ Some (lexical, rest)
-    → literal (34 ∷ front ++ rest) ≡ literal_suffix lexical rest
+begun : (prefix lexical rest : List ℕ) → quoted kind.Literal (prefix ++ rest) ≡ Some (lexical, rest)
+    → literal (34 ∷ prefix ++ rest) ≡ literal_suffix lexical rest
 unfolding literal
-begun front lexical rest e = rw e refl
+begun prefix lexical rest e = rw e refl
 
 literal_suffixed : (text lexical rest : List ℕ) → IsString text lexical
     → object (text ++ rest) ≡ literal_suffix lexical rest
@@ -200,7 +200,7 @@ literal_suffixed text lexical rest h =
     let p = quoted_of kind.Literal 34 text lexical rest h in
     string_literal text lexical rest h ∙ ap (λ (l : List ℕ). literal (l ++ rest)) p.1 ∙ begun p.0 lexical rest p.2
 
--- behind a string
+-- after a string
 suffixed : (whole text more lexical rest : List ℕ) → IsString text lexical → whole ≡ text ++ more
     → object (whole ++ rest) ≡ literal_suffix lexical (more ++ rest)
 suffixed whole text more lexical rest h at =
@@ -316,7 +316,7 @@ suffix_shorter : (lexical rest : List ℕ) (x : Term × List ℕ) → literal_su
     → length x.1 ≤ length rest
 suffix_shorter lexical rest x e =
     let t = suffix_some lexical rest x e in
-    omega (arith, length-append t.front x.1, ap length t.parts)
+    omega (arith, length-append t.prefix x.1, ap length t.parts)
 
 literal_longest : (text lexical datatype : List ℕ) (tag : Option (List ℕ)) (rest : List ℕ) (x : Term × List ℕ)
     → IsLiteral text lexical datatype tag → object (text ++ rest) ≡ Some x → length x.1 ≤ length rest
@@ -345,13 +345,13 @@ nothing [] rest h = refl
 nothing (c ∷ more) rest h = absurd (omega (arith, length-append more rest))
 
 pub read_whole : {A : Type 0} (Form : List ℕ → A → Type 0) (read : List ℕ → Option (A × List ℕ)) → Longest Form read
-    → (cs : List ℕ) (x : A × List ℕ) → read cs ≡ Some x → (t : Takes Form cs x.0 x.1) → IsRead Form t.front x.1 x.0
+    → (cs : List ℕ) (x : A × List ℕ) → read cs ≡ Some x → (t : Takes Form cs x.0 x.1) → IsRead Form t.prefix x.1 x.0
 read_whole Form read longest cs x e t =
     record {
       form = t.form;
       longest = λ more rest other at h.
-          let whole : cs ≡ (t.front ++ more) ++ rest =
-          t.parts ∙ ap (λ (l : List ℕ). t.front ++ l) at ∙ sym (append_assoc t.front more rest) in
-          let below = longest (t.front ++ more) other rest x h (ap read (sym whole) ∙ e) in
+          let whole : cs ≡ (t.prefix ++ more) ++ rest =
+          t.parts ∙ ap (λ (l : List ℕ). t.prefix ++ l) at ∙ sym (append_assoc t.prefix more rest) in
+          let below = longest (t.prefix ++ more) other rest x h (ap read (sym whole) ∙ e) in
           nothing more rest (omega (arith, ap length at));
     }

@@ -12,15 +12,15 @@ use Rattle.ntriples.specs.declared.quoted.QuoteKind.TheVariants.{Iri, Literal}
 use Rattle.ntriples.specs.Characters.{is_iri_character}
 use Rattle.ntriples.specs.Reading.{◌>>=◌, character}
 use Rattle.ntriples.specs.Parsing.{hex, hex4, scalar, short_code, long_code, uchar, echar_or, literal_escape, closing}
-use Rattle.ntriples.specs.Parsing.{is_plain, escape, quoted_character}
+use Rattle.ntriples.specs.Parsing.{is_unescaped, escape, quoted_character}
 use Rattle.ntriples.specs.Grammar.{is_hex, is_scalar, is_string_character, hex_number, IsUchar, echar, IsEchar}
 use Rattle.ntriples.specs.Grammar.{IsIriPiece, IsStringPiece}
 
--- a text of the form in front, and what is left behind it
+-- a text of the form at the start, and what is left after it
 pub record Takes {A : Type 0} (Form : List ℕ → A → Type 0) (cs : List ℕ) (value : A) (rest : List ℕ) : Type 0 where
-  pub front : List ℕ
-  pub parts : cs ≡ front ++ rest
-  pub form : Form front value
+  pub prefix : List ℕ
+  pub parts : cs ≡ prefix ++ rest
+  pub form : Form prefix value
 
 pub bind_some : {A B : Type 0} (o : Option A) (f : A → Option B) (y : B) → (o >>= f) ≡ Some y
     → (x : A) × (o ≡ Some x) × (f x ≡ Some y)
@@ -156,12 +156,12 @@ first_four (a ∷ b ∷ c ∷ d ∷ more) n e =
 
 -- ---- UCHAR
 
--- an escape of this form, behind its backslash
-abbrev pub Behind : (List ℕ → ℕ → Type 0) → List ℕ → ℕ → Type 0
-Behind Form front c = Form (92 ∷ front) c
+-- an escape of this form, after its backslash
+abbrev pub AfterBackslash : (List ℕ → ℕ → Type 0) → List ℕ → ℕ → Type 0
+AfterBackslash Form prefix c = Form (92 ∷ prefix) c
 
 TakesUchar : List ℕ → ℕ × List ℕ → Type 0
-TakesUchar cs x = Takes (Behind IsUchar) cs x.0 x.1
+TakesUchar cs x = Takes (AfterBackslash IsUchar) cs x.0 x.1
 
 scalar_some : (c : ℕ) (cs : List ℕ) (x : ℕ × List ℕ) → scalar c cs ≡ Some x
     → (is_scalar x.0 ≡ true) × (x.0 ≡ c) × (cs ≡ x.1)
@@ -178,7 +178,7 @@ short_some u cs x is e =
     let s = scalar_some p.0.0 p.0.1 x p.2 in
     let digits : List ℕ = h.a ∷ h.b ∷ h.c ∷ h.d ∷ [] in
     record {
-      front = u ∷ digits;
+      prefix = u ∷ digits;
       parts = ap (λ (t : List ℕ). u ∷ t) h.parts
           ∙ ap (λ (t : List ℕ). u ∷ h.a ∷ h.b ∷ h.c ∷ h.d ∷ t) s.2;
       form =
@@ -202,7 +202,7 @@ long_some u cs x is e =
     let low : List ℕ = l.a ∷ l.b ∷ l.c ∷ l.d ∷ [] in
     let digits : List ℕ = h.a ∷ h.b ∷ h.c ∷ h.d ∷ low in
     record {
-      front = u ∷ digits;
+      prefix = u ∷ digits;
       parts = ap (λ (t : List ℕ). u ∷ t) (h.parts ∙ ap (λ (t : List ℕ). h.a ∷ h.b ∷ h.c ∷ h.d ∷ t)
           (l.parts ∙ ap (λ (t : List ℕ). l.a ∷ l.b ∷ l.c ∷ l.d ∷ t) s.2));
       form =
@@ -230,11 +230,11 @@ unfolding uchar
 uchar_some [] x e = absurd (none-some x e)
 uchar_some (c ∷ cs) x e = uchar_by (nat_eq c 117) (nat_eq c 85) c cs x refl refl e
 
--- the text of an escape: a backslash, and what is read behind it
+-- the text of an escape: a backslash, and what is read after it
 record Escapes (read : List ℕ → Option (ℕ × List ℕ)) (text : List ℕ) (c : ℕ) : Type 0 where
-  pub front : List ℕ
-  pub parts : text ≡ 92 ∷ front
-  pub reads : (rest : List ℕ) → read (front ++ rest) ≡ Some (c, rest)
+  pub prefix : List ℕ
+  pub parts : text ≡ 92 ∷ prefix
+  pub reads : (rest : List ℕ) → read (prefix ++ rest) ≡ Some (c, rest)
 
 short_of : (a b c d : ℕ) (rest : List ℕ) → AllFour a b c d [] → is_scalar (hex_number (a ∷ b ∷ c ∷ d ∷ [])) ≡ true
     → uchar (117 ∷ a ∷ b ∷ c ∷ d ∷ rest) ≡ Some (hex_number (a ∷ b ∷ c ∷ d ∷ []), rest)
@@ -276,7 +276,7 @@ uchar_of text c u = elim u.form [
         let value : c ≡ hex_number digits = u.named ∙ ap hex_number are in
         let s : is_scalar (hex_number digits) ≡ true = subst (λ (n : ℕ). is_scalar n ≡ true) value u.scalar in
         record {
-          front = 117 ∷ digits;
+          prefix = 117 ∷ digits;
           parts = at ∙ ap (λ (t : List ℕ). 92 ∷ 117 ∷ t) are;
           reads = λ rest. short_of f.a f.b f.c f.d rest good s ∙ ap (λ (n : ℕ). Some (n, rest)) (sym value);
         }
@@ -293,7 +293,7 @@ uchar_of text c u = elim u.form [
         let value : c ≡ hex_number digits = u.named ∙ ap hex_number are in
         let s : is_scalar (hex_number digits) ≡ true = subst (λ (n : ℕ). is_scalar n ≡ true) value u.scalar in
         record {
-          front = 85 ∷ digits;
+          prefix = 85 ∷ digits;
           parts = at ∙ ap (λ (t : List ℕ). 92 ∷ 85 ∷ t) are;
           reads = λ rest. long_of f.a f.b f.c f.d l.a l.b l.c l.d rest good (all_four l.a l.b l.c l.d [] good.others) s
               ∙ ap (λ (n : ℕ). Some (n, rest)) (sym value);
@@ -306,53 +306,53 @@ IsPiece Iri = IsIriPiece
 IsPiece Literal = IsStringPiece
 
 literal_escape_by : (o : Option ℕ) (c : ℕ) (cs : List ℕ) (x : ℕ × List ℕ) → echar c ≡ o
-    → echar_or o cs (uchar (c ∷ cs)) ≡ Some x → Takes (Behind IsStringPiece) (c ∷ cs) x.0 x.1
+    → echar_or o cs (uchar (c ∷ cs)) ≡ Some x → Takes (AfterBackslash IsStringPiece) (c ∷ cs) x.0 x.1
 unfolding TakesUchar
 literal_escape_by (Some d) c cs x is e =
     let same = same_Some {A = ℕ × List ℕ} (d, cs) x e in
     record {
-      front = c ∷ [];
+      prefix = c ∷ [];
       parts = ap (λ (y : ℕ × List ℕ). c ∷ y.1) same;
       form = inr (inl (c, refl, is ∙ ap (λ (y : ℕ × List ℕ). Some y.0) same));
     }
 literal_escape_by None c cs x is e =
     let t = uchar_some (c ∷ cs) x e in
-    record { front = t.front; parts = t.parts; form = inr (inr t.form) }
+    record { prefix = t.prefix; parts = t.parts; form = inr (inr t.form) }
 
 literal_escape_some : (cs : List ℕ) (x : ℕ × List ℕ) → literal_escape cs ≡ Some x
-    → Takes (Behind IsStringPiece) cs x.0 x.1
+    → Takes (AfterBackslash IsStringPiece) cs x.0 x.1
 unfolding literal_escape
 literal_escape_some [] x e = absurd (none-some x e)
 literal_escape_some (c ∷ cs) x e = literal_escape_by (echar c) c cs x refl e
 
 escape_some : (kind : QuoteKind) (cs : List ℕ) (x : ℕ × List ℕ) → escape kind cs ≡ Some x
-    → Takes (Behind (IsPiece kind)) cs x.0 x.1
+    → Takes (AfterBackslash (IsPiece kind)) cs x.0 x.1
 unfolding TakesUchar
 escape_some Iri cs x e =
     let t = uchar_some cs x e in
-    record { front = t.front; parts = t.parts; form = inr t.form }
+    record { prefix = t.prefix; parts = t.parts; form = inr t.form }
 escape_some Literal cs x e = literal_escape_some cs x e
 
-plain_form : (kind : QuoteKind) (c : ℕ) → nat_eq c (closing kind) ≡ false → nat_eq c 92 ≡ false
-    → is_plain kind c ≡ true → IsPiece kind (c ∷ []) c
-plain_form Iri c e f h = inl (refl, h)
-plain_form Literal c e f h =
+unescaped_form : (kind : QuoteKind) (c : ℕ) → nat_eq c (closing kind) ≡ false → nat_eq c 92 ≡ false
+    → is_unescaped kind c ≡ true → IsPiece kind (c ∷ []) c
+unescaped_form Iri c e f h = inl (refl, h)
+unescaped_form Literal c e f h =
     let p = and_parts (not (nat_eq c 10)) (not (nat_eq c 13)) h in
     inl (refl, rw (e, f, p.0, p.1) refl)
 
--- the closing character, or a piece in front
+-- the closing character, or a piece at the start
 abbrev pub IsNext : QuoteKind → List ℕ → Option ℕ → List ℕ → Type 0
 IsNext kind cs None rest = cs ≡ closing kind ∷ rest
 IsNext kind cs (Some d) rest = Takes (IsPiece kind) cs d rest
 
-next_by : (closes slash plain : Bool) (kind : QuoteKind) (c : ℕ) (cs : List ℕ) (x : Option ℕ × List ℕ)
-    → nat_eq c (closing kind) ≡ closes → nat_eq c 92 ≡ slash → is_plain kind c ≡ plain
+next_by : (closes slash unescaped : Bool) (kind : QuoteKind) (c : ℕ) (cs : List ℕ) (x : Option ℕ × List ℕ)
+    → nat_eq c (closing kind) ≡ closes → nat_eq c 92 ≡ slash → is_unescaped kind c ≡ unescaped
     → cond closes (Some (None, cs)) (cond slash (escape kind cs >>= λ e. Some (Some e.0, e.1))
-    (cond plain (Some (Some c, cs)) None)) ≡ Some x → IsNext kind (c ∷ cs) x.0 x.1
-next_by true slash plain kind c cs x h i j e =
+    (cond unescaped (Some (Some c, cs)) None)) ≡ Some x → IsNext kind (c ∷ cs) x.0 x.1
+next_by true slash unescaped kind c cs x h i j e =
     subst (λ (y : Option ℕ × List ℕ). IsNext kind (c ∷ cs) y.0 y.1)
     (same_Some {A = Option ℕ × List ℕ} (None, cs) x e) (ap (λ (k : ℕ). k ∷ cs) (eqb-true c (closing kind) h))
-next_by false true plain kind c cs x h i j e =
+next_by false true unescaped kind c cs x h i j e =
     let p = bind_some (escape kind cs) (λ (y : ℕ × List ℕ). let z : Option (Option ℕ × List ℕ) = Some (Some y.0, y.1)
     in z) x e in
     let t = escape_some kind cs p.0 p.1 in
@@ -360,14 +360,14 @@ next_by false true plain kind c cs x h i j e =
     subst (λ (y : Option ℕ × List ℕ). IsNext kind (c ∷ cs) y.0 y.1)
     (same_Some {A = Option ℕ × List ℕ} (Some p.0.0, p.0.1) x p.2)
     (record {
-      front = c ∷ t.front;
+      prefix = c ∷ t.prefix;
       parts = ap (λ (l : List ℕ). c ∷ l) t.parts;
-      form = subst (λ (k : ℕ). IsPiece kind (k ∷ t.front) p.0.0) (sym is) t.form;
+      form = subst (λ (k : ℕ). IsPiece kind (k ∷ t.prefix) p.0.0) (sym is) t.form;
     })
 next_by false false true kind c cs x h i j e =
     subst (λ (y : Option ℕ × List ℕ). IsNext kind (c ∷ cs) y.0 y.1)
     (same_Some {A = Option ℕ × List ℕ} (Some c, cs) x e)
-    (record { front = c ∷ []; parts = refl; form = plain_form kind c h i j })
+    (record { prefix = c ∷ []; parts = refl; form = unescaped_form kind c h i j })
 next_by false false false kind c cs x h i j e = absurd (none-some x e)
 
 pub next_some : (kind : QuoteKind) (cs : List ℕ) (x : Option ℕ × List ℕ) → quoted_character kind cs ≡ Some x
@@ -375,40 +375,40 @@ pub next_some : (kind : QuoteKind) (cs : List ℕ) (x : Option ℕ × List ℕ) 
 unfolding quoted_character
 next_some kind [] x e = absurd (none-some x e)
 next_some kind (c ∷ cs) x e =
-    next_by (nat_eq c (closing kind)) (nat_eq c 92) (is_plain kind c) kind c cs x refl refl refl e
+    next_by (nat_eq c (closing kind)) (nat_eq c 92) (is_unescaped kind c) kind c cs x refl refl refl e
 
 -- ---- pieces are read
 
 differs : (test : ℕ → Bool) (c k : ℕ) → test c ≡ true → test k ≡ false → nat_eq c k ≡ false
 differs test c k h i = ne_eqb c k (λ e. both_ways (test k) i (ap test (sym e) ∙ h))
 
-plain_of : (kind : QuoteKind) (c : ℕ) (rest : List ℕ) → nat_eq c (closing kind) ≡ false → nat_eq c 92 ≡ false
-    → is_plain kind c ≡ true → quoted_character kind (c ∷ rest) ≡ Some (Some c, rest)
+unescaped_of : (kind : QuoteKind) (c : ℕ) (rest : List ℕ) → nat_eq c (closing kind) ≡ false → nat_eq c 92 ≡ false
+    → is_unescaped kind c ≡ true → quoted_character kind (c ∷ rest) ≡ Some (Some c, rest)
 unfolding quoted_character
-plain_of kind c rest e f g = rw (e, f, g) refl
+unescaped_of kind c rest e f g = rw (e, f, g) refl
 
-iri_plain_of : (c : ℕ) (rest : List ℕ) → is_iri_character c ≡ true
+iri_unescaped_of : (c : ℕ) (rest : List ℕ) → is_iri_character c ≡ true
     → quoted_character Iri (c ∷ rest) ≡ Some (Some c, rest)
 unfolding is_iri_character
-iri_plain_of c rest h = plain_of Iri c rest (differs is_iri_character c 62 h refl)
+iri_unescaped_of c rest h = unescaped_of Iri c rest (differs is_iri_character c 62 h refl)
     (differs is_iri_character c 92 h refl) h
 
-string_plain_of : (c : ℕ) (rest : List ℕ) → is_string_character c ≡ true
+string_unescaped_of : (c : ℕ) (rest : List ℕ) → is_string_character c ≡ true
     → quoted_character Literal (c ∷ rest) ≡ Some (Some c, rest)
-string_plain_of c rest h =
-    plain_of Literal c rest (differs is_string_character c 34 h refl) (differs is_string_character c 92 h refl)
+string_unescaped_of c rest h =
+    unescaped_of Literal c rest (differs is_string_character c 34 h refl) (differs is_string_character c 92 h refl)
     (rw (differs is_string_character c 10 h refl, differs is_string_character c 13 h refl) refl)
 
-behind_slash : (kind : QuoteKind) (front rest : List ℕ) (c : ℕ) → escape kind (front ++ rest) ≡ Some (c, rest)
-    → quoted_character kind (92 ∷ front ++ rest) ≡ Some (Some c, rest)
+after_slash : (kind : QuoteKind) (prefix rest : List ℕ) (c : ℕ) → escape kind (prefix ++ rest) ≡ Some (c, rest)
+    → quoted_character kind (92 ∷ prefix ++ rest) ≡ Some (Some c, rest)
 unfolding quoted_character
-behind_slash Iri front rest c e = rw e refl
-behind_slash Literal front rest c e = rw e refl
+after_slash Iri prefix rest c e = rw e refl
+after_slash Literal prefix rest c e = rw e refl
 
 escaped_of : (kind : QuoteKind) (text : List ℕ) (c : ℕ) (rest : List ℕ) → Escapes (escape kind) text c
     → quoted_character kind (text ++ rest) ≡ Some (Some c, rest)
 escaped_of kind text c rest p =
-    ap (λ (t : List ℕ). quoted_character kind (t ++ rest)) p.parts ∙ behind_slash kind p.front rest c (p.reads rest)
+    ap (λ (t : List ℕ). quoted_character kind (t ++ rest)) p.parts ∙ after_slash kind p.prefix rest c (p.reads rest)
 
 letter_of : (letter c : ℕ) (rest : List ℕ) → echar letter ≡ Some c → literal_escape (letter ∷ rest) ≡ Some (c, rest)
 unfolding literal_escape
@@ -416,7 +416,7 @@ letter_of letter c rest e = rw e refl
 
 echar_of : (text : List ℕ) (c : ℕ) → IsEchar text c → Escapes literal_escape text c
 echar_of text c p =
-    record { front = p.0 ∷ []; parts = p.1; reads = λ (rest : List ℕ). letter_of p.0 c rest p.2 }
+    record { prefix = p.0 ∷ []; parts = p.1; reads = λ (rest : List ℕ). letter_of p.0 c rest p.2 }
 
 -- the letter of a UCHAR is none of an ECHAR
 other_letter : (letter : ℕ) (cs : List ℕ) → (letter ≡ 117) ⊎ (letter ≡ 85)
@@ -424,24 +424,24 @@ other_letter : (letter : ℕ) (cs : List ℕ) → (letter ≡ 117) ⊎ (letter �
 unfolding literal_escape echar
 other_letter letter cs h = elim h [ inl e ↦ rw e refl | inr e ↦ rw e refl ]
 
-first_letter : (front digits : List ℕ) (k : ℕ) → 92 ∷ front ≡ 92 ∷ k ∷ digits
-    → (letter : ℕ) × (more : List ℕ) × (front ≡ letter ∷ more) × (letter ≡ k)
+first_letter : (prefix digits : List ℕ) (k : ℕ) → 92 ∷ prefix ≡ 92 ∷ k ∷ digits
+    → (letter : ℕ) × (more : List ℕ) × (prefix ≡ letter ∷ more) × (letter ≡ k)
 first_letter [] digits k e = absurd cc
 first_letter (letter ∷ more) digits k e = (letter, more, refl, cc)
 
-either_letter : (text : List ℕ) (c : ℕ) (u : IsUchar text c) (front : List ℕ) → text ≡ 92 ∷ front
-    → (letter : ℕ) × (more : List ℕ) × (front ≡ letter ∷ more) × ((letter ≡ 117) ⊎ (letter ≡ 85))
-either_letter text c u front e = elim u.form [
-  | inl q ↦ let p = first_letter front u.digits 117 (sym e ∙ q.0) in (p.0, p.1, p.2, inl p.3)
-  | inr q ↦ let p = first_letter front u.digits 85 (sym e ∙ q.0) in (p.0, p.1, p.2, inr p.3)
+either_letter : (text : List ℕ) (c : ℕ) (u : IsUchar text c) (prefix : List ℕ) → text ≡ 92 ∷ prefix
+    → (letter : ℕ) × (more : List ℕ) × (prefix ≡ letter ∷ more) × ((letter ≡ 117) ⊎ (letter ≡ 85))
+either_letter text c u prefix e = elim u.form [
+  | inl q ↦ let p = first_letter prefix u.digits 117 (sym e ∙ q.0) in (p.0, p.1, p.2, inl p.3)
+  | inr q ↦ let p = first_letter prefix u.digits 85 (sym e ∙ q.0) in (p.0, p.1, p.2, inr p.3)
 ]
 
 unread_letter : (text : List ℕ) (c : ℕ) → IsUchar text c → Escapes literal_escape text c
 unread_letter text c u =
     let p = uchar_of text c u in
-    let l = either_letter text c u p.front p.parts in
+    let l = either_letter text c u p.prefix p.parts in
     record {
-      front = p.front;
+      prefix = p.prefix;
       parts = p.parts;
       reads = λ (rest : List ℕ). ap (λ (t : List ℕ). literal_escape (t ++ rest)) l.2
           ∙ other_letter l.0 (l.1 ++ rest) l.3 ∙ ap (λ (t : List ℕ). uchar (t ++ rest)) (sym l.2) ∙ p.reads rest;
@@ -450,11 +450,11 @@ unread_letter text c u =
 pub piece_of : (kind : QuoteKind) (text : List ℕ) (c : ℕ) (rest : List ℕ) → IsPiece kind text c
     → quoted_character kind (text ++ rest) ≡ Some (Some c, rest)
 piece_of Iri text c rest p = elim p [
-  | inl plain ↦ rw plain.0 (iri_plain_of c rest plain.1)
+  | inl unescaped ↦ rw unescaped.0 (iri_unescaped_of c rest unescaped.1)
   | inr u ↦ escaped_of Iri text c rest (uchar_of text c u)
 ]
 piece_of Literal text c rest p = elim p [
-  | inl plain ↦ rw plain.0 (string_plain_of c rest plain.1)
+  | inl unescaped ↦ rw unescaped.0 (string_unescaped_of c rest unescaped.1)
   | inr escape ↦ elim escape [
     | inl e ↦ escaped_of Literal text c rest (echar_of text c e)
     | inr u ↦ escaped_of Literal text c rest (unread_letter text c u)

@@ -5,11 +5,11 @@ use Rattle.std.proofs.lemmas.Option.{none-some, same_Some}
 use lib.Utf8.{encode, encodes}
 use Rattle.ntriples.specs.declared.quoted.QuoteKind.{QuoteKind}
 use Rattle.ntriples.specs.declared.quoted.QuoteKind.TheVariants.{Iri}
-use Rattle.ntriples.specs.Reading.{onto, with_front, behind}
+use Rattle.ntriples.specs.Reading.{onto, prepended, following}
 use Rattle.ntriples.specs.Parsing.{closing, quoted_character, quoted, iriref}
 use Rattle.ntriples.specs.Grammar.{ArePieces, IsQuoted, IsIri}
 use Rattle.ntriples.proofs.QuotedLemmas.{quoted_at, quoted_none, goes_on, quoted_character_shorter}
-use Rattle.ntriples.proofs.NameLemmas.{behind_ends}
+use Rattle.ntriples.proofs.NameLemmas.{following_ends}
 use Rattle.ntriples.proofs.Pieces.{Takes, bind_some, IsPiece, IsNext, next_some, piece_of, closed}
 
 -- ---- what is read is of the form
@@ -26,11 +26,11 @@ one_more : (kind : QuoteKind) (cs : List ℕ) (d : ℕ) (r : List ℕ) (value re
     → Inside kind r value rest → Inside kind cs (encode d ++ value) rest
 one_more kind cs d r value rest t i =
     record {
-      inside = t.front ++ i.inside;
+      inside = t.prefix ++ i.inside;
       characters = d ∷ i.characters;
-      parts = t.parts ∙ ap (λ (l : List ℕ). t.front ++ l) i.parts
-          ∙ sym (append_assoc t.front i.inside (closing kind ∷ rest));
-      pieces = (t.front, i.inside, refl, t.form, i.pieces);
+      parts = t.parts ∙ ap (λ (l : List ℕ). t.prefix ++ l) i.parts
+          ∙ sym (append_assoc t.prefix i.inside (closing kind ∷ rest));
+      pieces = (t.prefix, i.inside, refl, t.form, i.pieces);
       named = ap (λ (l : List ℕ). encode d ++ l) i.named;
     }
 
@@ -73,7 +73,7 @@ pub enclosed : (kind : QuoteKind) (opening : ℕ) (cs value rest : List ℕ) →
     → Takes (IsQuoted opening (closing kind) (IsPiece kind)) (opening ∷ cs) value rest
 enclosed kind opening cs value rest i =
     record {
-      front = opening ∷ i.inside ++ closing kind ∷ [];
+      prefix = opening ∷ i.inside ++ closing kind ∷ [];
       parts = ap (λ (l : List ℕ). opening ∷ l) (i.parts ∙ sym (append_assoc i.inside (closing kind ∷ []) rest));
       form = record {
         inside = i.inside;
@@ -87,8 +87,8 @@ enclosed kind opening cs value rest i =
 pub iriref_some : (cs : List ℕ) (x : List ℕ × List ℕ) → iriref cs ≡ Some x → Takes IsIri cs x.0 x.1
 unfolding iriref
 iriref_some cs x e =
-    let p = bind_some (behind 60 cs) (quoted Iri) x e in
-    subst (λ (l : List ℕ). Takes IsIri l x.0 x.1) (sym (behind_ends 60 cs p.0 p.1).1)
+    let p = bind_some (following 60 cs) (quoted Iri) x e in
+    subst (λ (l : List ℕ). Takes IsIri l x.0 x.1) (sym (following_ends 60 cs p.0 p.1).1)
     (enclosed Iri 60 p.0 x.0 x.1 (quoted_some Iri p.0 x p.2))
 
 -- ---- what is of the form is read
@@ -103,12 +103,12 @@ inside_of kind (c ∷ cs) inside rest p =
     ap (λ (l : List ℕ). quoted kind (l ++ closing kind ∷ rest)) p.2
     ∙ ap (quoted kind) (append_assoc p.0 p.1 (closing kind ∷ rest))
     ∙ quoted_at kind (p.0 ++ later) (Some c, later) (piece_of kind p.0 c later p.3)
-    ∙ ap (with_front (encode c)) (inside_of kind cs p.1 rest p.4)
+    ∙ ap (prepended (encode c)) (inside_of kind cs p.1 rest p.4)
 
--- behind the opening character
+-- after the opening character
 pub quoted_of : (kind : QuoteKind) (opening : ℕ) (text value rest : List ℕ)
     → IsQuoted opening (closing kind) (IsPiece kind) text value
-    → (front : List ℕ) × (text ≡ opening ∷ front) × (quoted kind (front ++ rest) ≡ Some (value, rest))
+    → (prefix : List ℕ) × (text ≡ opening ∷ prefix) × (quoted kind (prefix ++ rest) ≡ Some (value, rest))
 quoted_of kind opening text value rest q = (
   q.inside ++ closing kind ∷ [],
   q.form,

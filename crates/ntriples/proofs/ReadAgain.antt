@@ -7,8 +7,8 @@ use lib.Utf8.{encode, encodes}
 use Rattle.ntriples.specs.declared.quoted.QuoteKind.{QuoteKind}
 use Rattle.ntriples.specs.declared.quoted.QuoteKind.TheVariants.{Iri, Literal}
 use Rattle.ntriples.specs.Characters.{is_iri_character}
-use Rattle.ntriples.specs.Reading.{with_front}
-use Rattle.ntriples.specs.Parsing.{hex, hex4, short_code, uchar, literal_escape, closing, is_plain}
+use Rattle.ntriples.specs.Reading.{prepended}
+use Rattle.ntriples.specs.Parsing.{hex, hex4, short_code, uchar, literal_escape, closing, is_unescaped}
 use Rattle.ntriples.specs.Grammar.{is_scalar, echar}
 use Rattle.ntriples.specs.Parsing.{quoted_character, quoted}
 use Rattle.ntriples.specs.Written.{upper_digit, code_escape, iri_byte, literal_byte}
@@ -56,10 +56,10 @@ code_again c more h = short_again c more h
 
 -- ---- characters
 
-plain_again : (kind : QuoteKind) (c : ℕ) (more : List ℕ) → nat_eq c (closing kind) ≡ false → nat_eq c 92 ≡ false
-    → is_plain kind c ≡ true → quoted_character kind (c ∷ more) ≡ Some (Some c, more)
+unescaped_again : (kind : QuoteKind) (c : ℕ) (more : List ℕ) → nat_eq c (closing kind) ≡ false → nat_eq c 92 ≡ false
+    → is_unescaped kind c ≡ true → quoted_character kind (c ∷ more) ≡ Some (Some c, more)
 unfolding quoted_character
-plain_again kind c more e f g = rw (e, f, g) refl
+unescaped_again kind c more e f g = rw (e, f, g) refl
 
 not_iri : (c : ℕ) → is_iri_character c ≡ false → (d : ℕ) → is_iri_character d ≡ true → nat_eq d c ≡ false
 not_iri c h d k = ne_eqb d c (λ e. both_ways (is_iri_character c) h (ap is_iri_character (sym e) ∙ k))
@@ -84,7 +84,7 @@ iri_again_by : (b : Bool) (c : ℕ) (more : List ℕ) → is_iri_character c ≡
     → quoted_character Iri (iri_byte c ++ more) ≡ Some (Some c, more)
 unfolding iri_byte
 iri_again_by true c more e =
-    rw e (plain_again Iri c more (not_iri 62 closing_isn't c e) (not_iri 92 backslash_isn't c e) e)
+    rw e (unescaped_again Iri c more (not_iri 62 closing_isn't c e) (not_iri 92 backslash_isn't c e) e)
 iri_again_by false c more e = rw e (iri_escaped c more (escaped_small c e))
 
 slash_again : (more : List ℕ) → quoted_character Literal (literal_byte 92 ++ more) ≡ Some (Some 92, more)
@@ -106,7 +106,7 @@ return_again more = refl
 other_again : (c : ℕ) (more : List ℕ) → nat_eq c 92 ≡ false → nat_eq c 34 ≡ false → nat_eq c 10 ≡ false
     → nat_eq c 13 ≡ false → quoted_character Literal (literal_byte c ++ more) ≡ Some (Some c, more)
 unfolding literal_byte
-other_again c more e f g h = rw (e, f, g, h) (plain_again Literal c more f e (rw (g, h) refl))
+other_again c more e f g h = rw (e, f, g, h) (unescaped_again Literal c more f e (rw (g, h) refl))
 
 literal_again : (c : ℕ) (more : List ℕ) → quoted_character Literal (literal_byte c ++ more) ≡ Some (Some c, more)
 literal_again c more = elim (cases_eq c 92) [
@@ -134,7 +134,7 @@ pub quoted_again : (kind : QuoteKind) (cs rest : List ℕ)
     → quoted kind (flat_map (piece kind) cs ++ closing kind ∷ rest) ≡ Some (encodes cs, rest)
 quoted_again kind [] rest = quoted_at kind (closing kind ∷ rest) (None, rest) (closed kind rest)
 quoted_again kind (c ∷ cs) rest =
-    let behind : List ℕ = flat_map (piece kind) cs ++ closing kind ∷ rest in
+    let following : List ℕ = flat_map (piece kind) cs ++ closing kind ∷ rest in
     ap (quoted kind) (append_assoc (piece kind c) (flat_map (piece kind) cs) (closing kind ∷ rest))
-    ∙ quoted_at kind (piece kind c ++ behind) (Some c, behind) (piece_again kind c behind)
-    ∙ ap (with_front (encode c)) (quoted_again kind cs rest)
+    ∙ quoted_at kind (piece kind c ++ following) (Some c, following) (piece_again kind c following)
+    ∙ ap (prepended (encode c)) (quoted_again kind cs rest)

@@ -9,12 +9,12 @@ use lib.Utf8.{scalars, low_scalar}
 use lib.Utf8 as text
 use Rattle.ntriples.specs.declared.quoted.QuoteKind.{QuoteKind}
 use Rattle.ntriples.specs.declared.quoted.QuoteKind.TheVariants.{Iri, Literal}
-use Rattle.ntriples.specs.Reading.{◌>>=◌, with_front, character, behind}
+use Rattle.ntriples.specs.Reading.{◌>>=◌, prepended, character, following}
 use Rattle.ntriples.specs.Parsing.{hex4, scalar, short_code, long_code, uchar, echar_or}
 use Rattle.ntriples.specs.Grammar.{is_scalar, echar}
-use Rattle.ntriples.specs.Parsing.{literal_escape, closing, is_plain, escape, quoted_character, quoted_from, quoted}
+use Rattle.ntriples.specs.Parsing.{literal_escape, closing, is_unescaped, escape, quoted_character, quoted_from, quoted}
 use Rattle.ntriples.specs.Parsing.{iriref}
-use Rattle.ntriples.proofs.Behind.{EndsWith, Ends, hex4_ends}
+use Rattle.ntriples.proofs.Suffixes.{EndsWith, Ends, hex4_ends}
 
 abbrev pub Makes : {A : Type 0} → (A → Type 0) → Option (A × List ℕ) → Type 0
 Makes P None = Unit {0}
@@ -34,27 +34,27 @@ pub makes_cond : {A : Type 0} (P : A → Type 0) (b : Bool) (x y : Option (A × 
 makes_cond P true x y h k = h refl
 makes_cond P false x y h k = k refl
 
-behind_by : {B : Type 0} (Q : B → Type 0) (b : Bool) (cs : List ℕ) (f : List ℕ → Option (B × List ℕ))
+following_by : {B : Type 0} (Q : B → Type 0) (b : Bool) (cs : List ℕ) (f : List ℕ → Option (B × List ℕ))
     → scalars cs ≡ true → ((rest : List ℕ) → scalars rest ≡ true → Makes Q (f rest))
     → Makes Q ((cond b (Some cs) None) >>= f)
-behind_by Q true cs f h k = k cs h
-behind_by Q false cs f h k = tt
+following_by Q true cs f h k = k cs h
+following_by Q false cs f h k = tt
 
-pub makes_behind : {B : Type 0} (Q : B → Type 0) (wanted : ℕ) (cs : List ℕ) (f : List ℕ → Option (B × List ℕ))
-    → scalars cs ≡ true → ((rest : List ℕ) → scalars rest ≡ true → Makes Q (f rest)) → Makes Q (behind wanted cs >>= f)
-makes_behind Q wanted [] f h k = tt
-makes_behind Q wanted (c ∷ cs) f h k = behind_by Q (nat_eq c wanted) cs f (and_parts (text.scalar c) (scalars cs) h).1 k
+pub makes_following : {B : Type 0} (Q : B → Type 0) (expected : ℕ) (cs : List ℕ) (f : List ℕ → Option (B × List ℕ))
+    → scalars cs ≡ true → ((rest : List ℕ) → scalars rest ≡ true → Makes Q (f rest)) → Makes Q (following expected cs >>= f)
+makes_following Q expected [] f h k = tt
+makes_following Q expected (c ∷ cs) f h k = following_by Q (nat_eq c expected) cs f (and_parts (text.scalar c) (scalars cs) h).1 k
 
 pub character_makes : (cs : List ℕ) → scalars cs ≡ true → Makes IsScalar (character cs)
 character_makes [] h = tt
 character_makes (c ∷ cs) h = and_parts (text.scalar c) (scalars cs) h
 
-scalars_behind : (front rest : List ℕ) → scalars (front ++ rest) ≡ true → scalars rest ≡ true
-scalars_behind [] rest h = h
-scalars_behind (c ∷ front) rest h = scalars_behind front rest (and_parts (text.scalar c) (scalars (front ++ rest)) h).1
+scalars_following : (prefix rest : List ℕ) → scalars (prefix ++ rest) ≡ true → scalars rest ≡ true
+scalars_following [] rest h = h
+scalars_following (c ∷ prefix) rest h = scalars_following prefix rest (and_parts (text.scalar c) (scalars (prefix ++ rest)) h).1
 
 scalars_end : (cs rest : List ℕ) → EndsWith cs rest → scalars cs ≡ true → scalars rest ≡ true
-scalars_end cs rest p h = scalars_behind p.front rest (ap scalars (sym p.parts) ∙ h)
+scalars_end cs rest p h = scalars_following p.prefix rest (ap scalars (sym p.parts) ∙ h)
 
 ends_make : {A : Type 0} (cs : List ℕ) (r : Option (A × List ℕ)) → Ends cs r → scalars cs ≡ true → Makes Anything r
 ends_make cs None p h = tt
@@ -140,23 +140,23 @@ quoted_character_makes kind cs h =
     makes_cond IsNext (nat_eq c.0 (closing kind)) (Some (None, c.1)) _ (λ e. (tt, k))
     (λ e. makes_cond IsNext (nat_eq c.0 92) (escape kind c.1 >>= λ d. Some (Some d.0, d.1)) _
     (λ f. makes_bind IsScalar IsNext (escape kind c.1) _ (escape_makes kind c.1 k) (λ d t m. (t, m)))
-    (λ f. makes_cond IsNext (is_plain kind c.0) (Some (Some c.0, c.1)) None (λ g. (s, k)) (λ g. tt))))
+    (λ f. makes_cond IsNext (is_unescaped kind c.0) (Some (Some c.0, c.1)) None (λ g. (s, k)) (λ g. tt))))
 
-front_makes : (front : List ℕ) (r : Option (List ℕ × List ℕ)) → IsUtf8 front → Makes IsUtf8 r
-    → Makes IsUtf8 (with_front front r)
-front_makes front None u h = tt
-front_makes front (Some x) u h = (IsUtf8-append front x.0 u h.0, h.1)
+prefix_makes : (prefix : List ℕ) (r : Option (List ℕ × List ℕ)) → IsUtf8 prefix → Makes IsUtf8 r
+    → Makes IsUtf8 (prepended prefix r)
+prefix_makes prefix None u h = tt
+prefix_makes prefix (Some x) u h = (IsUtf8-append prefix x.0 u h.0, h.1)
 
 next_makes : (kind : QuoteKind) (cs : List ℕ) (next : Option ℕ × List ℕ) → IsNext next.0 → scalars next.1 ≡ true
     → ((skip : ℕ) → Makes IsUtf8 (quoted_from kind skip cs))
     → Makes IsUtf8
     (elim next.0 [
       | None ↦ Some ([], next.1)
-      | Some d ↦ with_front (encode_utf8 d) (quoted_from kind (length cs - length next.1) cs)
+      | Some d ↦ prepended (encode_utf8 d) (quoted_from kind (length cs - length next.1) cs)
     ])
 next_makes kind cs (None, rest) s k later = (IsUtf8-nil, k)
 next_makes kind cs (Some d, rest) s k later =
-    front_makes (encode_utf8 d) (quoted_from kind (length cs - length rest) cs) (IsUtf8-encode d s)
+    prefix_makes (encode_utf8 d) (quoted_from kind (length cs - length rest) cs) (IsUtf8-encode d s)
     (later (length cs - length rest))
 
 quoted_from_makes : (kind : QuoteKind) (skip : ℕ) (cs : List ℕ) → scalars cs ≡ true
@@ -175,4 +175,4 @@ quoted_makes kind cs h = quoted_from_makes kind 0 cs h
 
 pub iriref_makes : (cs : List ℕ) → scalars cs ≡ true → Makes IsUtf8 (iriref cs)
 unfolding iriref
-iriref_makes cs h = makes_behind IsUtf8 60 cs _ h (λ rest k. quoted_makes Iri rest k)
+iriref_makes cs h = makes_following IsUtf8 60 cs _ h (λ rest k. quoted_makes Iri rest k)

@@ -18,7 +18,7 @@ use Rattle.ntriples.specs.Written.{iri_byte, literal_byte, iri_text, quoted_text
 use Rattle.ntriples.proofs.Encoded.{piece, no_ends, no_ends-append, scalars-append, pieces_encodes, pieces_no_ends}
 use Rattle.ntriples.proofs.Encoded.{pieces_scalars}
 use Rattle.ntriples.proofs.ReadAgain.{quoted_again}
-use Rattle.ntriples.proofs.Readings.{Makes, makes_bind, makes_cond, makes_behind, quoted_makes, iriref_makes}
+use Rattle.ntriples.proofs.Readings.{Makes, makes_bind, makes_cond, makes_following, quoted_makes, iriref_makes}
 use Rattle.ntriples.proofs.Again.{Again}
 use Rattle.ntriples.proofs.NamesAgain.{LabelAgain, TagAgain, blank_makes, langtag_makes}
 
@@ -61,13 +61,13 @@ iri_spells cs =
     ap₂ (λ (x y : List ℕ). x ++ y) (encode_ascii 60 (omega arith))
     (closed_spells Iri 62 cs (encode_ascii 62 (omega arith)))
 
-behind_iri : (cs more : List ℕ) → iriref (60 ∷ (flat_map iri_byte cs ++ 62 ∷ more)) ≡ Some (encodes cs, more)
+after_iri : (cs more : List ℕ) → iriref (60 ∷ (flat_map iri_byte cs ++ 62 ∷ more)) ≡ Some (encodes cs, more)
 unfolding iriref
-behind_iri cs more = quoted_again Iri cs more
+after_iri cs more = quoted_again Iri cs more
 
 iri_reads : (cs more : List ℕ) → iriref ((60 ∷ closed_by Iri 62 cs) ++ more) ≡ Some (encodes cs, more)
 iri_reads cs more = ap (λ (t : List ℕ). iriref (60 ∷ t)) (append_assoc (flat_map iri_byte cs) (62 ∷ []) more)
-    ∙ behind_iri cs more
+    ∙ after_iri cs more
 
 abbrev pub IriAgain : List ℕ → Type 0
 IriAgain iri = Again (List ℕ) iriref iri (iri_text iri)
@@ -106,7 +106,7 @@ pub record TermAgain (f : List ℕ → Option (Term × List ℕ)) (value : Term)
 
 pub record SubjectAgain (value : Term) : Type 0 where
   pub term : TermAgain subject value
-  pub bare : nat_eq term.first 34 ≡ false
+  pub unquoted : nat_eq term.first 34 ≡ false
 
 subject_iri : (rest iri after : List ℕ) → iriref (60 ∷ rest) ≡ Some (iri, after)
     → subject (60 ∷ rest) ≡ Some (term.Iri iri, after)
@@ -146,7 +146,7 @@ iri_subject iri u =
         starts = i.starts;
         solid = refl;
       };
-      bare = refl;
+      unquoted = refl;
     }
 
 blank_subject : (label : List ℕ) → LabelAgain label → SubjectAgain (term.Blank label)
@@ -167,7 +167,7 @@ blank_subject label l = record {
     starts = l.starts;
     solid = refl;
   };
-  bare = refl;
+  unquoted = refl;
 }
 
 some_character : (cs : List ℕ) → scalars cs ≡ true → Makes (λ c. scalar c ≡ true) (character cs)
@@ -196,7 +196,7 @@ object_from_subject value s = record {
     spell = s.term.whole.spell;
     again = λ more.
         ap (λ (cs : List ℕ). object (cs ++ 32 ∷ more)) s.term.starts
-        ∙ object_subject s.term.first (s.term.tail ++ 32 ∷ more) s.bare
+        ∙ object_subject s.term.first (s.term.tail ++ 32 ∷ more) s.unquoted
         ∙ ap (λ (cs : List ℕ). subject (cs ++ 32 ∷ more)) (sym s.term.starts) ∙ s.term.whole.again more;
   };
   first = s.term.first;
@@ -207,7 +207,7 @@ object_from_subject value s = record {
 
 -- ---- literals
 
--- what is written behind the closing quote
+-- what is written after the closing quote
 record SuffixAgain (text iri : List ℕ) (tag : Option (List ℕ)) : Type 0 where
   pub characters : List ℕ
   pub are : scalars characters ≡ true
@@ -285,7 +285,7 @@ HasSuffix text (term.Literal lexical iri tag) = (text ≡ lexical) × SuffixAgai
 
 datatype_makes : (cs : List ℕ) → scalars cs ≡ true → Makes IsUtf8 (datatype cs)
 unfolding datatype
-datatype_makes cs h = makes_behind IsUtf8 94 cs _ h (λ rest k. iriref_makes rest k)
+datatype_makes cs h = makes_following IsUtf8 94 cs _ h (λ rest k. iriref_makes rest k)
 
 suffix_makes : (text cs : List ℕ) → scalars cs ≡ true → Makes (HasSuffix text) (literal_suffix text cs)
 unfolding literal_suffix HasSuffix
@@ -360,7 +360,7 @@ literal_by text (term.Literal lexical iri tag) u h = subst (λ (t : List ℕ). T
 literal_makes : (cs : List ℕ) → scalars cs ≡ true → Makes (TermAgain object) (literal cs)
 unfolding literal
 literal_makes cs h =
-    makes_behind (TermAgain object) 34 cs _ h (λ rest k.
+    makes_following (TermAgain object) 34 cs _ h (λ rest k.
     makes_bind IsUtf8 (TermAgain object) (quoted Literal rest) _ (quoted_makes Literal rest k) (λ text u m.
     makes_map (HasSuffix text.0) (TermAgain object) (literal_suffix text.0 text.1)
     (λ value s. literal_by text.0 value u s) (suffix_makes text.0 text.1 m)))

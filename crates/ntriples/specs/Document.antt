@@ -19,7 +19,7 @@ abbrev pub onto_first : ℕ → List (List ℕ) → List (List ℕ)
 onto_first b [] = (b ∷ []) ∷ []
 onto_first b (l ∷ ls) = (b ∷ l) ∷ ls
 
--- The lines without their ends; the last is what follows the last line end, and may be empty. The line feed behind
+-- The lines without their ends; the last is what follows the last line end, and may be empty. The line feed after
 -- a carriage return ends no line of its own.
 unfoldable pub lines : List ℕ → List (List ℕ)
 lines [] = [] ∷ []
@@ -50,8 +50,8 @@ IsDocument bytes ts = HaveTriples (lines bytes) ts
 pub record IsFirstBadLine (bytes : List ℕ) (number : ℕ) : Type 0 where
   pub before : List (List ℕ)
   pub bad : List ℕ
-  pub behind : List (List ℕ)
-  pub cut : lines bytes ≡ before ++ bad ∷ behind
+  pub following : List (List ℕ)
+  pub cut : lines bytes ≡ before ++ bad ∷ following
   pub good : (ts : List Triple) × HaveTriples before ts
   pub malformed : (t : Option Triple) → IsLineOf bad t → ⊥
   pub counted : number ≡ length before + 1

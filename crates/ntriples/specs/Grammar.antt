@@ -78,7 +78,7 @@ IsIriPiece text c = ((text ≡ c ∷ []) × (is_iri_character c ≡ true)) ⊎ I
 abbrev pub IsStringPiece : List ℕ → ℕ → Type 0
 IsStringPiece text c = ((text ≡ c ∷ []) × (is_string_character c ≡ true)) ⊎ (IsEchar text c ⊎ IsUchar text c)
 
--- pieces one behind the other, one for each of these characters
+-- pieces one after the other, one for each of these characters
 abbrev pub ArePieces : (List ℕ → ℕ → Type 0) → List ℕ → List ℕ → Type 0
 ArePieces IsPiece text [] = text ≡ []
 ArePieces IsPiece text (c ∷ cs) =
@@ -116,7 +116,7 @@ pub record IsLabel (text label : List ℕ) : Type 0 where
   pub goes_on : IsLabelRest rest
   pub named : label ≡ encode_utf8_all (first ∷ rest)
 
--- subtags, each behind its hyphen
+-- subtags, each after its hyphen
 abbrev pub hyphened : List (List ℕ) → List ℕ
 hyphened subtags = flat_map (λ subtag. codes "-" ++ subtag) subtags
 
@@ -138,7 +138,7 @@ abbrev pub rdf_lang_string : List ℕ
 rdf_lang_string = codes "http://www.w3.org/1999/02/22-rdf-syntax-ns#langString"
 
 -- literal ::= STRING_LITERAL_QUOTE ('^^' IRIREF | LANGTAG)?
--- With a language its datatype is that of such strings; with nothing behind it, that of strings.
+-- With a language its datatype is that of such strings; with nothing after it, that of strings.
 pub record IsTagged (text lexical datatype tag : List ℕ) : Type 0 where
   pub quoted : List ℕ
   pub suffix : List ℕ
@@ -172,9 +172,9 @@ IsObject text (Blank label) = IsLabel text label
 IsObject text (Literal lexical datatype tag) = IsLiteral text lexical datatype tag
 
 -- A term is read as long as it can be: with what follows it is no longer one.
-pub record IsRead {A : Type 0} (IsTerm : List ℕ → A → Type 0) (text behind : List ℕ) (term : A) : Type 0 where
+pub record IsRead {A : Type 0} (IsTerm : List ℕ → A → Type 0) (text following : List ℕ) (term : A) : Type 0 where
   pub form : IsTerm text term
-  pub longest : (more rest : List ℕ) (other : A) → behind ≡ more ++ rest → IsTerm (text ++ more) other → more ≡ []
+  pub longest : (more rest : List ℕ) (other : A) → following ≡ more ++ rest → IsTerm (text ++ more) other → more ≡ []
 
 -- ---- triples and lines
 
@@ -183,8 +183,8 @@ AreBlanks text = list_all is_blank text ≡ true
 
 -- triple ::= subject predicate object '.'
 -- predicate ::= IRIREF
--- Spaces and tabs may stand between. What is behind the triple is on the same line.
-pub record IsTriple (text behind : List ℕ) (t : Triple) : Type 0 where
+-- Spaces and tabs may stand between. What is after the triple is on the same line.
+pub record IsTriple (text following : List ℕ) (t : Triple) : Type 0 where
   pub subject : List ℕ
   pub predicate : List ℕ
   pub object : List ℕ
@@ -194,15 +194,15 @@ pub record IsTriple (text behind : List ℕ) (t : Triple) : Type 0 where
   pub form : text
       ≡ subject ++ after_subject ++ predicate ++ after_predicate ++ object ++ after_object ++ codes "."
   pub is_subject : IsRead IsSubject subject
-      (after_subject ++ predicate ++ after_predicate ++ object ++ after_object ++ codes "." ++ behind) t.subject
+      (after_subject ++ predicate ++ after_predicate ++ object ++ after_object ++ codes "." ++ following) t.subject
   pub is_predicate : IsRead IsIri predicate
-      (after_predicate ++ object ++ after_object ++ codes "." ++ behind) t.predicate
-  pub is_object : IsRead IsObject object (after_object ++ codes "." ++ behind) t.object
+      (after_predicate ++ object ++ after_object ++ codes "." ++ following) t.predicate
+  pub is_object : IsRead IsObject object (after_object ++ codes "." ++ following) t.object
   pub blank : AreBlanks (after_subject ++ after_predicate ++ after_object)
 
 abbrev pub IsStatement : List ℕ → List ℕ → Option Triple → Type 0
-IsStatement text behind None = text ≡ []
-IsStatement text behind (Some t) = IsTriple text behind t
+IsStatement text following None = text ≡ []
+IsStatement text following (Some t) = IsTriple text following t
 
 -- nothing, or `#` and the rest of the line
 abbrev pub IsComment : List ℕ → Type 0

@@ -28,8 +28,8 @@ IsParsed bytes ts = triples_of (lines bytes) ≡ Some ts
 pub record IsFirstUnparsed (bytes : List ℕ) (number : ℕ) : Type 0 where
   pub before : List (List ℕ)
   pub bad : List ℕ
-  pub behind : List (List ℕ)
-  pub cut : lines bytes ≡ before ++ bad ∷ behind
+  pub following : List (List ℕ)
+  pub cut : lines bytes ≡ before ++ bad ∷ following
   pub good : IsSome (triples_of before)
   pub malformed : line_of bad ≡ None
   pub counted : number ≡ length before + 1

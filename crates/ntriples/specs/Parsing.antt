@@ -1,5 +1,5 @@
--- How the productions are read from the left: each function gives the value of the longest text of its production in
--- front, texts as UTF-8, and the characters behind it.
+-- How the productions are read from the left: each function gives the value of the longest prefix of its production, with
+-- texts as UTF-8, and the characters after it.
 use Rattle.std.specs.Prelude.{ℕ, zero, suc, ◌+◌, ◌*◌, ◌-◌, ◌==◌, nat_lt, if◌then◌else◌, Bool, true, false, ◌&&◌, ◌||◌}
 use Rattle.std.specs.Prelude.{not, List, [], ◌∷◌, length, Option, Some, None}
 use Rattle.std.specs.Char.{digit_value, encode_utf8}
@@ -12,7 +12,7 @@ use Rattle.ntriples.specs.declared.term.Term.TheVariants as term
 use Rattle.ntriples.specs.declared.term.Triple.{Triple}
 use Rattle.ntriples.specs.Characters.{is_digit, is_letter, is_pn_chars_u, is_pn_chars, is_iri_character}
 use Rattle.ntriples.specs.Grammar.{is_scalar, echar, xsd_string, rdf_lang_string}
-use Rattle.ntriples.specs.Reading.{◌>>=◌, onto, with_front, character, behind, skip_blanks}
+use Rattle.ntriples.specs.Reading.{◌>>=◌, onto, prepended, character, following, skip_blanks}
 
 abbrev pub scalar : ℕ → List ℕ → Option (ℕ × List ℕ)
 scalar c cs = if is_scalar c then Some (c, cs) else None
@@ -44,13 +44,13 @@ long_code cs = do
   low ← hex4 high.1
   scalar (65536 * high.0 + low.0) low.1
 
--- UCHAR, behind its backslash: `u` and four or `U` and eight digits
+-- UCHAR, after its backslash: `u` and four or `U` and eight digits
 unfoldable pub uchar : List ℕ → Option (ℕ × List ℕ)
 uchar cs = do
   c ← character cs
   if c.0 == 117 then short_code c.1 else if c.0 == 85 then long_code c.1 else None
 
--- ECHAR or UCHAR, behind the backslash
+-- ECHAR or UCHAR, after the backslash
 abbrev pub echar_or : Option ℕ → List ℕ → Option (ℕ × List ℕ) → Option (ℕ × List ℕ)
 echar_or (Some c) rest other = Some (c, rest)
 echar_or None rest other = other
@@ -66,9 +66,9 @@ closing Iri = 62
 closing Literal = 34
 
 -- what stands for itself
-abbrev pub is_plain : QuoteKind → ℕ → Bool
-is_plain Iri c = is_iri_character c
-is_plain Literal c = not (c == 10) && not (c == 13)
+abbrev pub is_unescaped : QuoteKind → ℕ → Bool
+is_unescaped Iri c = is_iri_character c
+is_unescaped Literal c = not (c == 10) && not (c == 13)
 
 abbrev pub escape : QuoteKind → List ℕ → Option (ℕ × List ℕ)
 escape Iri cs = uchar cs
@@ -80,11 +80,11 @@ quoted_character kind cs = do
   c ← character cs
   if c.0 == closing kind then Some (None, c.1)
       else if c.0 == 92 then (escape kind c.1 >>= λ e. Some (Some e.0, e.1))
-      else if is_plain kind c.0 then Some (Some c.0, c.1)
+      else if is_unescaped kind c.0 then Some (Some c.0, c.1)
       else None
 
--- IRIREF or STRING_LITERAL_QUOTE, behind the opening character: the value up to the closing one. So many characters
--- in front are passed over, as they belong to what was read before.
+-- IRIREF or STRING_LITERAL_QUOTE, after the opening character: the value up to the closing one. This count of
+-- leading characters is passed over, as they belong to what was read before.
 unfoldable pub quoted_from : QuoteKind → ℕ → List ℕ → Option (List ℕ × List ℕ)
 quoted_from kind skip [] = None
 quoted_from kind (suc skip) (c ∷ cs) = quoted_from kind skip cs
@@ -92,7 +92,7 @@ quoted_from kind zero (c ∷ cs) = do
   next ← quoted_character kind (c ∷ cs)
   elim next.0 [
     | None ↦ Some ([], next.1)
-    | Some d ↦ with_front (encode_utf8 d) (quoted_from kind (length cs - length next.1) cs)
+    | Some d ↦ prepended (encode_utf8 d) (quoted_from kind (length cs - length next.1) cs)
   ]
 
 abbrev pub quoted : QuoteKind → List ℕ → Option (List ℕ × List ℕ)
@@ -101,7 +101,7 @@ quoted kind cs = quoted_from kind 0 cs
 -- IRIREF: `<`, and the IRI up to `>`
 unfoldable pub iriref : List ℕ → Option (List ℕ × List ℕ)
 iriref cs = do
-  rest ← behind 60 cs
+  rest ← following 60 cs
   quoted Iri rest
 
 -- a class of characters
@@ -135,10 +135,10 @@ label_rest (c ∷ cs) =
 -- BLANK_NODE_LABEL: `_:`, PN_CHARS_U or a digit, and the rest
 unfoldable pub blank_node_label : List ℕ → Option (List ℕ × List ℕ)
 blank_node_label cs = do
-  underscore ← behind 95 cs
-  colon ← behind 58 underscore
+  underscore ← following 95 cs
+  colon ← following 58 underscore
   c ← character colon
-  if is_pn_chars_u c.0 || is_digit c.0 then with_front (encode_utf8 c.0) (Some (label_rest c.1)) else None
+  if is_pn_chars_u c.0 || is_digit c.0 then prepended (encode_utf8 c.0) (Some (label_rest c.1)) else None
 
 -- at least one character of a class
 abbrev pub some_of : List ℕ × List ℕ → Option (List ℕ × List ℕ)
@@ -148,25 +148,25 @@ some_of (b ∷ bs, rest) = Some (b ∷ bs, rest)
 unfoldable pub tag_part : Class → List ℕ → Option (List ℕ × List ℕ)
 tag_part part cs = some_of (run part cs)
 
--- any number of subtags, each with `-` before it; so many characters in front are passed over
+-- any number of subtags, each with `-` before it; this count of leading characters is passed over
 unfoldable pub subtags_from : ℕ → List ℕ → Option (List ℕ × List ℕ)
 subtags_from skip [] = Some ([], [])
 subtags_from (suc skip) (c ∷ cs) = subtags_from skip cs
 subtags_from zero (c ∷ cs) =
     if c == 45 then
-    (tag_part Alphanumerics cs >>= λ part. with_front (45 ∷ part.0) (subtags_from (length cs - length part.1) cs))
+    (tag_part Alphanumerics cs >>= λ part. prepended (45 ∷ part.0) (subtags_from (length cs - length part.1) cs))
     else Some ([], c ∷ cs)
 
--- LANGTAG, behind its `@`
+-- LANGTAG, after its `@`
 unfoldable pub langtag : List ℕ → Option (List ℕ × List ℕ)
 langtag cs = do
   primary ← tag_part Letters cs
-  with_front primary.0 (subtags_from 0 primary.1)
+  prepended primary.0 (subtags_from 0 primary.1)
 
--- the datatype of a literal, behind its first `^`
+-- the datatype of a literal, after its first `^`
 unfoldable pub datatype : List ℕ → Option (List ℕ × List ℕ)
 datatype cs = do
-  rest ← behind 94 cs
+  rest ← following 94 cs
   iriref rest
 
 -- of a literal what follows its closing quote: `@` and LANGTAG, `^^` and IRIREF, or nothing
@@ -180,7 +180,7 @@ literal_suffix text (c ∷ cs) =
 -- literal: STRING_LITERAL_QUOTE, and what may follow
 unfoldable pub literal : List ℕ → Option (Term × List ℕ)
 literal cs = do
-  rest ← behind 34 cs
+  rest ← following 34 cs
   text ← quoted Literal rest
   literal_suffix text.0 text.1
 
@@ -203,7 +203,7 @@ triple cs = do
   s ← subject cs
   p ← iriref (skip_blanks s.1)
   o ← object (skip_blanks p.1)
-  rest ← behind 46 (skip_blanks o.1)
+  rest ← following 46 (skip_blanks o.1)
   Some (record { subject = s.0; predicate = p.0; object = o.0 }, rest)
 
 -- nothing more, or a comment
@@ -216,7 +216,7 @@ triple_alone cs = do
   t ← triple cs
   if is_end (skip_blanks t.1) then Some t.0 else None
 
--- a whole line: at most one triple, and at most a comment, with spaces and tabs around
+-- a line: at most one triple, and at most a comment, with spaces and tabs around
 unfoldable pub line : List ℕ → Option (Option Triple)
 line cs =
     if is_end (skip_blanks cs) then Some None

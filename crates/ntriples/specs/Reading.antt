@@ -1,4 +1,4 @@
--- What reading from the left gives: a value and the characters behind it, or nothing.
+-- What reading from the left gives: a value and the characters after it, or nothing.
 use Rattle.std.specs.Prelude.{◌≡◌, ℕ, ◌==◌, if◌then◌else◌, List, [], ◌∷◌, ◌++◌, ◌||◌, Option, Some, None, Result, Ok}
 use Rattle.std.specs.Prelude.{Err}
 use Rattle.ntriples.specs.declared.fault.Refusal.{Refusal}
@@ -18,25 +18,25 @@ abbrev pub Gives : {X Y : Type 0} → (X → Y) → Result X Refusal → Option 
 Gives view (Ok x) read = read ≡ Some (view x)
 Gives view (Err e) read = Fails e read
 
--- a text, and behind it what is read after it
+-- a text, followed by what is read after it
 abbrev pub onto : List ℕ → List ℕ × List ℕ → List ℕ × List ℕ
-onto front read = (front ++ read.0, read.1)
+onto prefix read = (prefix ++ read.0, read.1)
 
 -- a text read before, and what is still read
-abbrev pub with_front : List ℕ → Option (List ℕ × List ℕ) → Option (List ℕ × List ℕ)
-with_front front read = read >>= λ x. Some (onto front x)
+abbrev pub prepended : List ℕ → Option (List ℕ × List ℕ) → Option (List ℕ × List ℕ)
+prepended prefix read = read >>= λ x. Some (onto prefix x)
 
--- one character, and those behind it
+-- one character, and those after it
 abbrev pub character : List ℕ → Option (ℕ × List ℕ)
 character [] = None
 character (c ∷ cs) = Some (c, cs)
 
--- the characters behind this one
-abbrev pub behind : ℕ → List ℕ → Option (List ℕ)
-behind wanted [] = None
-behind wanted (c ∷ cs) = if c == wanted then Some cs else None
+-- the characters after this one
+abbrev pub following : ℕ → List ℕ → Option (List ℕ)
+following expected [] = None
+following expected (c ∷ cs) = if c == expected then Some cs else None
 
--- without the spaces and tabs in front
+-- without the spaces and tabs at the start
 unfoldable pub skip_blanks : List ℕ → List ℕ
 skip_blanks [] = []
 skip_blanks (c ∷ cs) = if (c == 32) || (c == 9) then skip_blanks cs else c ∷ cs

@@ -18,11 +18,11 @@ upper_digit d = if nat_lt d 10 then 48 + d else 55 + d
 unfoldable pub code_escape : ℕ → List ℕ
 code_escape c = codes "\\u00" ++ upper_digit (c / 16) ∷ upper_digit (c % 16) ∷ []
 
--- what an IRI may not hold stands as UCHAR; all of it is ASCII
+-- a character that an IRI may not hold is written as UCHAR; all of it is ASCII
 unfoldable pub iri_byte : ℕ → List ℕ
 iri_byte b = if is_iri_character b then b ∷ [] else code_escape b
 
--- what a literal may not hold stands as ECHAR
+-- a character that a literal may not hold is written as ECHAR
 unfoldable pub literal_byte : ℕ → List ℕ
 literal_byte b =
     if b == 92 then codes "\\\\" else if b == 34 then codes "\\\"" else if b == 10 then codes "\\n"

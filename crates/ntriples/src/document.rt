@@ -1,4 +1,4 @@
-//! Whole documents.
+//! Documents.
 ghost use Rattle.std.specs.Prelude.{All, ◌≡◌, ◌⊎◌, ◌≤◌, ◌<◌, ℕ, List, ◌∷◌, ◌++◌, true, false, length, slice_index};
 ghost use Rattle.std.specs.Prelude.{drop, option_map, Ok, Err, IfOk, IfErr, IfSome};
 ghost use Rattle.ntriples.specs.declared.term.Triple.{Triple as Triples};
@@ -26,9 +26,9 @@ fn line_len(bytes: &[u8]) -> usize
     ensures before { (k : ℕ) → k < result → is_line_end (slice_index bytes.now k) ≡ false }
     ensures found { result < length bytes.now → is_line_end (slice_index bytes.now result) ≡ true }
 {
-    for (place, byte) in bytes.iter().enumerate() {
+    for (position, byte) in bytes.iter().enumerate() {
         if is_line_end(*byte) {
-            return place;
+            return position;
         }
     }
     bytes.len()
@@ -77,7 +77,7 @@ fn push_line(alloc: Global, triples: &mut Seq<Triple>, bytes: &[u8]) -> Result<(
     Ok(())
 }
 
-// Reads a document, or tells why it is none.
+// Reads a document, or reports the first bad line.
 fn read_lines(alloc: Global, bytes: &[u8]) -> Result<Seq<Triple>, NtFault>
     ensures triples { IfOk result (λ ts. IsParsed bytes.now ts) }
     ensures fault { IfErr result (λ fault. IsParseFault bytes.now fault) }
@@ -86,14 +86,14 @@ fn read_lines(alloc: Global, bytes: &[u8]) -> Result<Seq<Triple>, NtFault>
     let mut rest = bytes;
     let mut ended: u64 = 0;
     loop {
-        let (line, behind) = split_line(rest);
+        let (line, following) = split_line(rest);
         match push_line(alloc, &mut triples, line) {
             Ok(()) => {}
             Err(Refusal::Malformed) => return Err(NtFault::Line(ended + 1)),
             Err(Refusal::OutOfMemory) => return Err(NtFault::OutOfMemory),
         }
-        match behind {
-            Some(behind) => rest = behind,
+        match following {
+            Some(following) => rest = following,
             None => return Ok(triples),
         }
         ended += 1;

@@ -1,7 +1,7 @@
 //! Labels of blank nodes, and language tags.
 ghost use Rattle.std.specs.Prelude.{◌≡◌, ◌<◌, ◌∷◌, ◌++◌, true, false, length, string_bytes, OnOk, IfOk, IfNone, IfSome};
 ghost use Rattle.std.specs.Str.{chars};
-ghost use Rattle.ntriples.specs.Reading.{Gives, onto, with_front, character, behind};
+ghost use Rattle.ntriples.specs.Reading.{Gives, onto, prepended, character, following};
 ghost use Rattle.ntriples.specs.Parsing.{is_in, begins_in, tag_part, run, some_of, subtags_from, langtag, label_rest};
 ghost use Rattle.ntriples.specs.Parsing.{blank_node_label};
 
@@ -45,7 +45,7 @@ impl Class {
         }
     }
 
-    // The first character, where it is of this class, and the text behind it.
+    // The first character, where it is of this class, and the text after it.
     fn split(self, text: &str) -> Option<(char, &str)>
         ensures none { IfNone result (begins_in self (chars text.now) ≡ false) }
         ensures some { IfSome result (λ x. is_in self x.0 ≡ true) }
@@ -59,36 +59,36 @@ impl Class {
         }
     }
 
-    // The text behind the characters of this class in front.
+    // The text after the characters of this class at the start.
     fn skip(self, text: &str) -> &str
         ensures { chars result.now ≡ (run self (chars text.now)).1 }
     {
         let mut rest = text;
-        while let Some((_, behind)) = self.split(rest) {
-            rest = behind;
+        while let Some((_, following)) = self.split(rest) {
+            rest = following;
         }
         rest
     }
 
-    // Adds the characters of this class in front, and gives the text behind them.
+    // Adds the characters of this class at the start, and gives the text after them.
     fn push<'a>(self, value: &mut String, text: &'a str) -> Result<&'a str, AllocError>
         ensures { IfOk result (λ rest. (string_bytes value.new, chars rest.now)
             ≡ onto (string_bytes value.old) (run self (chars text.now))) }
     {
         let mut rest = text;
-        while let Some((character, behind)) = self.split(rest) {
+        while let Some((character, following)) = self.split(rest) {
             value.push(character)?;
-            rest = behind;
+            rest = following;
         }
         Ok(rest)
     }
 }
 
-// Adds one part of a tag, which has at least one character, and gives the text behind it.
+// Adds one part of a tag, which has at least one character, and gives the text after it.
 #[tactic(auto, using(crate::proofs::NameLemmas::tag_part_some, crate::proofs::NameLemmas::tag_part_none))]
 fn push_part<'a>(value: &mut String, part: Class, text: &'a str) -> Result<&'a str, Refusal>
     ensures { Gives (λ rest. (string_bytes value.new, chars rest.now)) result
-        (with_front (string_bytes value.old) (tag_part part (chars text.now))) }
+        (prepended (string_bytes value.old) (tag_part part (chars text.now))) }
 {
     if part.begins(text) {
         Ok(part.push(value, text)?)
@@ -97,20 +97,20 @@ fn push_part<'a>(value: &mut String, part: Class, text: &'a str) -> Result<&'a s
     }
 }
 
-// Adds subtags, each with its hyphen, and gives the text behind them.
+// Adds subtags, each with its hyphen, and gives the text after them.
 fn push_subtags<'a>(value: &mut String, text: &'a str) -> Result<&'a str, Refusal>
     ensures { Gives (λ rest. (string_bytes value.new, chars rest.now)) result
-        (with_front (string_bytes value.old) (subtags_from 0 (chars text.now))) }
+        (prepended (string_bytes value.old) (subtags_from 0 (chars text.now))) }
 {
     let mut rest = text;
-    while let Some(behind) = strip(rest, '-') {
+    while let Some(following) = strip(rest, '-') {
         value.push('-')?;
-        rest = push_part(value, Class::Alphanumerics, behind)?;
+        rest = push_part(value, Class::Alphanumerics, following)?;
     }
     Ok(rest)
 }
 
-/// LANGTAG behind its `@`.
+/// LANGTAG after its `@`.
 #[tactic(auto, unfolding(crate::specs::Parsing::langtag))]
 pub(crate) fn langtag(alloc: Global, text: &str) -> Result<(Text, &str), Refusal>
     ensures { Gives (λ x. (x.0, chars x.1.now)) result (langtag (chars text.now)) }
@@ -121,16 +121,16 @@ pub(crate) fn langtag(alloc: Global, text: &str) -> Result<(Text, &str), Refusal
     Ok((Text::from(tag), rest))
 }
 
-// Adds PN_CHARS and dots up to the last PN_CHARS, and gives the text behind them.
+// Adds PN_CHARS and dots up to the last PN_CHARS, and gives the text after them.
 fn push_label<'a>(value: &mut String, text: &'a str) -> Result<&'a str, AllocError>
     ensures { IfOk result (λ rest. (string_bytes value.new, chars rest.now)
         ≡ onto (string_bytes value.old) (label_rest (chars text.now))) }
 {
     let mut rest = text;
-    while let Some((character, behind)) = Class::Label.split(Class::Dots.skip(rest)) {
+    while let Some((character, following)) = Class::Label.split(Class::Dots.skip(rest)) {
         Class::Dots.push(value, rest)?;
         value.push(character)?;
-        rest = behind;
+        rest = following;
     }
     Ok(rest)
 }

@@ -1,10 +1,10 @@
-//! What stands between an opening and a closing character: IRIs, and the lexical forms of literals.
+//! What is between an opening and a closing character: IRIs, and the lexical forms of literals.
 ghost use Rattle.std.specs.Prelude.{◌≡◌, ◌<◌, ◌^◌, IfOk};
 ghost use Rattle.std.specs.Str.{chars};
 ghost use Rattle.ntriples.specs.Reading.{Gives, character};
 ghost use Rattle.ntriples.specs.Parsing.{hex, hex4, scalar, short_code, long_code, uchar, literal_escape};
 ghost use Rattle.ntriples.specs.Grammar.{echar};
-ghost use Rattle.ntriples.specs.Parsing.{closing, is_plain, escape, quoted_character, quoted, iriref};
+ghost use Rattle.ntriples.specs.Parsing.{closing, is_unescaped, escape, quoted_character, quoted, iriref};
 
 use crate::characters::is_iri_character;
 use crate::fault::Refusal;
@@ -71,7 +71,7 @@ fn long_code(text: &str) -> Result<(char, &str), Refusal>
     scalar(65536 * high + low, rest)
 }
 
-// UCHAR behind its backslash.
+// UCHAR after its backslash.
 #[tactic(auto, unfolding(crate::specs::Parsing::uchar))]
 fn uchar(text: &str) -> Result<(char, &str), Refusal>
     ensures { Gives (λ x. (x.0, chars x.1.now)) result (uchar (chars text.now)) }
@@ -86,7 +86,7 @@ fn uchar(text: &str) -> Result<(char, &str), Refusal>
     }
 }
 
-// What ECHAR stands for, by the character behind its backslash.
+// What ECHAR stands for, by the character after its backslash.
 #[tactic(auto, unfolding(crate::specs::Grammar::echar))]
 fn echar(character: char) -> Option<char>
     ensures { result ≡ echar character }
@@ -104,7 +104,7 @@ fn echar(character: char) -> Option<char>
     }
 }
 
-// ECHAR or UCHAR behind the backslash.
+// ECHAR or UCHAR after the backslash.
 #[tactic(auto, unfolding(crate::specs::Parsing::literal_escape))]
 fn literal_escape(text: &str) -> Result<(char, &str), Refusal>
     ensures { Gives (λ x. (x.0, chars x.1.now)) result (literal_escape (chars text.now)) }
@@ -127,8 +127,8 @@ impl QuoteKind {
     }
 
     // Whether the character may stand for itself.
-    fn is_plain(self, character: char) -> bool
-        ensures { result ≡ is_plain self character }
+    fn is_unescaped(self, character: char) -> bool
+        ensures { result ≡ is_unescaped self character }
     {
         match self {
             QuoteKind::Iri => is_iri_character(character),
@@ -136,7 +136,7 @@ impl QuoteKind {
         }
     }
 
-    // What an escape stands for, behind its backslash.
+    // What an escape stands for, after its backslash.
     fn escape(self, text: &str) -> Result<(char, &str), Refusal>
         ensures { Gives (λ x. (x.0, chars x.1.now)) result (escape self (chars text.now)) }
     {
@@ -158,14 +158,14 @@ fn quoted_character(kind: QuoteKind, text: &str) -> Result<(Option<char>, &str),
     } else if character == '\\' {
         let (character, rest) = kind.escape(rest)?;
         Ok((Some(character), rest))
-    } else if kind.is_plain(character) {
+    } else if kind.is_unescaped(character) {
         Ok((Some(character), rest))
     } else {
         Err(Refusal::Malformed)
     }
 }
 
-/// What is quoted, behind the opening character and up to the closing one, with each escape replaced by the
+/// What is quoted, after the opening character and up to the closing one, with each escape replaced by the
 /// character that it stands for.
 pub(crate) fn quoted(alloc: Global, kind: QuoteKind, text: &str) -> Result<(Text, &str), Refusal>
     ensures { Gives (λ x. (x.0, chars x.1.now)) result (quoted kind (chars text.now)) }
@@ -173,12 +173,12 @@ pub(crate) fn quoted(alloc: Global, kind: QuoteKind, text: &str) -> Result<(Text
     let mut value = String::new(alloc);
     let mut rest = text;
     loop {
-        let (next, behind) = quoted_character(kind, rest)?;
+        let (next, following) = quoted_character(kind, rest)?;
         match next {
             Some(character) => value.push(character)?,
-            None => return Ok((Text::from(value), behind)),
+            None => return Ok((Text::from(value), following)),
         }
-        rest = behind;
+        rest = following;
     }
 }
 

@@ -1,4 +1,4 @@
-//! Terms, triples and whole lines.
+//! Terms, triples and lines.
 ghost use Rattle.std.specs.Prelude.{◌≡◌};
 ghost use Rattle.std.specs.Str.{chars};
 ghost use Rattle.ntriples.specs.Reading.{Gives, character, skip_blanks};
@@ -21,7 +21,7 @@ pub(crate) const XSD_STRING: &str = "http://www.w3.org/2001/XMLSchema#string";
 /// The datatype of a literal with a language.
 pub(crate) const RDF_LANG_STRING: &str = "http://www.w3.org/1999/02/22-rdf-syntax-ns#langString";
 
-// The datatype of a literal behind its first `^`.
+// The datatype of a literal after its first `^`.
 #[tactic(auto, unfolding(crate::specs::Parsing::datatype))]
 fn datatype(alloc: Global, text: &str) -> Result<(Text, &str), Refusal>
     ensures { Gives (λ x. (x.0, chars x.1.now)) result (datatype (chars text.now)) }
@@ -125,7 +125,7 @@ fn triple_alone(alloc: Global, text: &str) -> Result<Triple, Refusal>
     }
 }
 
-/// The triple of a whole line, if it has one.
+/// The triple of a line, if it has one.
 #[tactic(auto, unfolding(crate::specs::Parsing::line))]
 pub(crate) fn line(alloc: Global, text: &str) -> Result<Option<Triple>, Refusal>
     ensures { Gives (λ t. t) result (line (chars text.now)) }

@@ -156,7 +156,7 @@ fn text_of(alloc: Global, triples: &Seq<Triple>) -> Result<Vec<u8>, AllocError>
 }
 
 /// Writes each triple on a line of RDF 1.1 N-Triples: one space between the terms and before the full stop, and a
-/// line feed behind it. The datatype of strings is not written. What is written reads back as the same triples.
+/// line feed after it. The datatype of strings is not written. What is written reads back as the same triples.
 pub fn write(alloc: Global, triples: &Seq<Triple>) -> Result<Vec<u8>, AllocError>
     requires { All CanBeRead triples.now }
     ensures text { IfOk result (λ out. out.items ≡ document_text triples.now) }

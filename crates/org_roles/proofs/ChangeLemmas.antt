@@ -1,4 +1,4 @@
--- What the changes of people find, leave and keep.
+-- What look-ups find after the changes of people, and what the changes keep.
 use Rattle.std.proofs.Common.{◌≡◌, ◌≢◌, ℕ, Bool, true, false, ◌&&◌, not, List, [], ◌∷◌, Option, Some, None, refl}
 use Rattle.std.proofs.Common.{sym, ap, ◌∙◌, ◌⊎◌}
 use Rattle.std.specs.Prelude.{filter, if◌then◌else◌, is_some, is_none, IsTrue}
@@ -14,9 +14,9 @@ use Rattle.std.proofs.lemmas.Map.Text.{is_eq-slice_cmp}
 use Rattle.std.proofs.lemmas.Slice.Eq.{bytes_eq-Decides}
 use Rattle.portal_base.specs.Ordered.{found, dropped}
 use Rattle.portal_base.proofs.Filtered.{find-same}
-use Rattle.portal_base.proofs.Placed.{found-placed, found-placed_other, found-dropped, found-dropped_other}
-use Rattle.portal_base.proofs.Placed.{IsAscending-placed, IsAscending-dropped, IsIn-dropped}
-use Rattle.portal_base.proofs.Placed.{All-each, All-IsIn, All-dropped, All-placed}
+use Rattle.portal_base.proofs.Upserted.{found-upserted, found-upserted_other, found-dropped, found-dropped_other}
+use Rattle.portal_base.proofs.Upserted.{IsAscending-upserted, IsAscending-dropped, IsIn-dropped}
+use Rattle.portal_base.proofs.Upserted.{All-each, All-IsIn, All-dropped, All-upserted}
 use Rattle.org_roles.specs.declared.change.OrgChange.{OrgChange}
 use Rattle.org_roles.specs.declared.change.OrgChange.TheVariants.{Create, Patch, Remove, SetRole, DropRole}
 use Rattle.org_roles.specs.declared.change.OrgFault.{OrgFault}
@@ -26,8 +26,8 @@ use Rattle.org_roles.specs.declared.entry.Org.{Org}
 use Rattle.org_roles.specs.declared.entry.Membership.{Membership}
 use Rattle.org_roles.specs.Order.{org_cmp, membership_cmp, org_cmp_total, membership_cmp_total}
 use Rattle.org_roles.specs.Order.{org_at, membership_in_org_at, pair_at, IsKey-org_at, IsKey-pair_at}
-use Rattle.org_roles.specs.Peopled.{Peopled, IsPeopled, Roomed, AreHoused, is_user_in, org_in}
-use Rattle.org_roles.specs.Peopled.{membership_in, role_in}
+use Rattle.org_roles.specs.PeopleLists.{PeopleLists, AreSorted, PeopleWithRoom, RolesHaveOrgs, is_user_in, org_in}
+use Rattle.org_roles.specs.PeopleLists.{membership_in, role_in}
 use Rattle.org_roles.specs.Changed.{with_org, without_org, with_role, without_role, changed_people, people_after}
 use Rattle.org_roles.specs.Changed.{org_fault, AreAllowed}
 use Rattle.org_roles.proofs.PeopleLemmas.{is_eq-membership_cmp, unequal, differ}
@@ -39,47 +39,47 @@ is_eq-pair_at : (org user : List ℕ) (m : Membership)
 is_eq-pair_at org user m = is_eq-membership_cmp m (record { org = org; user = user; role = m.role })
 
 -- The organization of a name is found at the name.
-pub org_in-found : (p : Peopled) (name : List ℕ) → org_in p name ≡ found (org_at name) p.orgs
+pub org_in-found : (p : PeopleLists) (name : List ℕ) → org_in p name ≡ found (org_at name) p.orgs
 org_in-found p name = find-same _ _ (λ o. sym (is_eq-slice_cmp o.name name)) p.orgs
 
 -- The membership of a pair is found at the pair.
-pub membership_in-found : (p : Peopled) (org user : List ℕ)
+pub membership_in-found : (p : PeopleLists) (org user : List ℕ)
     → membership_in p org user ≡ found (pair_at org user) p.roles
 membership_in-found p org user = find-same _ _ (λ m. sym (is_eq-pair_at org user m)) p.roles
 
-pub role_in-found : (p : Peopled) (org user : List ℕ)
+pub role_in-found : (p : PeopleLists) (org user : List ℕ)
     → role_in p org user ≡ option_map (λ m. m.role) (found (pair_at org user) p.roles)
 role_in-found p org user = ap (option_map (λ m. m.role)) (membership_in-found p org user)
 
--- A name is the one that it compares as.
+-- Names that compare as equal are equal.
 same_name : (a b : List ℕ) → slice_cmp nat_cmp a b ≡ Equal → a ≡ b
 same_name a b e = (bytes_eq-Decides a b).0 (sym (is_eq-slice_cmp a b) ∙ ap is_eq e)
 
--- Different names compare as such.
+-- Different names don't compare as equal.
 other_name : (a b : List ℕ) → a ≢ b → is_eq (slice_cmp nat_cmp a b) ≡ false
 other_name a b n = is_eq-slice_cmp a b ∙ unequal a b n
 
 -- ---- an organization that is set
 
-pub org_in-with_org : (o : Org) (p : Peopled) → org_in (with_org o p) o.name ≡ Some o
+pub org_in-with_org : (o : Org) (p : PeopleLists) → org_in (with_org o p) o.name ≡ Some o
 org_in-with_org o p =
     org_in-found (with_org o p) o.name
-    ∙ found-placed org_cmp (org_at o.name) (IsKey-org_at o.name) o p.orgs (tied_itself org_cmp_total o)
+    ∙ found-upserted org_cmp (org_at o.name) (IsKey-org_at o.name) o p.orgs (tied_itself org_cmp_total o)
 
-pub org_in-with_org_other : (o : Org) (p : Peopled) (name : List ℕ) → name ≢ o.name
+pub org_in-with_org_other : (o : Org) (p : PeopleLists) (name : List ℕ) → name ≢ o.name
     → org_in (with_org o p) name ≡ org_in p name
 org_in-with_org_other o p name n =
     org_in-found (with_org o p) name
-    ∙ found-placed_other org_cmp org_cmp_total (org_at name) (IsKey-org_at name) o p.orgs
+    ∙ found-upserted_other org_cmp org_cmp_total (org_at name) (IsKey-org_at name) o p.orgs
     (other_name o.name name (λ e. n (sym e)))
     ∙ sym (org_in-found p name)
 
 -- ---- an organization that is dropped
 
-pub org_in-without_org : (p : Peopled) (name : List ℕ) → org_in (without_org name p) name ≡ None
+pub org_in-without_org : (p : PeopleLists) (name : List ℕ) → org_in (without_org name p) name ≡ None
 org_in-without_org p name = org_in-found (without_org name p) name ∙ found-dropped (org_at name) p.orgs
 
-pub org_in-without_org_other : (p : Peopled) (name other : List ℕ) → other ≢ name
+pub org_in-without_org_other : (p : PeopleLists) (name other : List ℕ) → other ≢ name
     → org_in (without_org name p) other ≡ org_in p other
 org_in-without_org_other p name other n =
     org_in-found (without_org name p) other
@@ -88,7 +88,7 @@ org_in-without_org_other p name other n =
     ∙ sym (org_in-found p other)
 
 -- No role names it.
-pub without_org-roles : (p : Peopled) (name : List ℕ) → All (λ m. m.org ≢ name) (without_org name p).roles
+pub without_org-roles : (p : PeopleLists) (name : List ℕ) → All (λ m. m.org ≢ name) (without_org name p).roles
 without_org-roles p name =
     All-each (λ (m : Membership). m.org ≢ name) (without_org name p).roles
     (λ m stays is. let gone : is_eq (slice_cmp nat_cmp m.org name) ≡ false =
@@ -97,8 +97,8 @@ without_org-roles p name =
     is_eq-slice_cmp m.org name ∙ (bytes_eq-Decides m.org name).1 is in
     cc)
 
--- Elsewhere every user has the role that was there.
-pub role_in-without_org : (p : Peopled) (name org user : List ℕ) → org ≢ name
+-- In other organizations every user keeps the role.
+pub role_in-without_org : (p : PeopleLists) (name org user : List ℕ) → org ≢ name
     → role_in (without_org name p) org user ≡ role_in p org user
 role_in-without_org p name org user n =
     role_in-found (without_org name p) org user
@@ -109,30 +109,30 @@ role_in-without_org p name org user n =
 
 -- ---- a role that is set
 
-pub role_in-with_role : (m : Membership) (p : Peopled) → role_in (with_role m p) m.org m.user ≡ Some m.role
+pub role_in-with_role : (m : Membership) (p : PeopleLists) → role_in (with_role m p) m.org m.user ≡ Some m.role
 role_in-with_role m p =
     role_in-found (with_role m p) m.org m.user
     ∙ ap (option_map (λ n. n.role))
-    (found-placed membership_cmp (pair_at m.org m.user) (IsKey-pair_at m.org m.user) m p.roles
+    (found-upserted membership_cmp (pair_at m.org m.user) (IsKey-pair_at m.org m.user) m p.roles
     (tied_itself membership_cmp_total m))
 
-pub role_in-with_role_other : (m : Membership) (p : Peopled) (org user : List ℕ) → (org ≢ m.org) ⊎ (user ≢ m.user)
+pub role_in-with_role_other : (m : Membership) (p : PeopleLists) (org user : List ℕ) → (org ≢ m.org) ⊎ (user ≢ m.user)
     → role_in (with_role m p) org user ≡ role_in p org user
 role_in-with_role_other m p org user n =
     role_in-found (with_role m p) org user
     ∙ ap (option_map (λ n. n.role))
-    (found-placed_other membership_cmp membership_cmp_total (pair_at org user) (IsKey-pair_at org user) m p.roles
+    (found-upserted_other membership_cmp membership_cmp_total (pair_at org user) (IsKey-pair_at org user) m p.roles
     (is_eq-pair_at org user m ∙ differ org user m.org m.user n))
     ∙ sym (role_in-found p org user)
 
 -- ---- a role that is dropped
 
-pub role_in-without_role : (p : Peopled) (org user : List ℕ) → role_in (without_role org user p) org user ≡ None
+pub role_in-without_role : (p : PeopleLists) (org user : List ℕ) → role_in (without_role org user p) org user ≡ None
 role_in-without_role p org user =
     role_in-found (without_role org user p) org user
     ∙ ap (option_map (λ m. m.role)) (found-dropped (pair_at org user) p.roles)
 
--- two pairs that aren't one, at a membership of the first
+-- a membership of one pair isn't one of another pair
 apart_from : (org user other_org other_user : List ℕ) (m : Membership) → (other_org ≢ org) ⊎ (other_user ≢ user)
     → (bytes_eq m.org org && bytes_eq m.user user) ≡ true
     → (bytes_eq m.org other_org && bytes_eq m.user other_user) ≡ false
@@ -145,7 +145,7 @@ apart_from org user other_org other_user m n here =
     both true b h = (refl, h)
     both false b h = absurd (cc)
 
-pub role_in-without_role_other : (p : Peopled) (org user other_org other_user : List ℕ)
+pub role_in-without_role_other : (p : PeopleLists) (org user other_org other_user : List ℕ)
     → (other_org ≢ org) ⊎ (other_user ≢ user)
     → role_in (without_role org user p) other_org other_user ≡ role_in p other_org other_user
 role_in-without_role_other p org user other_org other_user n =
@@ -157,43 +157,43 @@ role_in-without_role_other p org user other_org other_user n =
 
 -- ---- the users and the order
 
-pub users-changed : (change : OrgChange) (p : Peopled) → (changed_people change p).users ≡ p.users
+pub users-changed : (change : OrgChange) (p : PeopleLists) → (changed_people change p).users ≡ p.users
 users-changed (Create org) p = refl
 users-changed (Patch org) p = refl
 users-changed (Remove name) p = refl
 users-changed (SetRole org user role) p = refl
 users-changed (DropRole org user) p = refl
 
-pub IsPeopled-changed : (change : OrgChange) (p : Peopled) → IsPeopled p → IsPeopled (changed_people change p)
-IsPeopled-changed (Create org) p was =
-    let orgs = IsAscending-placed org_cmp org_cmp_total org p.orgs was.orgs in
+pub AreSorted-changed : (change : OrgChange) (p : PeopleLists) → AreSorted p → AreSorted (changed_people change p)
+AreSorted-changed (Create org) p was =
+    let orgs = IsAscending-upserted org_cmp org_cmp_total org p.orgs was.orgs in
     record { users = was.users; orgs = orgs; roles = was.roles }
-IsPeopled-changed (Patch org) p was =
-    let orgs = IsAscending-placed org_cmp org_cmp_total org p.orgs was.orgs in
+AreSorted-changed (Patch org) p was =
+    let orgs = IsAscending-upserted org_cmp org_cmp_total org p.orgs was.orgs in
     record { users = was.users; orgs = orgs; roles = was.roles }
-IsPeopled-changed (Remove name) p was = record {
+AreSorted-changed (Remove name) p was = record {
   users = was.users;
   orgs = IsAscending-dropped org_cmp (org_at name) p.orgs was.orgs;
   roles = IsAscending-dropped membership_cmp (membership_in_org_at name) p.roles was.roles;
 }
-IsPeopled-changed (SetRole org user role) p was = record {
+AreSorted-changed (SetRole org user role) p was = record {
   users = was.users;
   orgs = was.orgs;
-  roles = IsAscending-placed membership_cmp membership_cmp_total (record { org = org; user = user; role = role })
+  roles = IsAscending-upserted membership_cmp membership_cmp_total (record { org = org; user = user; role = role })
       p.roles was.roles;
 }
-IsPeopled-changed (DropRole org user) p was = record {
+AreSorted-changed (DropRole org user) p was = record {
   users = was.users;
   orgs = was.orgs;
   roles = IsAscending-dropped membership_cmp (pair_at org user) p.roles was.roles;
 }
 
--- ---- each role in an organization that stands
+-- ---- each role is in an organization that exists
 
--- What stood before an organization was set stands after it.
-pub stands-with_org : (o : Org) (p : Peopled) (name : List ℕ) → IsTrue (is_some (org_in p name))
+-- An organization that exists still exists once another is set.
+pub org_exists-with_org : (o : Org) (p : PeopleLists) (name : List ℕ) → IsTrue (is_some (org_in p name))
     → IsTrue (is_some (org_in (with_org o p) name))
-stands-with_org o p name was = by (bytes_eq name o.name) refl
+org_exists-with_org o p name was = by (bytes_eq name o.name) refl
   where
     by : (b : Bool) → bytes_eq name o.name ≡ b → IsTrue (is_some (org_in (with_org o p) name))
     by true is = rw ((bytes_eq-Decides name o.name).0 is, org_in-with_org o p) refl
@@ -201,11 +201,11 @@ stands-with_org o p name was = by (bytes_eq name o.name) refl
         ap is_some (org_in-with_org_other o p name (λ e. let here : bytes_eq name o.name ≡ true =
         (bytes_eq-Decides name o.name).1 e in cc)) ∙ was
 
-AreHoused-with_org : (o : Org) (p : Peopled) → AreHoused p → AreHoused (with_org o p)
-AreHoused-with_org o p was = λ k d lt. stands-with_org o p _ (was k d lt)
+RolesHaveOrgs-with_org : (o : Org) (p : PeopleLists) → RolesHaveOrgs p → RolesHaveOrgs (with_org o p)
+RolesHaveOrgs-with_org o p was = λ k d lt. org_exists-with_org o p _ (was k d lt)
 
-AreHoused-without_org : (p : Peopled) (name : List ℕ) → AreHoused p → AreHoused (without_org name p)
-AreHoused-without_org p name was =
+RolesHaveOrgs-without_org : (p : PeopleLists) (name : List ℕ) → RolesHaveOrgs p → RolesHaveOrgs (without_org name p)
+RolesHaveOrgs-without_org p name was =
     All-each (λ m. IsTrue (is_some (org_in (without_org name p) m.org))) (without_org name p).roles
     (λ m stays. let there = IsIn-dropped (membership_in_org_at name) m p.roles stays in
     ap is_some (org_in-without_org_other p name m.org (λ e. let here : is_eq (slice_cmp nat_cmp m.org name) ≡ true =
@@ -213,19 +213,20 @@ AreHoused-without_org p name was =
     let gone : is_eq (slice_cmp nat_cmp m.org name) ≡ false = there.1 in cc))
     ∙ All-IsIn (λ m. IsTrue (is_some (org_in p m.org))) p.roles was m there.0)
 
-AreHoused-with_role : (m : Membership) (p : Peopled) → IsTrue (is_some (org_in p m.org)) → AreHoused p
-    → AreHoused (with_role m p)
-AreHoused-with_role m p stands was =
-    All-placed (λ n. IsTrue (is_some (org_in p n.org))) membership_cmp m p.roles stands was
+RolesHaveOrgs-with_role : (m : Membership) (p : PeopleLists) → IsTrue (is_some (org_in p m.org)) → RolesHaveOrgs p
+    → RolesHaveOrgs (with_role m p)
+RolesHaveOrgs-with_role m p exists was =
+    All-upserted (λ n. IsTrue (is_some (org_in p n.org))) membership_cmp m p.roles exists was
 
-AreHoused-without_role : (p : Peopled) (org user : List ℕ) → AreHoused p → AreHoused (without_role org user p)
-AreHoused-without_role p org user was =
+RolesHaveOrgs-without_role : (p : PeopleLists) (org user : List ℕ) → RolesHaveOrgs p
+    → RolesHaveOrgs (without_role org user p)
+RolesHaveOrgs-without_role p org user was =
     All-dropped (λ n. IsTrue (is_some (org_in p n.org))) (pair_at org user) p.roles was
 
--- A role that isn't refused is in an organization that stands.
-stands_where_set : (org user : List ℕ) (role : Role) (p : Peopled)
+-- A role that isn't refused is in an organization that exists.
+org_exists_where_set : (org user : List ℕ) (role : Role) (p : PeopleLists)
     → IsTrue (is_none (org_fault (SetRole org user role) p)) → IsTrue (is_some (org_in p org))
-stands_where_set org user role p allowed =
+org_exists_where_set org user role p allowed =
     by (org_in p org) (if not (is_user_in p user) then Some UnknownUser else None) allowed
   where
     by : (there : Option Org) (rest : Option OrgFault)
@@ -233,46 +234,48 @@ stands_where_set org user role p allowed =
     by None rest h = absurd (cc)
     by (Some o) rest h = refl
 
-pub AreHoused-changed : (change : OrgChange) (p : Peopled) → IsTrue (is_none (org_fault change p)) → AreHoused p
-    → AreHoused (changed_people change p)
-AreHoused-changed (Create org) p allowed was = AreHoused-with_org org p was
-AreHoused-changed (Patch org) p allowed was = AreHoused-with_org org p was
-AreHoused-changed (Remove name) p allowed was = AreHoused-without_org p name was
-AreHoused-changed (SetRole org user role) p allowed was =
-    AreHoused-with_role (record { org = org; user = user; role = role }) p
-    (stands_where_set org user role p allowed) was
-AreHoused-changed (DropRole org user) p allowed was = AreHoused-without_role p org user was
+pub RolesHaveOrgs-changed : (change : OrgChange) (p : PeopleLists) → IsTrue (is_none (org_fault change p))
+    → RolesHaveOrgs p
+    → RolesHaveOrgs (changed_people change p)
+RolesHaveOrgs-changed (Create org) p allowed was = RolesHaveOrgs-with_org org p was
+RolesHaveOrgs-changed (Patch org) p allowed was = RolesHaveOrgs-with_org org p was
+RolesHaveOrgs-changed (Remove name) p allowed was = RolesHaveOrgs-without_org p name was
+RolesHaveOrgs-changed (SetRole org user role) p allowed was =
+    RolesHaveOrgs-with_role (record { org = org; user = user; role = role }) p
+    (org_exists_where_set org user role p allowed) was
+RolesHaveOrgs-changed (DropRole org user) p allowed was = RolesHaveOrgs-without_role p org user was
 
 -- ---- changes one after the other
 
-pub IsPeopled-after : (changes : List OrgChange) (p : Peopled) → IsPeopled p → IsPeopled (people_after changes p)
-IsPeopled-after [] p was = was
-IsPeopled-after (change ∷ changes) p was =
-    IsPeopled-after changes (changed_people change p) (IsPeopled-changed change p was)
+pub AreSorted-after : (changes : List OrgChange) (p : PeopleLists) → AreSorted p → AreSorted (people_after changes p)
+AreSorted-after [] p was = was
+AreSorted-after (change ∷ changes) p was =
+    AreSorted-after changes (changed_people change p) (AreSorted-changed change p was)
 
-pub AreHoused-after : (changes : List OrgChange) (p : Peopled) → AreAllowed changes p → AreHoused p
-    → AreHoused (people_after changes p)
-AreHoused-after [] p allowed was = was
-AreHoused-after (change ∷ changes) p allowed was =
-    AreHoused-after changes (changed_people change p) allowed.1 (AreHoused-changed change p allowed.0 was)
+pub RolesHaveOrgs-after : (changes : List OrgChange) (p : PeopleLists) → AreAllowed changes p → RolesHaveOrgs p
+    → RolesHaveOrgs (people_after changes p)
+RolesHaveOrgs-after [] p allowed was = was
+RolesHaveOrgs-after (change ∷ changes) p allowed was =
+    RolesHaveOrgs-after changes (changed_people change p) allowed.1 (RolesHaveOrgs-changed change p allowed.0 was)
 
 -- ---- room
 
--- What is asked of room, of the lists as they are kept.
-pub room_for_org : (os : List Org) (b : Bool) (kept : Roomed) (o : Org) → os ≡ kept.people.orgs → b ≡ kept.room.org
+-- The condition on room, stated for the lists inside.
+pub room_for_org : (os : List Org) (b : Bool) (kept : PeopleWithRoom) (o : Org) → os ≡ kept.people.orgs
+    → b ≡ kept.room.org
     → (org_in kept.people o.name ≡ None → IsTrue kept.room.org) → found (λ other. org_cmp other o) os ≡ None → IsTrue b
-room_for_org os b kept o orgs room asked none =
-    room ∙ asked (org_in-found kept.people o.name ∙ ap (found (org_at o.name)) (sym orgs) ∙ none)
+room_for_org os b kept o orgs room needed none =
+    room ∙ needed (org_in-found kept.people o.name ∙ ap (found (org_at o.name)) (sym orgs) ∙ none)
 
-pub room_for_role : (ms : List Membership) (b : Bool) (kept : Roomed) (m : Membership) → ms ≡ kept.people.roles
+pub room_for_role : (ms : List Membership) (b : Bool) (kept : PeopleWithRoom) (m : Membership) → ms ≡ kept.people.roles
     → b ≡ kept.room.role → (role_in kept.people m.org m.user ≡ None → IsTrue kept.room.role)
     → found (λ other. membership_cmp other m) ms ≡ None → IsTrue b
-room_for_role ms b kept m roles room asked none =
-    room ∙ asked (role_in-found kept.people m.org m.user
+room_for_role ms b kept m roles room needed none =
+    room ∙ needed (role_in-found kept.people m.org m.user
     ∙ ap (λ (l : List Membership). option_map (λ n. n.role) (found (pair_at m.org m.user) l)) (sym roles)
     ∙ ap (option_map (λ n. n.role)) none)
 
--- ---- the roles that stay where an organization goes
+-- ---- the roles that stay when an organization is removed
 
 pub kept_roles : (name : List ℕ) (ms : List Membership)
     → filter (λ m. not (bytes_eq m.org name)) ms ≡ dropped (membership_in_org_at name) ms

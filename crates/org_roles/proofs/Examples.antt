@@ -1,4 +1,4 @@
--- The worked people: five users, one organization, and three roles in it.
+-- Worked examples: five users, one organization, and three roles in it.
 use Rattle.std.proofs.Common.{◌≡◌, ℕ, Bool, true, false, List, [], ◌∷◌, Option, Some, None, refl}
 use Rattle.std.specs.Prelude.{codes}
 use Rattle.portal_base.specs.declared.moment.Moment.{Moment}
@@ -16,7 +16,7 @@ use Rattle.org_roles.specs.Changed.{changed_people, org_fault, has_room}
 use Rattle.org_roles.specs.Restored.{is_restorable, memberships_of}
 use Rattle.org_roles.specs.Distinct.{have_distinct_names, have_distinct_org_names, have_distinct_pairs}
 use Rattle.org_roles.specs.Order.{users_ascending, membership_cmp}
-use Rattle.org_roles.specs.Peopled.{Peopled, role_in, is_sysadmin_in, is_user_in}
+use Rattle.org_roles.specs.PeopleLists.{PeopleLists, role_in, is_sysadmin_in, is_user_in}
 
 abbrev user : List ℕ → Bool → User
 user name sysadmin = record { name = name; sysadmin = sysadmin }
@@ -34,7 +34,7 @@ worked_users = user (codes "root") true ∷ user (codes "ann") false ∷ user (c
 abbrev worked_roles : List Membership
 worked_roles = in_city (codes "cyn") Admin ∷ in_city (codes "ann") Editor ∷ in_city (codes "bob") Member ∷ []
 
-abbrev worked : Peopled
+abbrev worked : PeopleLists
 worked = record { users = users_ascending worked_users; orgs = []; roles = ascending membership_cmp worked_roles }
 
 distinct : have_distinct_names worked_users ≡ true
@@ -43,11 +43,11 @@ distinct = refl
 distinct_pairs : have_distinct_pairs worked_roles ≡ true
 distinct_pairs = refl
 
--- A second role in one organization stands against it, whatever the role.
+-- A second role of a user in one organization repeats the pair, whatever the role.
 pair_twice : have_distinct_pairs (in_city (codes "ann") Member ∷ worked_roles) ≡ false
 pair_twice = refl
 
--- One name under two titles is one name.
+-- Two organizations with the same name repeat it, whatever their titles.
 org_name_twice : (t : Moment)
     → have_distinct_org_names
     (org (codes "city") (codes "City") t ∷ org (codes "lake") [] t ∷ org (codes "city") [] t ∷ []) ≡ false
@@ -80,14 +80,14 @@ eve_is_no_user = refl
 -- ---- changes
 
 -- the same with the organization, which was made at that moment
-abbrev worked_city : Moment → Peopled
+abbrev worked_city : Moment → PeopleLists
 worked_city t = record worked { orgs = org (codes "city") (codes "City") t ∷ [] }
 
 -- the role of the user in `city` once the change is made
 abbrev role_after : Moment → OrgChange → List ℕ → Option Role
 role_after t change name = role_in (changed_people change (worked_city t)) (codes "city") name
 
--- An organization stands at its place, and one of the same name isn't made again.
+-- A new organization is at its position by name, and a second one of the same name is refused.
 lake_created : (t : Moment)
     → (changed_people (Create (org (codes "lake") [] t)) (worked_city t)).orgs
     ≡ org (codes "city") (codes "City") t ∷ org (codes "lake") [] t ∷ []
@@ -96,7 +96,7 @@ lake_created t = refl
 city_not_created : (t : Moment) → org_fault (Create (org (codes "city") [] t)) (worked_city t) ≡ Some OrgNameInUse
 city_not_created t = refl
 
--- The patched organization stands in place of the old one, and the roles in it stay.
+-- The patched organization replaces the old one, and the roles in it stay.
 city_patched : (t : Moment)
     → changed_people (Patch (org (codes "city") (codes "Town") t)) (worked_city t)
     ≡ record (worked_city t) { orgs = org (codes "city") (codes "Town") t ∷ [] }
@@ -105,7 +105,7 @@ city_patched t = refl
 lake_not_patched : (t : Moment) → org_fault (Patch (org (codes "lake") [] t)) (worked_city t) ≡ Some UnknownOrg
 lake_not_patched t = refl
 
--- With the organization its roles go, and the users stay.
+-- The removal of an organization removes its roles, and the users stay.
 city_removed : (t : Moment)
     → changed_people (Remove (codes "city")) (worked_city t) ≡ record worked { orgs = []; roles = [] }
 city_removed t = refl
@@ -113,7 +113,7 @@ city_removed t = refl
 lake_not_removed : (t : Moment) → org_fault (Remove (codes "lake")) (worked_city t) ≡ Some UnknownOrg
 lake_not_removed t = refl
 
--- A role that is set takes the place of the one before, and another user keeps hers.
+-- A role that is set replaces the one before, and another user keeps hers.
 ann_administers : (t : Moment) → role_after t (SetRole (codes "city") (codes "ann") Admin) (codes "ann") ≡ Some Admin
 ann_administers t = refl
 
@@ -126,7 +126,7 @@ dan_joins_in_order : (t : Moment)
     ∷ in_city (codes "dan") Member ∷ []
 dan_joins_in_order t = refl
 
--- Of an organization and a user that aren't there the organization is told.
+-- If neither the organization nor the user exists, the fault is the organization's.
 both_unknown : (t : Moment)
     → org_fault (SetRole (codes "lake") (codes "eve") Member) (worked_city t) ≡ Some UnknownOrg
 both_unknown t = refl
@@ -143,7 +143,7 @@ dan_has_none_to_drop : (t : Moment)
     → org_fault (DropRole (codes "city") (codes "dan")) (worked_city t) ≡ Some NoRole
 dan_has_none_to_drop t = refl
 
--- A user that isn't there is told, though a role names her.
+-- The fault of an unknown user comes first, even if a role names her.
 eve_keeps_hers : (t : Moment)
     → org_fault (DropRole (codes "city") (codes "eve"))
     (record (worked_city t) { roles = in_city (codes "eve") Member ∷ [] }) ≡ Some UnknownUser
@@ -152,17 +152,17 @@ eve_keeps_hers t = refl
 bob_may_leave : (t : Moment) → org_fault (DropRole (codes "city") (codes "bob")) (worked_city t) ≡ None
 bob_may_leave t = refl
 
--- Room is asked for where something may be added.
+-- A change needs room only if it can add an entry.
 no_room_for_a_role :
     has_room (SetRole (codes "city") (codes "ann") Admin) (record { org = true; role = false }) ≡ false
 no_room_for_a_role = refl
 
-none_asked_for : has_room (Remove (codes "city")) (record { org = false; role = false }) ≡ true
-none_asked_for = refl
+no_room_needed : has_room (Remove (codes "city")) (record { org = false; role = false }) ≡ true
+no_room_needed = refl
 
--- ---- lists that fit one another
+-- ---- lists from which people can be restored
 
--- The user of a role needn't be there.
+-- The user of a role needn't exist.
 restored : (t : Moment)
     → is_restorable (org (codes "city") [] t ∷ []) (memberships_of ((codes "city", codes "eve", Member) ∷ [])) ≡ true
 restored t = refl

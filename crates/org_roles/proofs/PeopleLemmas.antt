@@ -1,4 +1,4 @@
--- What the look-ups among the people find, and how their orders decide.
+-- When two entries compare as equal, and which lists are in order.
 use Rattle.std.proofs.Common.{◌≡◌, ◌≢◌, ℕ, Bool, true, false, ◌&&◌, not, List, [], ◌∷◌, refl, sym}
 use Rattle.std.proofs.Common.{ap, ◌∙◌, ◌⊎◌, inl, inr, subst}
 use Rattle.std.specs.declared.cmp.Ordering.{Ordering}
@@ -16,7 +16,7 @@ use Rattle.portal_base.specs.Ordered.{IsAscending, ascending, are_apart}
 use Rattle.org_roles.specs.Distinct.{have_distinct_names, have_distinct_org_names, have_distinct_pairs}
 pub use Rattle.org_roles.specs.Order.{user_cmp_total, org_cmp_total, membership_cmp_total}
 use Rattle.org_roles.specs.Order.{user_cmp, org_cmp, membership_cmp}
-use Rattle.org_roles.specs.Peopled.{IsPeopled}
+use Rattle.org_roles.specs.PeopleLists.{AreSorted}
 use Rattle.portal_base.proofs.Removed.{AreApart-are_apart}
 use Rattle.portal_base.proofs.Inserted.{list_any-same, IsAscending-ascending}
 
@@ -25,7 +25,7 @@ is_eq-ordering_then Less s = refl
 is_eq-ordering_then Equal s = refl
 is_eq-ordering_then Greater s = refl
 
--- Memberships are alike where both names are.
+-- Memberships compare as equal if both names are equal.
 pub is_eq-membership_cmp : (m n : Membership)
     → is_eq (membership_cmp m n) ≡ (bytes_eq m.org n.org && bytes_eq m.user n.user)
 is_eq-membership_cmp m n =
@@ -33,7 +33,7 @@ is_eq-membership_cmp m n =
     ∙ ap (λ b. b && is_eq (slice_cmp nat_cmp m.user n.user)) (is_eq-slice_cmp m.org n.org)
     ∙ ap (λ b. bytes_eq m.org n.org && b) (is_eq-slice_cmp m.user n.user)
 
--- Where a test of two items tells whether they are alike, so does one of lists whether any are.
+-- If a test of two items says whether they compare as equal, a test of lists by it says whether any two do.
 are_apart-distinct : {X : Type 0} (cmp : X → X → Ordering) (alike : X → X → Bool) (distinct : List X → Bool)
     → ((x y : X) → is_eq (cmp y x) ≡ alike y x) → distinct [] ≡ true
     → ((x : X) (xs : List X) → distinct (x ∷ xs) ≡ (not (list_any (λ y. alike y x) xs) && distinct xs))
@@ -44,19 +44,19 @@ are_apart-distinct {X} cmp alike distinct same none step (x ∷ xs) =
     ∙ ap (λ b. not (list_any (λ y. alike y x) xs) && b) (are_apart-distinct cmp alike distinct same none step xs)
     ∙ sym (step x xs)
 
--- Users are apart where no name stands twice.
+-- Users are apart if no name repeats.
 pub are_apart-users : (us : List User) → are_apart user_cmp us ≡ have_distinct_names us
 are_apart-users =
     are_apart-distinct user_cmp (λ v u. bytes_eq v.name u.name) have_distinct_names
     (λ u v. is_eq-slice_cmp v.name u.name) refl (λ u us. refl)
 
--- So are organizations.
+-- Organizations are apart if no name repeats.
 pub are_apart-orgs : (os : List Org) → are_apart org_cmp os ≡ have_distinct_org_names os
 are_apart-orgs =
     are_apart-distinct org_cmp (λ p o. bytes_eq p.name o.name) have_distinct_org_names
     (λ o p. is_eq-slice_cmp p.name o.name) refl (λ o os. refl)
 
--- Memberships are apart where no pair of organization and user stands twice.
+-- Memberships are apart if no pair of organization and user repeats.
 pub are_apart-roles : (ms : List Membership) → are_apart membership_cmp ms ≡ have_distinct_pairs ms
 are_apart-roles =
     are_apart-distinct membership_cmp (λ n m. bytes_eq n.org m.org && bytes_eq n.user m.user) have_distinct_pairs
@@ -66,7 +66,7 @@ are_apart-roles =
 pub equal : (a : List ℕ) → bytes_eq a a ≡ true
 equal a = (bytes_eq-Decides a a).1 refl
 
--- Different names are told apart.
+-- Different names aren't equal.
 pub unequal : (a b : List ℕ) → a ≢ b → bytes_eq a b ≡ false
 unequal a b n =
     let P : Bool → Type 0 = λ t. bytes_eq a b ≡ t → t ≡ false in
@@ -81,12 +81,12 @@ differ a b c d (inr n) = ap (λ t. bytes_eq c a && t) (unequal d b (λ e. n (sym
     and_false true = refl
     and_false false = refl
 
--- Lists in which nothing stands twice are in order once each is put in its order.
-pub IsPeopled-ascending : (us us' : List User) (os os' : List Org) (ms ms' : List Membership)
+-- Lists without repeats strictly ascend once they are sorted.
+pub AreSorted-ascending : (us us' : List User) (os os' : List Org) (ms ms' : List Membership)
     → have_distinct_names us ≡ true → have_distinct_org_names os ≡ true → have_distinct_pairs ms ≡ true
     → us' ≡ ascending user_cmp us → os' ≡ ascending org_cmp os → ms' ≡ ascending membership_cmp ms
-    → IsPeopled (record { users = us'; orgs = os'; roles = ms' })
-IsPeopled-ascending us us' os os' ms ms' names org_names pairs eu eo em = record {
+    → AreSorted (record { users = us'; orgs = os'; roles = ms' })
+AreSorted-ascending us us' os os' ms ms' names org_names pairs eu eo em = record {
   users = subst (IsAscending user_cmp) (sym eu)
       (IsAscending-ascending user_cmp user_cmp_total us (AreApart-are_apart user_cmp us (are_apart-users us ∙ names)));
   orgs = subst (IsAscending org_cmp) (sym eo)

@@ -1,4 +1,4 @@
--- Users and organizations of which no two have one name, and memberships of which no two are of one pair.
+-- Users and organizations with distinct names, and memberships with distinct pairs of organization and user.
 use Rattle.std.specs.Prelude.{ℕ, Bool, true, not, ◌&&◌, List, [], ◌∷◌}
 use Rattle.std.specs.List.{list_any}
 use Rattle.std.specs.Str.{bytes_eq}

@@ -1,6 +1,6 @@
 pub mod Changed
 pub mod Distinct
 pub mod Order
-pub mod Peopled
+pub mod PeopleLists
 pub mod Restored
 pub mod Rights

@@ -23,15 +23,15 @@ org_cmp o p = slice_cmp nat_cmp o.name p.name
 abbrev pub membership_cmp : Membership → Membership → Ordering
 membership_cmp m n = ordering_then (slice_cmp nat_cmp m.org n.org) (slice_cmp nat_cmp m.user n.user)
 
--- how an organization stands to a name
+-- the order of an organization's name against this name
 abbrev pub org_at : List ℕ → Org → Ordering
 org_at name o = slice_cmp nat_cmp o.name name
 
--- how a membership stands to an organization's name
+-- the order of a membership's organization against this organization
 abbrev pub membership_in_org_at : List ℕ → Membership → Ordering
 membership_in_org_at org m = slice_cmp nat_cmp m.org org
 
--- how a membership stands to a pair of organization and user
+-- the order of a membership's pair of organization and user against this pair
 abbrev pub pair_at : List ℕ → List ℕ → Membership → Ordering
 pair_at org user m = ordering_then (slice_cmp nat_cmp m.org org) (slice_cmp nat_cmp m.user user)
 

@@ -4,22 +4,23 @@ use crate::role::Role;
 use portal_base::text::Text;
 use thiserror::Error;
 
-/// A change of the people. Organizations and users are meant by name.
+/// A change of the organizations and the roles. It names organizations and users.
 #[derive(Drop)]
 pub enum OrgChange {
     /// A new organization.
     Create(Org),
-    /// This organization in place of the one of its name.
+    /// Replaces the organization of its name by this one.
     Patch(Org),
-    /// The organization of that name goes, with all roles in it.
+    /// Removes the organization of that name, and all roles in it.
     Remove(Text),
-    /// In this organization this user has this role from now on.
+    /// Gives a role to a user in an organization, in place of the role that the user had there: organization, user,
+    /// role.
     SetRole(Text, Text, Role),
-    /// In this organization this user has no role any more.
+    /// Takes the role of a user in an organization: organization, user.
     DropRole(Text, Text),
 }
 
-/// Why a change is refused. `OutOfMemory` says nothing of the change.
+/// Why a change is refused. `OutOfMemory` says nothing about the change.
 #[derive(Clone, Copy, Debug, PartialEq, Eq, Error)]
 pub enum OrgFault {
     #[error("an organization has that name")]

@@ -5,7 +5,7 @@ use portal_base::moment::Moment;
 use portal_base::text::Text;
 use std::alloc::{AllocError, Global};
 
-/// Who may be named as a caller. A sysadmin may do everything.
+/// A user, whom a call can name as its caller. A sysadmin may do everything.
 #[derive(Drop)]
 pub struct User {
     pub name: Text,
@@ -21,7 +21,7 @@ pub struct Org {
     pub created: Moment,
 }
 
-/// The role that a user has in an organization, both by name.
+/// The role that a user has in an organization. It names both.
 #[derive(Drop)]
 pub struct Membership {
     pub org: Text,

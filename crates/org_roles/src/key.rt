@@ -1,10 +1,10 @@
-//! What organizations and roles are looked up by: an organization by its name, a role by organization and user.
+//! The keys of look-ups: an organization has its name as its key, a role its organization and its user.
 use crate::entry::{Membership, Org};
 use portal_base::ordered::Key;
 use portal_base::text::Text;
 use std::cmp::Ordering;
 
-/// An organization and a user, both by name.
+/// The names of an organization and of a user.
 #[derive(Drop)]
 pub struct Pair {
     pub org: Text,
@@ -18,7 +18,7 @@ impl Key<Org> for Text {
 
     ghost is_key = { IsKey-org_at };
 
-    fn stands(&self, item: &Org) -> Ordering {
+    fn compare_item(&self, item: &Org) -> Ordering {
         item.name.cmp(self)
     }
 }
@@ -30,7 +30,7 @@ impl Key<Membership> for Pair {
 
     ghost is_key = { λ pair. IsKey-pair_at pair.org pair.user };
 
-    fn stands(&self, item: &Membership) -> Ordering {
+    fn compare_item(&self, item: &Membership) -> Ordering {
         match item.org.cmp(&self.org) {
             Ordering::Equal => item.user.cmp(&self.user),
             unequal => unequal,

@@ -1,4 +1,4 @@
-//! The orders in which users, organizations and memberships stand: by their names' bytes.
+//! The orders of users, organizations and memberships: by the bytes of their names.
 use crate::entry::{Membership, Org, User};
 use portal_base::ordered::Ordered;
 use std::cmp::Ordering;

@@ -1,4 +1,4 @@
-//! Users, organizations and roles as one value, with look-ups by name.
+//! The users, organizations and roles as one value, with look-ups by name.
 ghost use Rattle.std.specs.Prelude.{◌≡◌, ◌&&◌, [], IsTrue};
 ghost use Rattle.std.specs.List.{list_any};
 ghost use Rattle.std.specs.Option.{option_copied};
@@ -7,7 +7,7 @@ ghost use Rattle.portal_base.specs.Ordered.{ascending, are_apart};
 ghost use Rattle.org_roles.specs.Distinct.{is_name_among, have_distinct_names, have_distinct_org_names};
 ghost use Rattle.org_roles.specs.Distinct.{have_distinct_pairs};
 ghost use Rattle.org_roles.specs.Order.{user_cmp, org_cmp, membership_cmp, users_ascending};
-ghost use Rattle.org_roles.specs.Peopled.{is_user_in, org_in, role_in, is_sysadmin_in};
+ghost use Rattle.org_roles.specs.PeopleLists.{is_user_in, org_in, role_in, is_sysadmin_in};
 
 pub mod prepared;
 pub mod restored;
@@ -21,9 +21,9 @@ use portal_base::text::Text;
 use std::alloc::Global;
 use std::marker::Model;
 
-/// The users, organizations and roles of a portal. A contract sees three lists, `people`: the users and the
-/// organizations, each by name, and the roles by organization and user, none twice. Beside them it sees in `room`
-/// whether one more organization and one more role fit without memory.
+/// The users, organizations and roles of a portal. In contracts, `people` is three lists without repeats: the users and
+/// the organizations, each ordered by name, and the roles, ordered by organization and user. `room` says whether one
+/// more organization and one more role fit without an allocation.
 #[derive(Drop)]
 pub struct People {
     users: Vec<User>,
@@ -33,9 +33,9 @@ pub struct People {
 
 impl Model for People {
     ghost use Rattle.std.specs.Prelude.{nat_lt, vec_len, vec_capacity};
-    ghost use Rattle.org_roles.specs.Peopled.{Roomed, IsPeopled};
+    ghost use Rattle.org_roles.specs.PeopleLists.{PeopleWithRoom, AreSorted};
 
-    ghost Value = { Roomed };
+    ghost Value = { PeopleWithRoom };
 
     ghost view = { λ p. record {
       people = record { users = p.users.items; orgs = p.orgs.items; roles = p.roles.items };
@@ -45,11 +45,11 @@ impl Model for People {
       };
     } };
 
-    ghost invariant = { λ p. IsPeopled (record { users = p.users.items; orgs = p.orgs.items; roles = p.roles.items }) };
+    ghost invariant = { λ p. AreSorted (record { users = p.users.items; orgs = p.orgs.items; roles = p.roles.items }) };
 }
 
 impl People {
-    /// These users, with no organization and no role yet. Takes no memory.
+    /// The people with these users, without an organization or a role. It takes no memory.
     pub fn new(alloc: Global, users: Seq<User>) -> People
         requires { IsTrue (have_distinct_names users) }
         ensures users { result.people.users ≡ users_ascending users }
@@ -59,7 +59,7 @@ impl People {
         People::of_lists(users, Seq::new(alloc), Seq::new(alloc))
     }
 
-    /// These users, organizations and roles. Takes no memory.
+    /// The people with these users, organizations and roles. It takes no memory.
     pub fn of_lists(users: Seq<User>, orgs: Seq<Org>, roles: Seq<Membership>) -> People
         requires users { IsTrue (have_distinct_names users) }
         requires orgs { IsTrue (have_distinct_org_names orgs) }
@@ -75,32 +75,32 @@ impl People {
         }
     }
 
-    /// The users, by name.
+    /// The users, ordered by name.
     pub fn users(&self) -> &[User]
         ensures { result.now ≡ self.now.people.users }
     {
         self.users.as_slice()
     }
 
-    /// The organizations, by name.
+    /// The organizations, ordered by name.
     pub fn orgs(&self) -> &[Org]
         ensures { result.now ≡ self.now.people.orgs }
     {
         self.orgs.as_slice()
     }
 
-    /// The roles, by organization and user.
+    /// The roles, ordered by organization and user.
     pub fn memberships(&self) -> &[Membership]
         ensures { result.now ≡ self.now.people.roles }
     {
         self.roles.as_slice()
     }
 
-    /// Whether there is a user of that name.
+    /// Whether a user has that name.
     pub fn has_user(&self, name: &str) -> bool
         ensures { result ≡ is_user_in self.now.people name.now }
     {
-        name_stands_among(&self.users, name)
+        is_name_among(&self.users, name)
     }
 
     /// Whether the caller is a user who is a sysadmin.
@@ -131,21 +131,21 @@ impl People {
     }
 }
 
-/// Whether no two of the users have one name.
+/// Whether no two of the users have the same name.
 pub fn names_are_distinct(users: &[User]) -> bool
     ensures { result ≡ have_distinct_names users.now }
 {
     are_apart(users)
 }
 
-/// Whether no two of the organizations have one name.
+/// Whether no two of the organizations have the same name.
 pub fn org_names_are_distinct(orgs: &[Org]) -> bool
     ensures { result ≡ have_distinct_org_names orgs.now }
 {
     are_apart(orgs)
 }
 
-/// Whether no two of the memberships are of one user in one organization.
+/// Whether no two of the memberships have the same organization and the same user.
 pub fn pairs_are_distinct(roles: &[Membership]) -> bool
     ensures { result ≡ have_distinct_pairs roles.now }
 {
@@ -163,7 +163,7 @@ fn sorted<T: Ordered>(items: Seq<T>) -> Vec<T>
 }
 
 /// Whether one of the users has that name.
-fn name_stands_among(users: &[User], name: &str) -> bool
+fn is_name_among(users: &[User], name: &str) -> bool
     ensures { result ≡ is_name_among users.now name.now }
 {
     users.iter().any(|user| user.name.as_str() == name)

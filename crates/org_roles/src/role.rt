@@ -24,7 +24,7 @@ pub struct Rights {
     pub administer: bool,
 }
 
-/// What the role gives, or the lack of one.
+/// The rights that a role gives. Without a role there are none.
 pub fn rights_of(role: Option<Role>) -> Rights
     ensures { result ≡ rights_for role }
 {

@@ -1,4 +1,4 @@
--- Whether a text is a beginning with something behind it, and by what an address names its dataset.
+-- When a text is a prefix followed by a suffix, and which dataset an address names.
 use Rattle.std.proofs.Common.{◌≡◌, ◌≢◌, ℕ, zero, suc, ◌<◌, ◌+◌, ◌/◌, ◌%◌, eqb, Bool, true, false, cond, ◌&&◌, ◌||◌}
 use Rattle.std.proofs.Common.{List, [], ◌∷◌, ◌++◌, length, take, drop, get_or, Option, Some, None, ◌⊎◌, ⊎_elim, inl}
 use Rattle.std.proofs.Common.{inr}
@@ -25,23 +25,23 @@ nat_eq-same c = alone (nat_eq c c) ((bytes_eq-Decides (c ∷ []) (c ∷ [])).1 r
     alone true is = refl
     alone false is = is
 
--- behind the same beginning the rests decide
+-- Texts with the same prefix are equal exactly if their rests are.
 bytes_eq-append : (p xs ys : List ℕ) → bytes_eq (p ++ xs) (p ++ ys) ≡ bytes_eq xs ys
 bytes_eq-append [] xs ys = refl
 bytes_eq-append (c ∷ cs) xs ys =
     ap (λ b. b && bytes_eq (cs ++ xs) (cs ++ ys)) (nat_eq-same c) ∙ bytes_eq-append cs xs ys
 
--- A text that begins so is the whole where the rest is what stands behind.
+-- A text with this prefix is the prefix followed by `d` exactly if its rest is `d`.
 pub begins : (p d s rest : List ℕ) → bytes_eq (take (length p) s) p ≡ true → rest ≡ drop (length p) s
     → bytes_eq d rest ≡ bytes_eq (p ++ d) s
-begins p d s rest is behind =
+begins p d s rest is suffix =
     let whole : s ≡ p ++ rest =
     sym (take-append-drop (length p) s)
     ∙ ap (λ l. l ++ drop (length p) s) ((bytes_eq-Decides (take (length p) s) p).0 is)
-    ∙ ap (λ l. p ++ l) (sym behind) in
+    ∙ ap (λ l. p ++ l) (sym suffix) in
     sym (ap (bytes_eq (p ++ d)) whole ∙ bytes_eq-append p d rest)
 
--- A text that doesn't begin so isn't the whole.
+-- A text without this prefix isn't the prefix followed by `d`.
 pub begins_otherwise : (p d s : List ℕ) → bytes_eq (take (length p) s) p ≡ false → false ≡ bytes_eq (p ++ d) s
 begins_otherwise p d s not = by (bytes_eq (p ++ d) s) refl
   where
@@ -53,7 +53,7 @@ begins_otherwise p d s not = by (bytes_eq (p ++ d) s) refl
         let yes : bytes_eq (take (length p) s) p ≡ true = (bytes_eq-Decides (take (length p) s) p).1 begun in
         absurd (cc)
 
--- ---- what stands before the last dot
+-- ---- what precedes the last dot
 
 -- no byte is a dot
 abbrev IsUndotted : List ℕ → Type 0
@@ -74,7 +74,7 @@ head_same x y xs ys same = cc
 tail_same : (x y : ℕ) (xs ys : List ℕ) → (x ∷ xs) ≡ (y ∷ ys) → xs ≡ ys
 tail_same x y xs ys same = cc
 
--- A text is split at its last c in one way.
+-- A text can be split at its last `c` in only one way.
 before_last : (c : ℕ) (xs ys us vs : List ℕ) → (IsIn c ys → ⊥) → (IsIn c vs → ⊥) → xs ++ c ∷ ys ≡ us ++ c ∷ vs
     → xs ≡ us
 before_last c [] ys [] vs none also same = refl
@@ -93,21 +93,21 @@ glyph_above : (low : Bool) (d : ℕ) → 46 < cond low (48 + d) (87 + d)
 glyph_above true d = omega arith
 glyph_above false d = omega arith
 
-digits_undotted : (k n : ℕ) (behind : List ℕ) → (IsIn 46 behind → ⊥) → IsIn 46 (digits_onto k 10 false n behind) → ⊥
-digits_undotted zero n behind none m = none m
-digits_undotted (suc k) n behind none m =
-    by (n / 10 == 0) m (λ one. digits_undotted k (n / 10) (digit_glyph false (n % 10) ∷ behind) one)
+digits_undotted : (k n : ℕ) (suffix : List ℕ) → (IsIn 46 suffix → ⊥) → IsIn 46 (digits_onto k 10 false n suffix) → ⊥
+digits_undotted zero n suffix none m = none m
+digits_undotted (suc k) n suffix none m =
+    by (n / 10 == 0) m (λ one. digits_undotted k (n / 10) (digit_glyph false (n % 10) ∷ suffix) one)
   where
-    one : IsIn 46 (digit_glyph false (n % 10) ∷ behind) → ⊥
+    one : IsIn 46 (digit_glyph false (n % 10) ∷ suffix) → ⊥
     one (inl same) = let above = glyph_above (nat_lt (n % 10) 10) (n % 10) in omega (arith, above, same)
     one (inr among) = none among
 
     by : (last : Bool)
         → IsIn 46
-        (cond last (digit_glyph false (n % 10) ∷ behind)
-        (digits_onto k 10 false (n / 10) (digit_glyph false (n % 10) ∷ behind)))
-        → ((IsIn 46 (digit_glyph false (n % 10) ∷ behind) → ⊥)
-        → IsIn 46 (digits_onto k 10 false (n / 10) (digit_glyph false (n % 10) ∷ behind)) → ⊥) → ⊥
+        (cond last (digit_glyph false (n % 10) ∷ suffix)
+        (digits_onto k 10 false (n / 10) (digit_glyph false (n % 10) ∷ suffix)))
+        → ((IsIn 46 (digit_glyph false (n % 10) ∷ suffix) → ⊥)
+        → IsIn 46 (digits_onto k 10 false (n / 10) (digit_glyph false (n % 10) ∷ suffix)) → ⊥) → ⊥
     by true among further = one among
     by false among further = further one among
 
@@ -115,7 +115,7 @@ decimal_undotted : (n : ℕ) → IsIn 46 (decimal n) → ⊥
 unfolding digits
 decimal_undotted n m = digits_undotted 64 n [] (λ none. none) m
 
--- What stands somewhere passes there.
+-- If a test has a position, an item passes it.
 position-passes : {X : Type 0} (test : X → Bool) (xs : List X) → is_some (position test xs) ≡ true
     → (x : X) × (test x ≡ true)
 position-passes test [] some = absurd (cc)
@@ -125,7 +125,7 @@ position-passes {X} test (x ∷ xs) some = by (position test (x ∷ xs)) refl so
     by None is none = absurd (cc)
     by (Some i) is one = (get_or (x ∷ xs) i x, (position-Some test (x ∷ xs) i x is).1)
 
--- What has an address is called by a beginning of it, behind which stand a dot and a number.
+-- The address of a dataset's resource is its id or its name, followed by a dot and a number.
 addressed : (address : List ℕ) (d : Package) → has_address address d ≡ true
     → (n : ℕ) × ((d.id ++ 46 ∷ decimal n ≡ address) ⊎ (d.name ++ 46 ∷ decimal n ≡ address))
 addressed address d has =
@@ -144,7 +144,7 @@ or_true true b either = refl
 or_true false b (inl is) = absurd (cc)
 or_true false b (inr is) = is
 
--- A dataset with a resource of an address has as its id or its name what stands before the address's last dot.
+-- If a dataset has a resource with an address, its id or its name is what precedes the address's last dot.
 addressed_named : (address key number : List ℕ) (d : Package) → address ≡ key ++ 46 ∷ number → IsUndotted number
     → has_address address d ≡ true → is_named key d ≡ true
 addressed_named address key number d split lacks has =
@@ -155,7 +155,7 @@ addressed_named address key number d split lacks has =
     ⊎_elim (λ is. or_true (bytes_eq d.id key) (bytes_eq d.name key) (inl (called d.id is)))
     (λ is. or_true (bytes_eq d.id key) (bytes_eq d.name key) (inr (called d.name is))) w.1
 
--- An address without a dot is nobody's.
+-- An address without a dot is that of no resource.
 unaddressed : (address : List ℕ) → IsUndotted address → (d : Package) → has_address address d ≡ false
 unaddressed address lacks d = by (has_address address d) refl
   where
@@ -166,7 +166,7 @@ unaddressed address lacks d = by (has_address address d) refl
     by true has = let w = addressed address d has in absurd (⊎_elim (dotted d.id w.0) (dotted d.name w.0) w.1)
     by false has = refl
 
--- ---- what a split at the last dot gives
+-- ---- the result of a split at the last dot
 
 part_of_dotted_name : dataset_part (codes "trees.v2.10") ≡ Some (codes "trees.v2")
 part_of_dotted_name = refl
@@ -189,7 +189,7 @@ part_of_split (c ∷ cs) number none =
     ap (λ o. option_or (option_map (λ part. c ∷ part) o) (cond (c == 46) (Some []) None))
     (part_of_split cs number none)
 
--- where there is a dot
+-- a text with a dot
 pub split_at_dot : (address key number : List ℕ) → SplitsAroundMatch (RFindsChar 46) address key number
     → (Some key ≡ dataset_part address)
     × ((d : Package) → IsTrue (has_address address d) → IsTrue (is_named key d))
@@ -204,7 +204,7 @@ split_at_dot address key number split =
     let is : dataset_part address ≡ Some key = ap dataset_part whole ∙ part_of_split key rest lacks in
     (sym is, λ d has. addressed_named address key rest d whole lacks has)
 
--- and where there is none
+-- a text without a dot
 pub no_dot : (address : List ℕ) → NoCharPasses (λ c. eqb c 46) address
     → (None ≡ dataset_part address) × ((d : Package) → has_address address d ≡ false)
 no_dot address free =

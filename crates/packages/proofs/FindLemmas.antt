@@ -1,4 +1,4 @@
--- What is found, counted and mapped in a list, by what stands in it.
+-- Searches, counts and maps of lists, by membership.
 use Rattle.std.proofs.Common.{◌≡◌, suc, Bool, true, false, ◌||◌, cond, List, [], ◌∷◌, Option, Some, None, length, map}
 use Rattle.std.proofs.Common.{refl, sym, ap, ◌∙◌, inl, inr, true≢false, ◌+◌, not, arith}
 use Rattle.std.proofs.Common.{IfSome, IfNone, IsTrue, Contains}
@@ -14,7 +14,7 @@ use Rattle.portal_base.proofs.Unique.{IsIn, IsIn-Contains}
 
 -- ---- a search
 
--- What is found stands in the list, and passes.
+-- The item that is found is in the list, and passes.
 pub IsIn-find : {X : Type 0} (test : X → Bool) (x : X) (xs : List X) → find test xs ≡ Some x
     → IsIn x xs × (test x ≡ true)
 IsIn-find test x [] h = absurd (cc)
@@ -25,7 +25,7 @@ IsIn-find {X} test x (y ∷ ys) h = by (test y) refl h (IsIn-find test x ys)
     by true is e go = let same : x ≡ y = cc in (inl same, ap test same ∙ is)
     by false is e go = (inr (go e).0, (go e).1)
 
--- Where nothing is found, nothing passes.
+-- If nothing is found, nothing passes.
 pub find-none : {X : Type 0} (test : X → Bool) (x : X) (xs : List X) → find test xs ≡ None → IsIn x xs
     → test x ≡ false
 find-none test x [] h m = absurd m
@@ -37,7 +37,7 @@ find-none {X} test x (y ∷ ys) h m = by (test y) refl h m (find-none test x ys)
     by false is e (inl same) go = ap test same ∙ is
     by false is e (inr m) go = go e m
 
--- Where nothing passes, nothing is found.
+-- If nothing passes, nothing is found.
 pub none-find : {X : Type 0} (test : X → Bool) (xs : List X) → ((x : X) → IsIn x xs → test x ≡ false)
     → find test xs ≡ None
 none-find test [] fails = refl
@@ -50,7 +50,7 @@ none-list_any test [] fails = refl
 none-list_any test (x ∷ xs) fails =
     ap (λ b. b || list_any test xs) (fails x (inl refl)) ∙ none-list_any test xs (λ y m. fails y (inr m))
 
--- The same of a search's result.
+-- The same, for the result of a search.
 pub find-IfSome : {X : Type 0} (test : X → Bool) (xs : List X) (r : Option X) → r ≡ find test xs
     → IfSome r (λ x. IsTrue (test x))
 find-IfSome test xs None is = tt
@@ -65,7 +65,7 @@ pub IfNone-from : {X : Type 0} (r : Option X) (A B : Type 0) → IfNone r A → 
 IfNone-from None A B a f = f a
 IfNone-from (Some x) A B a f = tt
 
--- What alone passes is found.
+-- If only one item passes, it is found.
 pub find-alone : {X : Type 0} (test : X → Bool) (x : X) (xs : List X) → IsIn x xs → test x ≡ true
     → ((y : X) → IsIn y xs → test y ≡ true → y ≡ x) → find test xs ≡ Some x
 find-alone test x [] m passes alone = absurd m
@@ -78,7 +78,7 @@ find-alone {X} test x (y ∷ ys) m passes alone =
     by false is (inl same) go = absurd (true≢false (sym passes ∙ ap test same ∙ is))
     by false is (inr m) go = go m
 
--- ---- a search for what alone passes
+-- ---- a search for the only item that passes
 
 -- at most one item passes
 abbrev pub IsAlone : {X : Type 0} → (X → Bool) → List X → Type 0
@@ -87,12 +87,12 @@ IsAlone {X} test xs = (x y : X) → IsIn x xs → IsIn y xs → test x ≡ true 
 pub IsAlone-filter : {X : Type 0} (p q : X → Bool) (xs : List X) → IsAlone p xs → IsAlone p (filter q xs)
 IsAlone-filter p q xs alone x y m n = alone x y (IsIn-filter q x xs m).0 (IsIn-filter q y xs n).0
 
--- What doesn't pass fails.
+-- A test that isn't true is false.
 fails : (b : Bool) → (b ≡ true → ⊥) → b ≡ false
 fails true not = absurd (not refl)
 fails false not = refl
 
--- It is found among those kept if it is kept.
+-- Among the kept items it is found if it is kept.
 pub find-kept_alone : {X : Type 0} (p q : X → Bool) (xs : List X) → IsAlone p xs
     → find p (filter q xs) ≡ option_and_then (λ x. then_some (q x) x) (find p xs)
 find-kept_alone {X} p q xs alone = by (find p xs) refl
@@ -110,7 +110,7 @@ find-kept_alone {X} p q xs alone = by (find p xs) refl
     by None is = none-find p (filter q xs) (λ x m. find-none p x xs is (IsIn-filter q x xs m).0)
     by (Some x) is = let there = IsIn-find p x xs is in kept x there.0 there.1 (q x) refl
 
--- Where whatever passes p passes r, which one item alone does, it is looked for by r, by what f gives of it.
+-- If whatever passes p passes r, and only one item passes r, then a search by r serves for p, up to the result of f.
 pub find-narrowed : {X Y : Type 0} (p r : X → Bool) (f : X → Option Y) (xs : List X) → IsAlone r xs
     → ((x : X) → p x ≡ true → r x ≡ true) → ((x : X) → p x ≡ false → f x ≡ None)
     → option_and_then f (find p xs) ≡ option_and_then f (find r xs)
@@ -134,7 +134,7 @@ find-narrowed {X} {Y} p r f xs alone narrow none = by (find r xs) refl
         (λ x m. fails (p x) (λ also. true≢false (sym (narrow x also) ∙ find-none r x xs is m))))
     by (Some x) is = let there = IsIn-find r x xs is in found x there.0 there.1 (p x) refl
 
--- ---- what a function gives of each
+-- ---- maps
 
 pub IsIn-map : {X Y : Type 0} (f : X → Y) (x : X) (xs : List X) → IsIn x xs → IsIn (f x) (map f xs)
 IsIn-map f x [] m = absurd m
@@ -154,7 +154,7 @@ pub list_any-map : {X Y : Type 0} (f : X → Y) (test : Y → Bool) (xs : List X
 list_any-map f test [] = refl
 list_any-map f test (x ∷ xs) = ap (λ b. test (f x) || b) (list_any-map f test xs)
 
--- an item more in each of two lists of which as many pass
+-- one more item in each of two lists of the same length
 more : {X Y : Type 0} (b : Bool) (x : X) (y : Y) (xs : List X) (ys : List Y) → length xs ≡ length ys
     → length (cond b (x ∷ xs) xs) ≡ length (cond b (y ∷ ys) ys)
 more true x y xs ys same = ap suc same
@@ -184,21 +184,21 @@ count-inserted {X} cmp test x (y ∷ ys) =
     let P : Bool → Type 0 = λ b.
     length (filter test (cond b (y ∷ inserted cmp x ys) (x ∷ y ∷ ys))) ≡ length (filter test (x ∷ y ∷ ys)) in
     elim (is_lt (cmp y x)) as P [
-      | true ↦ behind (test x) (test y) (count-inserted cmp test x ys)
+      | true ↦ step (test x) (test y) (count-inserted cmp test x ys)
       | false ↦ refl
     ]
   where
-    behind : (a b : Bool)
+    step : (a b : Bool)
         → length (filter test (inserted cmp x ys)) ≡ length (cond a (x ∷ filter test ys) (filter test ys))
         → length (cond b (y ∷ filter test (inserted cmp x ys)) (filter test (inserted cmp x ys)))
         ≡ length (cond a (x ∷ cond b (y ∷ filter test ys) (filter test ys))
         (cond b (y ∷ filter test ys) (filter test ys)))
-    behind true true same = ap suc same
-    behind true false same = same
-    behind false true same = ap suc same
-    behind false false same = same
+    step true true same = ap suc same
+    step true false same = same
+    step false true same = ap suc same
+    step false false same = same
 
--- In order as many pass as in any order.
+-- The count of items that pass doesn't depend on the order.
 pub count-ascending : {X : Type 0} (cmp : X → X → Ordering) (test : X → Bool) (xs : List X)
     → length (filter test (ascending cmp xs)) ≡ length (filter test xs)
 count-ascending cmp test [] = refl

@@ -2,10 +2,10 @@ pub mod Addresses
 pub mod Built
 pub mod ChangeLemmas
 pub mod DatasetLemmas
-pub mod Faultless
+pub mod EntryLemmas
 pub mod FindLemmas
-pub mod KeptLemmas
-pub mod NumberLemmas
-pub mod Numbers
+pub mod NoErrors
+pub mod ResourceNumbers
+pub mod ShelfInvariantLemmas
 pub mod ShelfLemmas
 mod TextSets

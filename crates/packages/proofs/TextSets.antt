@@ -1,4 +1,4 @@
--- The set of some texts ascends, has exactly these texts, and is what sorting and dropping repeats leave.
+-- The set of some texts ascends, has exactly these texts, and is the result of a sort and the removal of repeats.
 use Rattle.std.proofs.Common.{◌≡◌, ℕ, Bool, true, false, cond, ◌||◌, List, [], ◌∷◌, refl, sym, ◌∙◌, inl, inr}
 use Rattle.std.proofs.Common.{subst}
 use Rattle.std.specs.Prelude.{nat_eq}
@@ -76,7 +76,7 @@ text_set-IsIn z (text ∷ texts) m = by (added-IsIn z text (text_set texts) m) (
     by (inl e) go = inl e
     by (inr n) go = inr (go n)
 
--- Of texts that are the same but for order and repeats the set is the same.
+-- Texts that differ only in order and repeats have the same set.
 pub text_set-same : (xs ys : List (List ℕ)) → ((z : List ℕ) → IsIn z xs → IsIn z ys)
     → ((z : List ℕ) → IsIn z ys → IsIn z xs) → text_set xs ≡ text_set ys
 text_set-same xs ys to from =
@@ -84,7 +84,7 @@ text_set-same xs ys to from =
     (IsAscending-text_set ys) (λ z m. IsIn-text_set z ys (to z (text_set-IsIn z xs m)))
     (λ z m. IsIn-text_set z xs (from z (text_set-IsIn z ys m)))
 
--- ---- what sorting and dropping repeats leave
+-- ---- the result of a sort and the removal of repeats
 
 IsBelowAll-from : (text : List ℕ) (texts : List (List ℕ)) → AllByRecursion (λ t. slice_cmp nat_cmp text t ≡ Less) texts
     → IsBelowAll (slice_cmp nat_cmp) text texts

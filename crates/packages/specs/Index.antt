@@ -16,32 +16,33 @@ number_under index digest = get nat_eq index.by_digest digest
 
 -- the number may be that of a dataset whose id or name has this digest
 abbrev pub IsCandidate : Index → ℕ → ℕ → Type 0
-IsCandidate index digest number = (number_under index digest ≡ Some number) ⊎ Contains index.crowded.items number
+IsCandidate index digest number = (number_under index digest ≡ Some number) ⊎ Contains index.colliding.items number
 
--- so many more numbers fit with no allocation
+-- this count of further numbers fits without an allocation
 pub record HasRoomFor (index : Index) (more : ℕ) : Type 0 where
   pub by_digest : more ≤ spare index.by_digest
-  pub crowded : vec_len index.crowded + more ≤ vec_capacity index.crowded
+  pub colliding : vec_len index.colliding + more ≤ vec_capacity index.colliding
 
--- the number was entered under the digest, beside all that was there
+-- the number was entered under the digest, and no candidate was lost
 pub record Enters (old new : Index) (digest number : ℕ) : Type 0 where
   pub entered : IsCandidate new digest number
   pub kept : (d n : ℕ) → IsCandidate old d n → IsCandidate new d n
-  pub led : (d n : ℕ) → number_under new d ≡ Some n → (number_under old d ≡ Some n) ⊎ ((d ≡ digest) × (n ≡ number))
-  pub crowded : (n : ℕ) → Contains new.crowded.items n → Contains old.crowded.items n ⊎ (n ≡ number)
+  pub under_digest : (d n : ℕ) → number_under new d ≡ Some n
+      → (number_under old d ≡ Some n) ⊎ ((d ≡ digest) × (n ≡ number))
+  pub colliding : (n : ℕ) → Contains new.colliding.items n → Contains old.colliding.items n ⊎ (n ≡ number)
   pub room : (more : ℕ) → HasRoomFor old (more + 1) → HasRoomFor new more
 
--- the number doesn't stand under the digest any more, and all others do
+-- the number isn't under the digest any more, and all other candidates stay
 pub record Leaves (old new : Index) (digest number : ℕ) : Type 0 where
   pub gone : number_under new digest ≢ Some number
   pub kept : (d n : ℕ) → n ≢ number → IsCandidate old d n → IsCandidate new d n
-  pub led : (d n : ℕ) → number_under new d ≡ Some n → number_under old d ≡ Some n
-  pub crowded : (n : ℕ) → Contains new.crowded.items n → Contains old.crowded.items n
+  pub under_digest : (d n : ℕ) → number_under new d ≡ Some n → number_under old d ≡ Some n
+  pub colliding : (n : ℕ) → Contains new.colliding.items n → Contains old.colliding.items n
   pub room : (more : ℕ) → HasRoomFor old more → HasRoomFor new more
 
--- the number stands beside no digest any more, and all others do
-pub record Forgets (old new : Index) (number : ℕ) : Type 0 where
-  pub gone : (n : ℕ) → Contains new.crowded.items n → Contains old.crowded.items n × (n ≢ number)
-  pub kept : (n : ℕ) → n ≢ number → Contains old.crowded.items n → Contains new.crowded.items n
+-- the number isn't among the colliding ones any more, and all others stay
+pub record DropsColliding (old new : Index) (number : ℕ) : Type 0 where
+  pub gone : (n : ℕ) → Contains new.colliding.items n → Contains old.colliding.items n × (n ≢ number)
+  pub kept : (n : ℕ) → n ≢ number → Contains old.colliding.items n → Contains new.colliding.items n
   pub same : (digest : ℕ) → number_under new digest ≡ number_under old digest
   pub room : (more : ℕ) → HasRoomFor old more → HasRoomFor new more

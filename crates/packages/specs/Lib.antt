@@ -1,13 +1,13 @@
 pub mod Body
+pub mod Errors
 pub mod Index
-pub mod Kept
+pub mod LocatedResource
 pub mod Named
 pub mod Numbered
 pub mod Order
 pub mod Package
-pub mod Placing
 pub mod Resources
 pub mod Shelf
+pub mod ShelfInvariant
 pub mod Tags
 pub mod Texts
-pub mod Told

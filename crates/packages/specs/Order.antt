@@ -1,4 +1,4 @@
--- The order of datasets: by their ids' bytes.
+-- The order of datasets: by the bytes of their ids.
 use Rattle.std.specs.declared.cmp.Ordering.{Ordering}
 use Rattle.std.specs.Ordering.{nat_cmp}
 use Rattle.std.specs.Cmp.{IsTotalOrder}

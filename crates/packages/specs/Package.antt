@@ -1,9 +1,9 @@
--- A dataset as it stands when it is made.
+-- A new dataset.
 use Rattle.std.specs.Prelude.{ℕ, ℤ, false, List, []}
 use Rattle.packages.specs.declared.package.Package.{Package}
 use Rattle.packages.specs.declared.package.State.TheVariants.{Active}
 
--- active and public, without notes, tags and resources, made and changed at this moment
+-- active and public, without notes, tags and resources, created and modified at this moment
 abbrev pub fresh_package : List ℕ → List ℕ → List ℕ → List ℕ → List ℕ → ℤ → Package
 fresh_package id name title owner_org creator moment = record {
   id = id;

@@ -1,29 +1,30 @@
-//! The dataset that a call's body says.
+//! The dataset that a call's body describes.
 ghost use Rattle.std.specs.Prelude.{◌≡◌, [], IfOk, IfErr, IfNone, IsTrue, OnOk};
 ghost use Rattle.std.specs.Option.{option_copied};
-ghost use Rattle.packages.specs.Body.{told_of, named, emptied, start_of, filled, built_of, Tells};
+ghost use Rattle.packages.specs.Body.{body_errors, new_dataset, reset_dataset, base_dataset, with_body, built_dataset};
+ghost use Rattle.packages.specs.Body.{IsRefusal};
 ghost use Rattle.packages.specs.declared.build.BuildFault.TheVariants.{Fields};
 
+use crate::errors::{add_error, add_text_error};
 use crate::package::{LONGEST_NOTES, LONGEST_TEXT, LONGEST_TITLE, Package};
-use crate::resource_list::{replace_resources, told_of_resources};
-use crate::tags::{replace_tags, told_of_tags};
+use crate::resource_list::{replace_resources, resources_key_error};
+use crate::tags::{replace_tags, tags_key_error};
 use crate::texts::{
-    private_or, replace_text, replace_title, state_or, text_or, told_of_name, told_of_organization,
-    told_of_private, told_of_state,
+    name_key_error, organization_key_error, private_key_error, private_or, replace_text,
+    replace_title, state_key_error, state_or, text_or,
 };
-use crate::told::{note, note_text};
 use portal_base::copy::TryClone;
-use portal_base::faults::Faults;
 use portal_base::json_value::Json;
+use portal_base::key_errors::KeyErrors;
 use portal_base::moment::Moment;
 use portal_base::seq::Seq;
 use portal_base::text::Text;
 use std::alloc::{AllocError, Global};
 
-/// Why no dataset is built.
+/// Why a dataset can't be built.
 #[derive(Debug, Drop)]
 pub enum BuildFault {
-    /// The faulty keys of the body, by key, each with its one message.
+    /// The faulty keys of the body, in the order of the keys, each with its one message.
     Fields(Seq<(Text, Text)>),
     OutOfMemory,
 }
@@ -39,9 +40,10 @@ impl From<AllocError> for BuildFault {
     }
 }
 
-/// The dataset that a body says: a new one, or `old` changed. `whole` says that absent keys take their defaults, and
-/// not the values of `old`. Whether the organization is there isn't asked, nor whether tables refer to one of a
-/// resource that goes.
+/// The dataset that a body describes: a new one, or `old` changed. With `whole` absent keys take their defaults (CKAN's
+/// `package_create` and `package_update`), and without it the values of `old` (`package_patch`). A faulty body is
+/// refused with the error of each faulty key. The function doesn't check whether the organization exists, nor whether a
+/// table refers to a table of a removed resource.
 pub fn build(
     alloc: Global,
     body: &Json,
@@ -49,18 +51,18 @@ pub fn build(
     whole: bool,
 ) -> Result<Package, BuildFault>
     requires { IfNone old (IsTrue whole) }
-    ensures built { IfOk result (λ dataset. dataset ≡ built_of body.now (option_copied old.entry) whole) }
-    ensures faultless { OnOk result (told_of body.now (option_copied old.entry) ≡ []) }
-    ensures told { IfErr result (Tells (told_of body.now (option_copied old.entry))) }
+    ensures built { IfOk result (λ dataset. dataset ≡ built_dataset body.now (option_copied old.entry) whole) }
+    ensures faultless { OnOk result (body_errors body.now (option_copied old.entry) ≡ []) }
+    ensures errors { IfErr result (IsRefusal (body_errors body.now (option_copied old.entry))) }
 {
-    unless_told(told(alloc, body, old)?)?;
-    Ok(built(alloc, body, old, whole)?)
+    unless_error(body_errors(alloc, body, old)?)?;
+    Ok(built_dataset(alloc, body, old, whole)?)
 }
 
-/// Refuses a body of which something is told. It takes no memory.
-pub fn unless_told(faults: Faults) -> Result<(), BuildFault>
+/// Refuses a body with errors. It takes no memory.
+pub fn unless_error(faults: KeyErrors) -> Result<(), BuildFault>
     ensures faultless { OnOk result (faults ≡ []) }
-    ensures told { IfErr result (Tells faults) }
+    ensures errors { IfErr result (IsRefusal faults) }
     ensures fields { IfErr result (λ fault. fault ≡ Fields faults) }
 {
     if faults.is_empty() {
@@ -70,74 +72,76 @@ pub fn unless_told(faults: Faults) -> Result<(), BuildFault>
     }
 }
 
-// ---- what is told
+// ---- the errors
 
-/// What is told of a dataset's body, by key.
-pub fn told(alloc: Global, body: &Json, old: Option<&Package>) -> Result<Faults, AllocError>
-    ensures { IfOk result (λ faults. faults ≡ told_of body.now (option_copied old.entry)) }
+/// The errors of a dataset's body, in the order of the keys.
+pub fn body_errors(
+    alloc: Global,
+    body: &Json,
+    old: Option<&Package>,
+) -> Result<KeyErrors, AllocError>
+    ensures { IfOk result (λ faults. faults ≡ body_errors body.now (option_copied old.entry)) }
 {
-    let mut faults = Faults::new(alloc);
-    note_text(alloc, &mut faults, body, "author", LONGEST_TEXT)?;
-    note_text(alloc, &mut faults, body, "license_id", LONGEST_TEXT)?;
-    note_text(alloc, &mut faults, body, "maintainer", LONGEST_TEXT)?;
-    note(&mut faults, "name", told_of_name(alloc, old, body)?)?;
-    note_text(alloc, &mut faults, body, "notes", LONGEST_NOTES)?;
-    note(
+    let mut faults = KeyErrors::new(alloc);
+    add_text_error(alloc, &mut faults, body, "author", LONGEST_TEXT)?;
+    add_text_error(alloc, &mut faults, body, "license_id", LONGEST_TEXT)?;
+    add_text_error(alloc, &mut faults, body, "maintainer", LONGEST_TEXT)?;
+    add_error(&mut faults, "name", name_key_error(alloc, old, body)?)?;
+    add_text_error(alloc, &mut faults, body, "notes", LONGEST_NOTES)?;
+    add_error(
         &mut faults,
         "owner_org",
-        told_of_organization(alloc, old, body)?,
+        organization_key_error(alloc, old, body)?,
     )?;
-    note(&mut faults, "private", told_of_private(alloc, body)?)?;
-    note(
+    add_error(&mut faults, "private", private_key_error(alloc, body)?)?;
+    add_error(
         &mut faults,
         "resources",
-        told_of_resources(alloc, old, body)?,
+        resources_key_error(alloc, old, body)?,
     )?;
-    note(&mut faults, "state", told_of_state(alloc, body)?)?;
-    note(&mut faults, "tags", told_of_tags(alloc, body)?)?;
-    note_text(alloc, &mut faults, body, "title", LONGEST_TITLE)?;
-    note_text(alloc, &mut faults, body, "url", LONGEST_TEXT)?;
-    note_text(alloc, &mut faults, body, "version", LONGEST_TEXT)?;
+    add_error(&mut faults, "state", state_key_error(alloc, body)?)?;
+    add_error(&mut faults, "tags", tags_key_error(alloc, body)?)?;
+    add_text_error(alloc, &mut faults, body, "title", LONGEST_TITLE)?;
+    add_text_error(alloc, &mut faults, body, "url", LONGEST_TEXT)?;
+    add_text_error(alloc, &mut faults, body, "version", LONGEST_TEXT)?;
     Ok(faults)
 }
 
-// ---- what is built
+// ---- the dataset
 
-/// The dataset that a body says of which nothing is told. A key of which something is told counts as absent, or gives
-/// what can be read of it.
-pub fn built(
+/// The dataset that a body without errors describes. A faulty key counts as absent, or gives what can be read of it.
+pub fn built_dataset(
     alloc: Global,
     body: &Json,
     old: Option<&Package>,
     whole: bool,
 ) -> Result<Package, AllocError>
-    ensures { IfOk result (λ dataset. dataset ≡ built_of body.now (option_copied old.entry) whole) }
+    ensures { IfOk result (λ dataset. dataset ≡ built_dataset body.now (option_copied old.entry) whole) }
 {
-    let mut dataset = start(alloc, body, old, whole)?;
-    fill(alloc, body, old, &mut dataset)?;
+    let mut dataset = base_dataset(alloc, body, old, whole)?;
+    apply_body(alloc, body, old, &mut dataset)?;
     Ok(dataset)
 }
 
-/// What stands where a body says nothing.
-fn start(
+/// The dataset that gives the values for absent keys.
+fn base_dataset(
     alloc: Global,
     body: &Json,
     old: Option<&Package>,
     whole: bool,
 ) -> Result<Package, AllocError>
-    ensures { IfOk result (λ dataset. dataset ≡ start_of body.now (option_copied old.entry) whole) }
+    ensures { IfOk result (λ dataset. dataset ≡ base_dataset body.now (option_copied old.entry) whole) }
 {
     match old {
-        None => named(alloc, body),
-        Some(old) if whole => emptied(alloc, old),
+        None => new_dataset(alloc, body),
+        Some(old) if whole => reset_dataset(alloc, old),
         Some(old) => old.try_clone(alloc),
     }
 }
 
-/// A new dataset of the name and the organization that the body says. Its id, its creator and its moments are given
-/// later.
-fn named(alloc: Global, body: &Json) -> Result<Package, AllocError>
-    ensures { IfOk result (λ dataset. dataset ≡ named body.now) }
+/// A new dataset with the name and the organization of the body. The caller sets its id, its creator and its moments.
+fn new_dataset(alloc: Global, body: &Json) -> Result<Package, AllocError>
+    ensures { IfOk result (λ dataset. dataset ≡ new_dataset body.now) }
 {
     let none = Text::new(alloc);
     let name = text_or(alloc, &none, body, "name")?;
@@ -155,9 +159,9 @@ fn named(alloc: Global, body: &Json) -> Result<Package, AllocError>
     ))
 }
 
-/// The dataset without what bodies say of it, but for its name, organization and state.
-fn emptied(alloc: Global, old: &Package) -> Result<Package, AllocError>
-    ensures { IfOk result (λ dataset. dataset ≡ emptied old.now) }
+/// The dataset with the defaults for all keys of bodies but its name, its organization and its state.
+fn reset_dataset(alloc: Global, old: &Package) -> Result<Package, AllocError>
+    ensures { IfOk result (λ dataset. dataset ≡ reset_dataset old.now) }
 {
     let mut dataset = Package::fresh(
         alloc,
@@ -176,14 +180,14 @@ fn emptied(alloc: Global, old: &Package) -> Result<Package, AllocError>
     Ok(dataset)
 }
 
-/// Puts what the body says in place of what stands.
-fn fill(
+/// Sets the values of the body's keys. Absent keys keep the values of the dataset.
+fn apply_body(
     alloc: Global,
     body: &Json,
     old: Option<&Package>,
     dataset: &mut Package,
 ) -> Result<(), AllocError>
-    ensures { OnOk result (dataset.new ≡ filled body.now (option_copied old.entry) dataset.old) }
+    ensures { OnOk result (dataset.new ≡ with_body body.now (option_copied old.entry) dataset.old) }
 {
     replace_title(alloc, &mut dataset.title, &dataset.name, body)?;
     replace_text(alloc, &mut dataset.notes, body, "notes")?;

@@ -1,8 +1,8 @@
-//! Which numbers may be those of datasets with a certain id or name.
+//! The numbers that a dataset with a certain id or name may have.
 //!
-//! A text is looked up by a digest of it, so that the index owns no text and changes without memory where room was
-//! made before. Under each digest stands one number. A number that comes to a digest at which another stands goes into
-//! a list beside, which is searched whole, and which is empty as long as no two digests meet.
+//! The index finds a text by its digest. So it owns no text, and changes without an allocation once it has room. Each
+//! digest has one number. Further numbers with the same digest are in a list of colliding numbers, which a look-up
+//! searches from start to end. That list is empty as long as no two digests are equal.
 ghost use Rattle.std.specs.Prelude.{◌≡◌, ℕ, [], Bool, None, OnOk, not, filter, ◌==◌, ◌≢◌, Some};
 ghost use Rattle.packages.specs.Index.{digest_of};
 
@@ -10,14 +10,14 @@ use std::alloc::{AllocError, AllocFailed, Global};
 use std::collections::HashMap;
 use std::hash::{DefaultHasher, Hasher};
 
-/// Numbers by digest, and those whose digest another number has.
+/// Numbers by digest, and the numbers whose digest already has another number.
 #[derive(Drop)]
 pub(crate) struct Index {
     by_digest: HashMap<u64, u32>,
-    crowded: Vec<u32>,
+    colliding: Vec<u32>,
 }
 
-/// What a text is looked up by.
+/// The digest by which a text is looked up.
 pub(crate) fn digest_of(text: &str) -> u64
     ensures { result ≡ digest_of text.now }
 {
@@ -27,16 +27,16 @@ pub(crate) fn digest_of(text: &str) -> u64
 }
 
 impl Index {
-    ghost use Rattle.packages.specs.Index.{number_under, HasRoomFor, Enters, Leaves, Forgets};
+    ghost use Rattle.packages.specs.Index.{number_under, HasRoomFor, Enters, Leaves, DropsColliding};
 
-    /// An index of no number, which takes no memory.
+    /// An index without numbers. It takes no memory.
     pub(crate) fn new(alloc: Global) -> Index
         ensures none { (digest : ℕ) → number_under result digest ≡ None }
-        ensures crowded { result.crowded.items ≡ [] }
+        ensures colliding { result.colliding.items ≡ [] }
     {
         Index {
             by_digest: HashMap::new(alloc),
-            crowded: Vec::new(alloc),
+            colliding: Vec::new(alloc),
         }
     }
 
@@ -44,10 +44,10 @@ impl Index {
     pub(crate) fn reserve(&mut self) -> Result<(), AllocError>
         ensures room { OnOk result (HasRoomFor self.new 2) }
         ensures same { (digest : ℕ) → number_under self.new digest ≡ number_under self.old digest }
-        ensures crowded { self.new.crowded.items ≡ self.old.crowded.items }
+        ensures colliding { self.new.colliding.items ≡ self.old.colliding.items }
     {
         self.by_digest.reserve(2)?;
-        self.crowded.reserve(2)
+        self.colliding.reserve(2)
     }
 
     /// The number under the digest.
@@ -57,14 +57,14 @@ impl Index {
         self.by_digest.get(&digest).copied()
     }
 
-    /// The numbers that stand under no digest.
-    pub(crate) fn crowded(&self) -> &[u32]
-        ensures { result.now ≡ self.now.crowded.items }
+    /// The numbers whose digest already had another number.
+    pub(crate) fn colliding(&self) -> &[u32]
+        ensures { result.now ≡ self.now.colliding.items }
     {
-        self.crowded.as_slice()
+        self.colliding.as_slice()
     }
 
-    /// Enters a number, for which there is room. It takes no memory.
+    /// Enters a number under the digest. There has to be room for it. It takes no memory.
     pub(crate) fn enter(&mut self, digest: u64, number: u32)
         requires { HasRoomFor self.old 1 }
         ensures { Enters self.old self.new digest number }
@@ -74,13 +74,13 @@ impl Index {
         }
     }
 
-    /// Enters a number beside the one under the digest, if there is one. It takes no memory.
+    /// Enters a number under the digest, or among the colliding ones if the digest has a number. It takes no memory.
     fn add(&mut self, digest: u64, number: u32)
         requires { HasRoomFor self.old 1 }
         ensures { Enters self.old self.new digest number }
     {
         if self.by_digest.contains_key(&digest) {
-            let put: Result<(), AllocFailed<u32>> = self.crowded.push(number);
+            let put: Result<(), AllocFailed<u32>> = self.colliding.push(number);
             put.unwrap();
         } else {
             let put: Result<Option<u32>, AllocFailed<(u64, u32)>> = self
@@ -90,7 +90,7 @@ impl Index {
         }
     }
 
-    /// Takes the number out from under the digest, where it stands there. It takes no memory.
+    /// Removes the number from the digest, if it is there. It takes no memory.
     pub(crate) fn leave(&mut self, digest: u64, number: u32)
         ensures { Leaves self.old self.new digest number }
     {
@@ -99,10 +99,10 @@ impl Index {
         }
     }
 
-    /// Takes the number out of those that stand under no digest. It takes no memory.
-    pub(crate) fn forget(&mut self, number: u32)
-        ensures { Forgets self.old self.new number }
+    /// Removes the number from the colliding ones. It takes no memory.
+    pub(crate) fn drop_colliding(&mut self, number: u32)
+        ensures { DropsColliding self.old self.new number }
     {
-        self.crowded.retain(|n| *n != number);
+        self.colliding.retain(|n| *n != number);
     }
 }

@@ -1,89 +1,90 @@
-//! Laws of what is built of bodies: functions with an empty body, whose contracts are the laws.
+//! Laws of the datasets that are built from bodies. Each function has an empty body, and its contract is the law.
 ghost use Rattle.std.specs.Prelude.{◌≡◌, ◌≤◌, ◌⊎◌, ◌↔◌, ℕ, List, [], Bool, Option, Some, None, All, Any, Contains};
 ghost use Rattle.std.specs.Prelude.{IfSome, IsTrue, Ok, codes};
 ghost use Rattle.std.specs.Ordering.{nat_cmp};
 ghost use Rattle.std.specs.Cmp.Lexicographic.{slice_cmp};
 ghost use Rattle.portal_base.specs.declared.json_value.Json.{Json};
-ghost use Rattle.portal_base.specs.Faults.{fault_cmp};
+ghost use Rattle.portal_base.specs.KeyErrors.{key_error_cmp};
 ghost use Rattle.portal_base.specs.Kinds.{text_at};
 ghost use Rattle.portal_base.specs.Name.{is_name};
 ghost use Rattle.portal_base.specs.Ordered.{IsAscending};
-ghost use Rattle.packages.specs.Body.{told_of, built_of};
+ghost use Rattle.packages.specs.Body.{body_errors, built_dataset};
 ghost use Rattle.packages.specs.Numbered.{AreNumbered};
-ghost use Rattle.packages.specs.Resources.{told_of_resource};
+ghost use Rattle.packages.specs.Resources.{resource_errors};
 ghost use Rattle.packages.specs.Tags.{text_set};
 ghost use Rattle.packages.specs.declared.package.Package.{Package};
 
 use crate::package::LONGEST_NAME;
 
-/// A new dataset that a faultless body says has the name that the body gives, which is of the form of names.
+/// A new dataset that is built from a faultless body has the name that the body gives. The name has the form of names.
 pub fn a_new_dataset_has_a_name()
-    ensures given { (body : Json) (whole : Bool) → told_of body None ≡ [] →
-        text_at (codes "name") body ≡ Ok (Some (built_of body None whole).name) }
-    ensures form { (body : Json) (whole : Bool) → told_of body None ≡ [] →
-        IsTrue (is_name (built_of body None whole).name LONGEST_NAME) }
+    ensures given { (body : Json) (whole : Bool) → body_errors body None ≡ [] →
+        text_at (codes "name") body ≡ Ok (Some (built_dataset body None whole).name) }
+    ensures form { (body : Json) (whole : Bool) → body_errors body None ≡ [] →
+        IsTrue (is_name (built_dataset body None whole).name LONGEST_NAME) }
 {}
 
-/// A new dataset that a faultless body says is of the organization that the body gives.
+/// A new dataset that is built from a faultless body has the organization that the body gives.
 pub fn a_new_dataset_has_an_organization()
-    ensures { (body : Json) (whole : Bool) → told_of body None ≡ [] →
-        text_at (codes "owner_org") body ≡ Ok (Some (built_of body None whole).owner_org) }
+    ensures { (body : Json) (whole : Bool) → body_errors body None ≡ [] →
+        text_at (codes "owner_org") body ≡ Ok (Some (built_dataset body None whole).owner_org) }
 {}
 
-/// A new dataset that a body says was harvested from no source.
+/// A new dataset that is built from a body has no harvest source.
 pub fn a_new_dataset_has_no_source()
-    ensures source { (body : Json) (whole : Bool) → (built_of body None whole).source ≡ [] }
-    ensures iri { (body : Json) (whole : Bool) → (built_of body None whole).iri ≡ [] }
+    ensures source { (body : Json) (whole : Bool) → (built_dataset body None whole).source ≡ [] }
+    ensures iri { (body : Json) (whole : Bool) → (built_dataset body None whole).iri ≡ [] }
 {}
 
-/// The resources of a dataset that a faultless body says have numbers that are distinct, at least 1 and below the
-/// next one.
+/// The resources of a dataset that is built from a faultless body have distinct numbers, at least 1 and below the next
+/// number.
 pub fn built_resources_are_numbered()
-    ensures { (body : Json) (old : Option Package) (whole : Bool) → told_of body old ≡ [] →
-        IfSome old AreNumbered → AreNumbered (built_of body old whole) }
+    ensures { (body : Json) (old : Option Package) (whole : Bool) → body_errors body old ≡ [] →
+        IfSome old AreNumbered → AreNumbered (built_dataset body old whole) }
 {}
 
-/// No number is used again: what has a number below the old next one keeps it from a resource of the old dataset.
+/// No number is used again: a number below the old next number is that of a resource of the old dataset.
 pub fn numbers_are_not_used_again()
     ensures kept { (body : Json) (old : Package) (whole : Bool) →
         All (λ r. (old.next_resource ≤ r.number) ⊎ Any (λ s. s.number ≡ r.number) old.resources)
-        (built_of body (Some old) whole).resources }
+        (built_dataset body (Some old) whole).resources }
     ensures next { (body : Json) (old : Package) (whole : Bool) →
-        old.next_resource ≤ (built_of body (Some old) whole).next_resource }
+        old.next_resource ≤ (built_dataset body (Some old) whole).next_resource }
 {}
 
-/// Tags strictly ascend by bytes, so that none stands twice.
+/// Tags strictly ascend by bytes, so that none repeats.
 pub fn built_tags_ascend()
     ensures { (body : Json) (old : Option Package) (whole : Bool) →
         IfSome old (λ dataset. IsAscending (slice_cmp nat_cmp) dataset.tags) →
-        IsAscending (slice_cmp nat_cmp) (built_of body old whole).tags }
+        IsAscending (slice_cmp nat_cmp) (built_dataset body old whole).tags }
 {}
 
-/// The set of some texts strictly ascends and has exactly these.
+/// The set of some texts strictly ascends and has exactly these texts.
 pub fn a_set_has_its_texts()
     ensures ascends { (texts : List (List ℕ)) → IsAscending (slice_cmp nat_cmp) (text_set texts) }
     ensures same { (texts : List (List ℕ)) (text : List ℕ) → Contains (text_set texts) text ↔ Contains texts text }
 {}
 
-/// What no body says stays as it is.
+/// The fields that no body sets stay as they are.
 pub fn what_no_body_says_stays()
-    ensures id { (body : Json) (old : Package) (whole : Bool) → (built_of body (Some old) whole).id ≡ old.id }
-    ensures name { (body : Json) (old : Package) (whole : Bool) → (built_of body (Some old) whole).name ≡ old.name }
+    ensures id { (body : Json) (old : Package) (whole : Bool) → (built_dataset body (Some old) whole).id ≡ old.id }
+    ensures name { (body : Json) (old : Package) (whole : Bool) →
+        (built_dataset body (Some old) whole).name ≡ old.name }
     ensures org { (body : Json) (old : Package) (whole : Bool) →
-        (built_of body (Some old) whole).owner_org ≡ old.owner_org }
+        (built_dataset body (Some old) whole).owner_org ≡ old.owner_org }
     ensures creator { (body : Json) (old : Package) (whole : Bool) →
-        (built_of body (Some old) whole).creator ≡ old.creator }
+        (built_dataset body (Some old) whole).creator ≡ old.creator }
     ensures created { (body : Json) (old : Package) (whole : Bool) →
-        (built_of body (Some old) whole).created ≡ old.created }
+        (built_dataset body (Some old) whole).created ≡ old.created }
     ensures modified { (body : Json) (old : Package) (whole : Bool) →
-        (built_of body (Some old) whole).modified ≡ old.modified }
+        (built_dataset body (Some old) whole).modified ≡ old.modified }
     ensures source { (body : Json) (old : Package) (whole : Bool) →
-        (built_of body (Some old) whole).source ≡ old.source }
-    ensures iri { (body : Json) (old : Package) (whole : Bool) → (built_of body (Some old) whole).iri ≡ old.iri }
+        (built_dataset body (Some old) whole).source ≡ old.source }
+    ensures iri { (body : Json) (old : Package) (whole : Bool) → (built_dataset body (Some old) whole).iri ≡ old.iri }
 {}
 
 /// Faulty keys strictly ascend by bytes, so that each has one message.
 pub fn faulty_keys_ascend()
-    ensures dataset { (body : Json) (old : Option Package) → IsAscending fault_cmp (told_of body old) }
-    ensures resource { (body : Json) → IsAscending fault_cmp (told_of_resource body) }
+    ensures dataset { (body : Json) (old : Option Package) → IsAscending key_error_cmp (body_errors body old) }
+    ensures resource { (body : Json) → IsAscending key_error_cmp (resource_errors body) }
 {}

@@ -1,7 +1,8 @@
-//! Datasets as the catalogue keeps them, and how they are built of what callers send.
+//! The datasets of the catalogue, how they are built from the bodies of calls, and the shelf that holds them.
 #![tactic(auto)]
 
 pub mod build;
+pub mod errors;
 mod index;
 pub mod laws;
 pub mod named;
@@ -12,5 +13,4 @@ pub mod resources;
 pub mod shelf;
 mod tags;
 pub mod texts;
-pub mod told;
 pub mod walk;

@@ -1,10 +1,10 @@
-//! By what datasets and resources are named.
+//! The names of datasets and the addresses of resources.
 ghost use Rattle.std.specs.Prelude.{◌≡◌, ◌<◌, IfNone, IfOk, IfSome, IsTrue, false, length, option_map};
 ghost use Rattle.std.specs.Option.{option_copied};
 ghost use Rattle.std.specs.Str.{bytes_eq};
-ghost use Rattle.packages.specs.Named.{is_named, resource_address, is_addressed, place_of, has_address, resource_in};
+ghost use Rattle.packages.specs.Named.{is_named, resource_address, is_addressed, position_of, has_address, resource_in};
 ghost use Rattle.packages.specs.Named.{dataset_part};
-ghost use Rattle.packages.specs.Placing.{placed_now};
+ghost use Rattle.packages.specs.LocatedResource.{located_now};
 ghost use Rattle.packages.specs.declared.package.Package.{Package};
 
 use crate::package::{Package, Resource};
@@ -19,7 +19,7 @@ pub fn is_named(dataset: &Package, key: &str) -> bool
     dataset.id.as_str() == key || dataset.name.as_str() == key
 }
 
-/// The address of a resource: that of its dataset, a dot and its number.
+/// The address of a resource: an id or a name of its dataset, a dot and the resource's number.
 pub fn resource_address(alloc: Global, dataset: &Text, number: u32) -> Result<Text, AllocError>
     ensures { IfOk result (λ address. address ≡ resource_address dataset.now number) }
 {
@@ -28,7 +28,7 @@ pub fn resource_address(alloc: Global, dataset: &Text, number: u32) -> Result<Te
     Ok(Text::from(address))
 }
 
-/// What an address calls its dataset, by its id or its name: what stands before the last dot.
+/// The id or the name of the dataset in a resource's address: the part before the last dot.
 pub fn dataset_part(address: &str) -> Option<&str>
     ensures part { option_copied result ≡ dataset_part address.now }
     ensures named { IfSome result (λ key. (dataset : Package) → IsTrue (has_address address.now dataset) →
@@ -41,33 +41,33 @@ pub fn dataset_part(address: &str) -> Option<&str>
     }
 }
 
-/// A resource, with its dataset and its place among the dataset's resources, counted from 0.
+/// A resource, with its dataset and its position in the dataset's list of resources, from 0.
 #[derive(Drop)]
-pub struct PlacedResource<'a> {
+pub struct LocatedResource<'a> {
     pub dataset: &'a Package,
-    pub place: usize,
+    pub position: usize,
     pub resource: &'a Resource,
 }
 
-/// The dataset's first resource of that address. It takes no memory.
-pub fn resource_in<'a>(address: &str, dataset: &'a Package) -> Option<PlacedResource<'a>>
-    ensures placed { option_map placed_now result ≡ resource_in address.now dataset.now }
-    ensures within { IfSome result (λ placed. placed.place < length placed.dataset.now.resources) }
+/// The dataset's first resource with that address. It takes no memory.
+pub fn resource_in<'a>(address: &str, dataset: &'a Package) -> Option<LocatedResource<'a>>
+    ensures located { option_map located_now result ≡ resource_in address.now dataset.now }
+    ensures within { IfSome result (λ located. located.position < length located.dataset.now.resources) }
 {
-    match place_of(address, dataset) {
-        Some(place) => Some(PlacedResource {
+    match position_of(address, dataset) {
+        Some(position) => Some(LocatedResource {
             dataset,
-            place,
-            resource: dataset.resources.at(place),
+            position,
+            resource: dataset.resources.at(position),
         }),
         None => None,
     }
 }
 
-/// The place of the dataset's first resource of that address.
-fn place_of(address: &str, dataset: &Package) -> Option<usize>
-    ensures place { result ≡ place_of address.now dataset.now }
-    ensures within { IfSome result (λ place. place < length dataset.now.resources) }
+/// The position of the dataset's first resource with that address, from 0.
+fn position_of(address: &str, dataset: &Package) -> Option<usize>
+    ensures position { result ≡ position_of address.now dataset.now }
+    ensures within { IfSome result (λ position. position < length dataset.now.resources) }
 {
     dataset
         .resources
@@ -84,7 +84,7 @@ fn is_addressed(address: &str, dataset: &Package, resource: &Resource) -> bool
         || is_address(address, &dataset.name, resource.number)
 }
 
-/// Whether the address is that of the resource of this number in the dataset that is called so.
+/// Whether the address is that of the resource with this number, where `dataset` is the dataset's id or name.
 fn is_address(address: &str, dataset: &Text, number: u32) -> bool
     ensures { result ≡ bytes_eq (resource_address dataset.now number) address.now }
 {
@@ -92,7 +92,7 @@ fn is_address(address: &str, dataset: &Text, number: u32) -> bool
     let digits = buffer.format(number);
     match address.as_bytes().strip_prefix(dataset.as_bytes()) {
         Some(rest) => match rest.strip_prefix(b".") {
-            Some(behind) => digits.as_bytes() == behind,
+            Some(suffix) => digits.as_bytes() == suffix,
             None => false,
         },
         None => false,

@@ -1,4 +1,4 @@
-//! The order in which datasets stand: by the bytes of their ids.
+//! The order of datasets: by the bytes of their ids.
 use crate::package::Package;
 use portal_base::ordered::Ordered;
 use std::cmp::Ordering;

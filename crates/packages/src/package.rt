@@ -10,7 +10,7 @@ use std::alloc::{AllocError, Global};
 /// The most bytes of a title.
 pub const LONGEST_TITLE: usize = 2000;
 
-/// The most bytes of the other texts of a dataset, and of those of a resource.
+/// The most bytes of any other text of a dataset or a resource.
 pub const LONGEST_TEXT: usize = 2000;
 
 /// The most bytes of a dataset's notes.
@@ -22,7 +22,7 @@ pub const LONGEST_DESCRIPTION: usize = 20_000;
 /// The most characters of a name.
 pub const LONGEST_NAME: usize = 100;
 
-/// Whether a dataset is prepared, listed or deleted.
+/// Whether a dataset is a draft, listed or deleted.
 #[derive(Clone, Copy, Debug, PartialEq, Eq)]
 pub enum State {
     Draft,
@@ -33,7 +33,7 @@ pub enum State {
 /// A file or a service that a dataset offers.
 #[derive(Drop)]
 pub struct Resource {
-    /// What tells it from the other resources of its dataset.
+    /// Its number, which tells it apart from the other resources of its dataset.
     pub number: u32,
     pub name: Text,
     pub url: Text,
@@ -47,7 +47,7 @@ pub struct Resource {
 pub struct Package {
     /// A UUID (RFC 9562, section 4), which never changes.
     pub id: Text,
-    /// What stands in its address.
+    /// The name in its address.
     pub name: Text,
     pub title: Text,
     pub notes: Text,
@@ -69,16 +69,16 @@ pub struct Package {
     pub creator: Text,
     pub created: Moment,
     pub modified: Moment,
-    /// The name of the source that it was harvested from, or nothing.
+    /// The name of the source that it was harvested from, or empty.
     pub source: Text,
-    /// What it is called at its source, or nothing.
+    /// Its IRI at that source, or empty.
     pub iri: Text,
 }
 
 impl Package {
     ghost use Rattle.packages.specs.Package.{fresh_package};
 
-    /// A new active, public dataset without notes, tags and resources. Takes no memory.
+    /// A new active, public dataset without notes, tags and resources. It takes no memory.
     pub fn fresh(
         alloc: Global,
         id: Text,

@@ -1,88 +1,89 @@
-//! The list of resources in a dataset's body: what is told of it, and the resources with their numbers.
+//! The list of resources in a dataset's body: its error, and the resources with their numbers.
 ghost use Rattle.std.specs.Prelude.{◌≡◌, ◌∷◌, ◌++◌, [], IfOk, OnOk, OnErr, codes};
 ghost use Rattle.std.specs.List.{list_any};
 ghost use Rattle.std.specs.Option.{option_copied};
-ghost use Rattle.packages.specs.Resources.{resource_rules, rule_told, at_place, has_id, number_of_id, id_rules};
-ghost use Rattle.packages.specs.Resources.{id_told};
-ghost use Rattle.packages.specs.Resources.{item_told, items_told, resources_told, told_of_resources, kept_number};
-ghost use Rattle.packages.specs.Resources.{next_behind, numbered, next_after, resources_or, next_or};
-ghost use Rattle.packages.specs.Texts.{text_told};
-ghost use Rattle.packages.specs.Told.{first_told};
+ghost use Rattle.packages.specs.Resources.{resource_checks, prefixed_error, with_position, has_id, number_of_id};
+ghost use Rattle.packages.specs.Resources.{resource_id_error};
+ghost use Rattle.packages.specs.Resources.{id_error};
+ghost use Rattle.packages.specs.Resources.{item_error, items_error, resources_error, resources_key_error, kept_number};
+ghost use Rattle.packages.specs.Resources.{next_after_item, numbered, next_after_items, resources_or, next_or};
+ghost use Rattle.packages.specs.Texts.{short_text_error};
+ghost use Rattle.packages.specs.Errors.{first_error};
 
+use crate::errors::message_unless;
 use crate::named::resource_address;
 use crate::package::{LONGEST_DESCRIPTION, LONGEST_TEXT, Package, Resource};
 use crate::resources::resource_for;
 use crate::texts::text_given;
-use crate::told::message_unless;
 use portal_base::json_value::Json;
 use portal_base::kinds::{KindFault, dictionary_in, list_at, short_text_at, text_at};
 use portal_base::seq::Seq;
 use portal_base::text::Text;
 use std::alloc::{AllocError, Global};
 
-/// How many resources a dataset may have.
-const MOST_RESOURCES: usize = 200;
+/// The most resources of a dataset.
+const MAX_RESOURCES: usize = 200;
 
 // ---- texts
 
-/// The message behind its key.
-fn in_key(alloc: Global, key: &str, message: &Text) -> Result<Text, AllocError>
-    ensures { IfOk result (λ told. told ≡ key.now ++ (codes ": " ++ message.now)) }
+/// The message, after its key.
+fn with_key(alloc: Global, key: &str, message: &Text) -> Result<Text, AllocError>
+    ensures { IfOk result (λ error. error ≡ key.now ++ (codes ": " ++ message.now)) }
 {
     let message = message.as_str();
-    let told = format!(in alloc; "{key}: {message}")?;
-    Ok(Text::from(told))
+    let text = format!(in alloc; "{key}: {message}")?;
+    Ok(Text::from(text))
 }
 
-/// The message behind the place of its resource, from 1.
-fn at_place(alloc: Global, place: usize, message: &Text) -> Result<Text, AllocError>
-    ensures { IfOk result (λ told. told ≡ at_place place message.now) }
+/// The message, after the position of its resource, from 1.
+fn with_position(alloc: Global, position: usize, message: &Text) -> Result<Text, AllocError>
+    ensures { IfOk result (λ error. error ≡ with_position position message.now) }
 {
     let message = message.as_str();
-    let told = format!(in alloc; "resource {place}: {message}")?;
-    Ok(Text::from(told))
+    let text = format!(in alloc; "resource {position}: {message}")?;
+    Ok(Text::from(text))
 }
 
-/// What is told of the text of a key, which has no more than `longest` bytes, behind the key.
-fn text_fault(
+/// The error of a key's text, which may have at most `longest` bytes, after the key.
+fn prefixed_text_error(
     alloc: Global,
     item: &Json,
     key: &'static str,
     longest: usize,
 ) -> Result<Option<Text>, AllocError>
-    ensures { IfOk result (λ told. told ≡ rule_told (key.now, text_told longest key.now item.now)) }
+    ensures { IfOk result (λ error. error ≡ prefixed_error (key.now, short_text_error longest key.now item.now)) }
 {
     match short_text_at(item, key, longest) {
         Ok(_) => Ok(None),
         Err(fault) => {
             let message = fault.message(alloc)?;
-            Ok(Some(in_key(alloc, key, &message)?))
+            Ok(Some(with_key(alloc, key, &message)?))
         }
     }
 }
 
-/// What is told of the first faulty text of a resource's body, behind its key.
-fn texts_fault(alloc: Global, item: &Json) -> Result<Option<Text>, AllocError>
-    ensures { IfOk result (λ told. told ≡ first_told rule_told (resource_rules item.now)) }
+/// The error of the first faulty text of a resource's body, after its key.
+fn first_text_error(alloc: Global, item: &Json) -> Result<Option<Text>, AllocError>
+    ensures { IfOk result (λ error. error ≡ first_error prefixed_error (resource_checks item.now)) }
 {
-    if let Some(told) = text_fault(alloc, item, "name", LONGEST_TEXT)? {
-        return Ok(Some(told));
+    if let Some(error) = prefixed_text_error(alloc, item, "name", LONGEST_TEXT)? {
+        return Ok(Some(error));
     }
-    if let Some(told) = text_fault(alloc, item, "url", LONGEST_TEXT)? {
-        return Ok(Some(told));
+    if let Some(error) = prefixed_text_error(alloc, item, "url", LONGEST_TEXT)? {
+        return Ok(Some(error));
     }
-    if let Some(told) = text_fault(alloc, item, "format", LONGEST_TEXT)? {
-        return Ok(Some(told));
+    if let Some(error) = prefixed_text_error(alloc, item, "format", LONGEST_TEXT)? {
+        return Ok(Some(error));
     }
-    if let Some(told) = text_fault(alloc, item, "mimetype", LONGEST_TEXT)? {
-        return Ok(Some(told));
+    if let Some(error) = prefixed_text_error(alloc, item, "mimetype", LONGEST_TEXT)? {
+        return Ok(Some(error));
     }
-    text_fault(alloc, item, "description", LONGEST_DESCRIPTION)
+    prefixed_text_error(alloc, item, "description", LONGEST_DESCRIPTION)
 }
 
 // ---- ids
 
-/// The number of the dataset's resource of that id.
+/// The number of the dataset's resource with that id.
 fn number_of_id(alloc: Global, dataset: &Package, id: &Text) -> Result<Option<u32>, AllocError>
     ensures { IfOk result (λ number. number ≡ number_of_id dataset.now id.now) }
 {
@@ -112,14 +113,14 @@ fn is_repeated(id: &Text, items: &[Json]) -> bool
     items.iter().any(|item| has_id(id, item))
 }
 
-/// What is told of an id behind these items.
-fn id_rules(
+/// The error of an id after these items.
+fn resource_id_error(
     alloc: Global,
     old: &Package,
     before: &[Json],
     id: &Text,
 ) -> Result<Option<Text>, AllocError>
-    ensures { IfOk result (λ told. told ≡ id_rules old.now before.now id.now) }
+    ensures { IfOk result (λ error. error ≡ resource_id_error old.now before.now id.now) }
 {
     if number_of_id(alloc, old, id)?.is_none() {
         let message = Text::from_static("Resource does not belong to the dataset");
@@ -128,101 +129,101 @@ fn id_rules(
     Ok(message_unless(!is_repeated(id, before), "Repeated resource"))
 }
 
-/// What is told of the id of an item behind these. In a new dataset no ids are read.
-fn id_told(
+/// The error of the id of an item after these. The ids of a new dataset's resources are ignored.
+fn id_error(
     alloc: Global,
     old: Option<&Package>,
     before: &[Json],
     item: &Json,
 ) -> Result<Option<Text>, AllocError>
-    ensures { IfOk result (λ told. told ≡ id_told (option_copied old.entry) before.now item.now) }
+    ensures { IfOk result (λ error. error ≡ id_error (option_copied old.entry) before.now item.now) }
 {
     let Some(old) = old else {
         return Ok(None);
     };
     match text_at(item, "id") {
-        Ok(Some(id)) => id_rules(alloc, old, before, id),
+        Ok(Some(id)) => resource_id_error(alloc, old, before, id),
         Ok(None) => Ok(None),
         Err(fault) => Ok(Some(fault.message(alloc)?)),
     }
 }
 
-// ---- what is told of the list
+// ---- the error of the list
 
-/// What is told of the id of an item behind these, behind its key.
-fn id_fault(
+/// The error of the id of an item after these, after its key.
+fn prefixed_id_error(
     alloc: Global,
     old: Option<&Package>,
     before: &[Json],
     item: &Json,
 ) -> Result<Option<Text>, AllocError>
     ensures { IfOk result
-        (λ told. told ≡ rule_told (codes "id", id_told (option_copied old.entry) before.now item.now)) }
+        (λ error. error ≡ prefixed_error (codes "id", id_error (option_copied old.entry) before.now item.now)) }
 {
-    match id_told(alloc, old, before, item)? {
-        Some(message) => Ok(Some(in_key(alloc, "id", &message)?)),
+    match id_error(alloc, old, before, item)? {
+        Some(message) => Ok(Some(with_key(alloc, "id", &message)?)),
         None => Ok(None),
     }
 }
 
-/// What is told of an item behind these: of its first faulty key, of which the id is the last.
-fn item_told(
+/// The error of an item after these: that of its first faulty key. The id is checked last.
+fn item_error(
     alloc: Global,
     old: Option<&Package>,
     before: &[Json],
     item: &Json,
 ) -> Result<Option<Text>, AllocError>
-    ensures { IfOk result (λ told. told ≡ item_told (option_copied old.entry) before.now item.now) }
+    ensures { IfOk result (λ error. error ≡ item_error (option_copied old.entry) before.now item.now) }
 {
     if dictionary_in(item).is_none() {
         return Ok(Some(KindFault::NotDictionary.message(alloc)?));
     }
-    if let Some(told) = texts_fault(alloc, item)? {
-        return Ok(Some(told));
+    if let Some(error) = first_text_error(alloc, item)? {
+        return Ok(Some(error));
     }
-    id_fault(alloc, old, before, item)
+    prefixed_id_error(alloc, old, before, item)
 }
 
-/// What is told of the first bad item.
-fn items_told(
+/// The error of the first faulty item.
+fn items_error(
     alloc: Global,
     old: Option<&Package>,
     items: &[Json],
 ) -> Result<Option<Text>, AllocError>
-    ensures { IfOk result (λ told. told ≡ items_told (option_copied old.entry) [] items.now) }
+    ensures { IfOk result (λ error. error ≡ items_error (option_copied old.entry) [] items.now) }
 {
-    for (place, item) in items.iter().enumerate() {
-        if let Some(message) = item_told(alloc, old, &items[..place], item)? {
-            return Ok(Some(at_place(alloc, place + 1, &message)?));
+    for (index, item) in items.iter().enumerate() {
+        if let Some(message) = item_error(alloc, old, &items[..index], item)? {
+            return Ok(Some(with_position(alloc, index + 1, &message)?));
         }
     }
     Ok(None)
 }
 
-/// What is told of the list of resources.
-fn resources_told(
+/// The error of the list of resources.
+fn resources_error(
     alloc: Global,
     old: Option<&Package>,
     items: &[Json],
 ) -> Result<Option<Text>, AllocError>
-    ensures { IfOk result (λ told. told ≡ resources_told (option_copied old.entry) items.now) }
+    ensures { IfOk result (λ error. error ≡ resources_error (option_copied old.entry) items.now) }
 {
-    if MOST_RESOURCES < items.len() {
+    if MAX_RESOURCES < items.len() {
         return Ok(Some(Text::from_static("More than 200 resources")));
     }
-    items_told(alloc, old, items)
+    items_error(alloc, old, items)
 }
 
-/// What is told of the key `resources`.
-pub fn told_of_resources(
+/// The error of the key `resources`.
+pub fn resources_key_error(
     alloc: Global,
     old: Option<&Package>,
     body: &Json,
 ) -> Result<Option<Text>, AllocError>
-    ensures { IfOk result (λ told. told ≡ told_of_resources (option_copied old.entry) body.now) }
+    ensures { IfOk result (λ error. error ≡ resources_key_error (option_copied old.entry) body.now) }
 {
     match list_at(body, "resources") {
-        Ok(Some(items)) => resources_told(alloc, old, items.as_slice()),
+        Ok(Some(items)) => resources_error(alloc, old, items.as_slice()),
         Ok(None) => Ok(None),
         Err(fault) => Ok(Some(fault.message(alloc)?)),
     }
@@ -250,7 +251,7 @@ fn kept_number(alloc: Global, old: Option<&Package>, item: &Json) -> Result<Opti
     }
 }
 
-/// Adds the resource of an item. A number beyond the last of its type counts as want of memory.
+/// Adds the resource of an item. If its number exceeds the type's range, that counts as out of memory.
 fn push_resource(
     alloc: Global,
     numbering: &mut Numbering,
@@ -260,7 +261,7 @@ fn push_resource(
     ensures resources { OnOk result (numbering.new.resources.items
         ≡ numbering.old.resources.items ++ numbered (option_copied old.entry) numbering.old.next (item.now ∷ [])) }
     ensures next { OnOk result (numbering.new.next
-        ≡ next_behind (option_copied old.entry) numbering.old.next item.now) }
+        ≡ next_after_item (option_copied old.entry) numbering.old.next item.now) }
 {
     let number = match kept_number(alloc, old, item)? {
         Some(number) => number,
@@ -275,7 +276,7 @@ fn push_resource(
     Ok(())
 }
 
-/// The items' resources, of which the new ones are numbered from `next` on.
+/// The items' resources. New ones are numbered from `next` on.
 fn numbered(
     alloc: Global,
     old: Option<&Package>,
@@ -284,7 +285,8 @@ fn numbered(
 ) -> Result<Numbering, AllocError>
     ensures resources { IfOk result (λ numbering.
         numbering.resources.items ≡ numbered (option_copied old.entry) next items.now) }
-    ensures next { IfOk result (λ numbering. numbering.next ≡ next_after (option_copied old.entry) next items.now) }
+    ensures next { IfOk result (λ numbering.
+        numbering.next ≡ next_after_items (option_copied old.entry) next items.now) }
 {
     let mut numbering = Numbering {
         resources: Vec::with_capacity(alloc, items.len())?,
@@ -296,8 +298,8 @@ fn numbered(
     Ok(numbering)
 }
 
-/// Puts the resources that a body gives in place of these, and the number of the next one. For want of memory nothing
-/// changes.
+/// Replaces the resources by those of the body, if there are any, and sets the number of the next one. If memory is
+/// out, nothing changes.
 pub fn replace_resources(
     alloc: Global,
     old: Option<&Package>,

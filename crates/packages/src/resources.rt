@@ -1,31 +1,31 @@
-//! One resource: what its body says, and what is told of it where it stands alone.
+//! A single resource: the values of its body, and the body's errors.
 ghost use Rattle.std.specs.Prelude.{◌≡◌, [], IfOk, IfErr, OnOk};
-ghost use Rattle.packages.specs.Body.{Tells};
-ghost use Rattle.packages.specs.Resources.{told_of_resource, resource_for};
+ghost use Rattle.packages.specs.Body.{IsRefusal};
+ghost use Rattle.packages.specs.Resources.{resource_errors, resource_for};
 
-use crate::build::{BuildFault, unless_told};
+use crate::build::{BuildFault, unless_error};
+use crate::errors::add_text_error;
 use crate::package::{LONGEST_DESCRIPTION, LONGEST_TEXT, Resource};
 use crate::texts::text_or;
-use crate::told::note_text;
-use portal_base::faults::Faults;
 use portal_base::json_value::Json;
+use portal_base::key_errors::KeyErrors;
 use portal_base::text::Text;
 use std::alloc::{AllocError, Global};
 
-/// What is told of a resource's body, by key.
-pub fn told_of_resource(alloc: Global, body: &Json) -> Result<Faults, AllocError>
-    ensures { IfOk result (λ faults. faults ≡ told_of_resource body.now) }
+/// The errors of a resource's body, in the order of the keys.
+pub fn resource_errors(alloc: Global, body: &Json) -> Result<KeyErrors, AllocError>
+    ensures { IfOk result (λ faults. faults ≡ resource_errors body.now) }
 {
-    let mut faults = Faults::new(alloc);
-    note_text(alloc, &mut faults, body, "name", LONGEST_TEXT)?;
-    note_text(alloc, &mut faults, body, "url", LONGEST_TEXT)?;
-    note_text(alloc, &mut faults, body, "format", LONGEST_TEXT)?;
-    note_text(alloc, &mut faults, body, "mimetype", LONGEST_TEXT)?;
-    note_text(alloc, &mut faults, body, "description", LONGEST_DESCRIPTION)?;
+    let mut faults = KeyErrors::new(alloc);
+    add_text_error(alloc, &mut faults, body, "name", LONGEST_TEXT)?;
+    add_text_error(alloc, &mut faults, body, "url", LONGEST_TEXT)?;
+    add_text_error(alloc, &mut faults, body, "format", LONGEST_TEXT)?;
+    add_text_error(alloc, &mut faults, body, "mimetype", LONGEST_TEXT)?;
+    add_text_error(alloc, &mut faults, body, "description", LONGEST_DESCRIPTION)?;
     Ok(faults)
 }
 
-/// The resource of this number that a body gives; its texts are empty by default.
+/// The resource with this number that a body describes. Its texts are empty by default.
 pub fn resource_for(alloc: Global, number: u32, body: &Json) -> Result<Resource, AllocError>
     ensures { IfOk result (λ resource. resource ≡ resource_for number body.now) }
 {
@@ -40,12 +40,12 @@ pub fn resource_for(alloc: Global, number: u32, body: &Json) -> Result<Resource,
     })
 }
 
-/// The resource of this number that a body says, or its faulty keys.
+/// The resource with this number that a body describes, or the body's faulty keys.
 pub fn resource_of(alloc: Global, body: &Json, number: u32) -> Result<Resource, BuildFault>
     ensures built { IfOk result (λ resource. resource ≡ resource_for number body.now) }
-    ensures faultless { OnOk result (told_of_resource body.now ≡ []) }
-    ensures told { IfErr result (Tells (told_of_resource body.now)) }
+    ensures faultless { OnOk result (resource_errors body.now ≡ []) }
+    ensures errors { IfErr result (IsRefusal (resource_errors body.now)) }
 {
-    unless_told(told_of_resource(alloc, body)?)?;
+    unless_error(resource_errors(alloc, body)?)?;
     Ok(resource_for(alloc, number, body)?)
 }

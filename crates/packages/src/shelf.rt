@@ -1,19 +1,19 @@
-//! The shelf: datasets by number, found by their ids and names.
+//! The shelf: datasets by number, which are found by their ids and names.
 //!
-//! A number stays its dataset's until the dataset is removed, and may be another's afterwards. A change is prepared by
-//! `prepare`, which alone takes memory, and made by `put`, `replace` or `remove`.
+//! A dataset keeps its number until it is removed. Afterwards another dataset may get the number. `prepare` makes room
+//! for a new dataset and is the only call that takes memory. `put`, `replace` and `remove` change the shelf.
 ghost use Rattle.std.specs.Prelude.{◌≡◌, ◌+◌, ◌<◌, ◌^◌, [], None, Some, ℕ, IsTrue, false, IsOk, IsSome, IfSome, IfNone};
 ghost use Rattle.std.specs.Prelude.{IfOk, OnErr, filter, find, is_some, length, map};
 ghost use Rattle.std.specs.List.{list_any};
 ghost use Rattle.std.specs.Option.{option_copied, option_map};
-ghost use Rattle.portal_base.specs.Ordered.{placed, dropped};
+ghost use Rattle.portal_base.specs.Ordered.{upserted, dropped};
 ghost use Rattle.packages.specs.Named.{is_named};
 ghost use Rattle.packages.specs.Order.{dataset_cmp};
-ghost use Rattle.packages.specs.Shelf.{standing_at, number_in, with_package, without_number, with_room, datasets_of};
-ghost use Rattle.packages.specs.Shelf.{IsShelved};
+ghost use Rattle.packages.specs.Shelf.{package_at, number_in, with_package, without_number, with_room, datasets_of};
+ghost use Rattle.packages.specs.Shelf.{IsValidShelf};
 ghost use Rattle.packages.specs.Tags.{text_set};
 ghost use Rattle.packages.specs.Index.{digest_of, number_under, IsCandidate};
-ghost use Rattle.packages.specs.Kept.{is_named_at};
+ghost use Rattle.packages.specs.ShelfInvariant.{is_named_at};
 ghost use Rattle.slab.specs.Slab.{get};
 
 use crate::index::{Index, digest_of};
@@ -29,29 +29,29 @@ use std::marker::Model;
 use std::mem;
 use std::sync::ledger::Ledger;
 
-/// Datasets, each under a number below 2^32. A contract sees the list of them by number, and the number at which the
-/// next one is put, where there is room for it.
+/// Datasets, each under a number below 2^32. In contracts its value is the list of them, ordered by number, and the
+/// number for the next dataset, if there is room for it.
 #[derive(Drop)]
 pub struct Shelf {
     datasets: Slab<Package>,
     index: Index,
-    /// Whether there is room for one dataset more.
+    /// Whether there is room for one more dataset.
     is_prepared: bool,
 }
 
 impl Model for Shelf {
-    ghost use Rattle.packages.specs.Shelf.{Shelved};
-    ghost use Rattle.packages.specs.Kept.{shelved_of, IsKept};
+    ghost use Rattle.packages.specs.Shelf.{ShelfState};
+    ghost use Rattle.packages.specs.ShelfInvariant.{shelf_state, IsConsistent};
 
-    ghost Value = { Shelved };
+    ghost Value = { ShelfState };
 
-    ghost view = { λ s. shelved_of s.datasets s.is_prepared };
+    ghost view = { λ s. shelf_state s.datasets s.is_prepared };
 
-    ghost invariant = { λ s. IsKept s.datasets s.index s.is_prepared };
+    ghost invariant = { λ s. IsConsistent s.datasets s.index s.is_prepared };
 }
 
 impl Shelf {
-    /// A shelf without a dataset, which takes no memory.
+    /// A shelf without datasets. It takes no memory.
     pub fn new(alloc: Global) -> Shelf
         ensures none { result.entries ≡ [] }
         ensures room { result.room ≡ None }
@@ -63,14 +63,14 @@ impl Shelf {
         }
     }
 
-    /// Makes room for one dataset, and tells the number at which it will be put, where none stands. For want of memory
-    /// nothing changes; a shelf without a number below 2^32 that is free has none either.
+    /// Makes room for one dataset, and returns the number that it will get. No dataset has that number. If memory is
+    /// out, nothing changes. A shelf without a free number below 2^32 counts as out of memory.
     pub fn prepare(&mut self) -> Result<u32, AllocError>
         ensures room { IfOk result (λ number. self.new ≡ with_room (Some number) self.old) }
-        ensures free { IfOk result (λ number. standing_at number self.new ≡ None) }
+        ensures free { IfOk result (λ number. package_at number self.new ≡ None) }
         ensures again { IsSome self.old.room → IsOk result }
         ensures same { OnErr result (self.new ≡ self.old) }
-        ensures shelved { IsShelved self.new }
+        ensures valid { IsValidShelf self.new }
     {
         let number = free_number(&self.datasets)?;
         if !self.is_prepared {
@@ -81,15 +81,15 @@ impl Shelf {
         Ok(number)
     }
 
-    /// Puts a dataset at the number for which there is room. It takes no memory and can't fail.
+    /// Puts a dataset at the prepared number, and returns that number. It takes no memory and can't fail.
     pub fn put(&mut self, package: Package) -> u32
         requires room { IsSome self.old.room }
         requires id { number_in «package».id self.old ≡ None }
         requires name { number_in «package».name self.old ≡ None }
         ensures number { self.old.room ≡ Some result }
         ensures put { self.new ≡ with_room None (with_package result «package» self.old) }
-        ensures datasets { datasets_of self.new ≡ placed dataset_cmp «package» (datasets_of self.old) }
-        ensures shelved { IsShelved self.new }
+        ensures datasets { datasets_of self.new ≡ upserted dataset_cmp «package» (datasets_of self.old) }
+        ensures valid { IsValidShelf self.new }
     {
         let number = self.datasets.vacant_key() as u32;
         let id = digest_of(package.id.as_str());
@@ -101,15 +101,15 @@ impl Shelf {
         number
     }
 
-    /// Puts a dataset in place of the one at the number, which has its id and its name, and hands that one back. It
-    /// takes no memory and can't fail.
+    /// Replaces the dataset at the number by one with the same id and name, and returns the old one. It takes no memory
+    /// and can't fail.
     pub fn replace(&mut self, number: u32, package: Package) -> Package
-        requires id { option_map (λ d. d.id) (standing_at number self.old) ≡ Some «package».id }
-        requires name { option_map (λ d. d.name) (standing_at number self.old) ≡ Some «package».name }
-        ensures replaced { standing_at number self.old ≡ Some result }
+        requires id { option_map (λ d. d.id) (package_at number self.old) ≡ Some «package».id }
+        requires name { option_map (λ d. d.name) (package_at number self.old) ≡ Some «package».name }
+        ensures replaced { package_at number self.old ≡ Some result }
         ensures put { self.new ≡ with_package number «package» self.old }
-        ensures datasets { datasets_of self.new ≡ placed dataset_cmp «package» (datasets_of self.old) }
-        ensures shelved { IsShelved self.new }
+        ensures datasets { datasets_of self.new ≡ upserted dataset_cmp «package» (datasets_of self.old) }
+        ensures valid { IsValidShelf self.new }
     {
         match self.datasets.get_mut(number as usize) {
             Some(there) => mem::replace(there, package),
@@ -117,30 +117,30 @@ impl Shelf {
         }
     }
 
-    /// Takes out the dataset at the number. Room that was prepared stays, and the next dataset is put at this number.
-    /// It takes no memory and can't fail.
+    /// Removes the dataset at the number, and returns it. Prepared room stays, and the next dataset gets this number.
+    /// The call takes no memory and can't fail.
     pub fn remove(&mut self, number: u32) -> Package
-        requires { IsSome (standing_at number self.old) }
-        ensures removed { standing_at number self.old ≡ Some result }
+        requires { IsSome (package_at number self.old) }
+        ensures removed { package_at number self.old ≡ Some result }
         ensures rest { self.new ≡
             with_room (option_map (λ _. number) self.old.room) (without_number number self.old) }
         ensures datasets { datasets_of self.new ≡ dropped (λ d. dataset_cmp d result) (datasets_of self.old) }
-        ensures shelved { IsShelved self.new }
+        ensures valid { IsValidShelf self.new }
     {
         let package = self.datasets.remove(number as usize);
         self.index.leave(digest_of(package.id.as_str()), number);
         self.index.leave(digest_of(package.name.as_str()), number);
-        self.index.forget(number);
+        self.index.drop_colliding(number);
         package
     }
 
-    /// The number of the dataset whose id or name this is.
+    /// The number of the dataset with this id or name.
     pub fn number_of(&self, name_or_id: &str) -> Option<u32>
         ensures number { result ≡ number_in name_or_id.now self.now }
-        ensures stands { IfSome result (λ number. IsSome (standing_at number self.now)) }
-        ensures shelved { IsShelved self.now }
+        ensures exists { IfSome result (λ number. IsSome (package_at number self.now)) }
+        ensures valid { IsValidShelf self.now }
     {
-        look_up(&self.datasets, &self.index, name_or_id)
+        find_number(&self.datasets, &self.index, name_or_id)
     }
 
     /// Whether a dataset has this id or this name.
@@ -150,38 +150,38 @@ impl Shelf {
         self.number_of(name_or_id).is_some()
     }
 
-    /// The dataset at the number, which is one step.
+    /// The dataset at the number. The call counts as one step.
     pub fn look<L: Ledger>(&self, number: u32, steps: &mut Steps<L>) -> &Package
-        requires { IsSome (standing_at number self.now) }
-        ensures dataset { standing_at number self.now ≡ Some result.now }
+        requires { IsSome (package_at number self.now) }
+        ensures dataset { package_at number self.now ≡ Some result.now }
         ensures step { steps.new ≡ steps.old + 1 }
     {
         steps.tick();
         self.package_at(number).unwrap()
     }
 
-    /// The dataset at the number. It counts no step.
+    /// The dataset at the number, if there is one. The call counts no step.
     pub fn package_at(&self, number: u32) -> Option<&Package>
-        ensures { option_copied result ≡ standing_at number self.now }
+        ensures { option_copied result ≡ package_at number self.now }
     {
         self.datasets.get(number as usize)
     }
 
-    /// How many datasets there are.
+    /// The count of datasets.
     pub fn len(&self) -> usize
         ensures { result ≡ length self.now.entries }
     {
         self.datasets.len()
     }
 
-    /// How many datasets pass the test.
+    /// The count of datasets that pass the test.
     pub fn count_of<T: Test>(&self, test: &T) -> usize
         ensures { result ≡ length (filter (T.test test.now) (datasets_of self.now)) }
     {
         walk::count_of(&self.datasets, test)
     }
 
-    /// Whether a dataset passes the test.
+    /// Whether any dataset passes the test.
     #[tactic(auto, using(crate::proofs::DatasetLemmas::any_of_listed))]
     pub fn has<T: Test>(&self, test: &T) -> bool
         ensures { result ≡ list_any (T.test test.now) (datasets_of self.now) }
@@ -198,7 +198,7 @@ impl Shelf {
     }
 }
 
-/// The number at which the next dataset is put.
+/// The number that the next dataset gets.
 fn free_number(datasets: &Slab<Package>) -> Result<u32, AllocError>
     ensures number { IfOk result (λ number. datasets.now.vacant_key ≡ number) }
     ensures free { IfOk result (λ number. get datasets.now number ≡ None) }
@@ -208,20 +208,20 @@ fn free_number(datasets: &Slab<Package>) -> Result<u32, AllocError>
     u32::try_from(datasets.vacant_key()).map_err(|_| AllocError)
 }
 
-/// The number of the dataset whose id or name this is.
-fn look_up(datasets: &Slab<Package>, index: &Index, key: &str) -> Option<u32>
+/// The number of the dataset with this id or name.
+fn find_number(datasets: &Slab<Package>, index: &Index, key: &str) -> Option<u32>
     ensures named { IfSome result (λ n. IsTrue (is_named_at n key.now datasets.now)) }
     ensures none { IfNone result ((n : ℕ) → IsCandidate index.now (digest_of key.now) n →
         is_named_at n key.now datasets.now ≡ false) }
 {
-    match first_under(datasets, index, key) {
+    match find_under_digest(datasets, index, key) {
         Some(number) => Some(number),
-        None => first_named(datasets, index.crowded(), key),
+        None => find_first_named(datasets, index.colliding(), key),
     }
 }
 
-/// The number under the key's digest, where a dataset of that id or name stands there.
-fn first_under(datasets: &Slab<Package>, index: &Index, key: &str) -> Option<u32>
+/// The number under the key's digest, if the dataset there has that id or name.
+fn find_under_digest(datasets: &Slab<Package>, index: &Index, key: &str) -> Option<u32>
     ensures named { IfSome result (λ n. IsTrue (is_named_at n key.now datasets.now)) }
     ensures none { IfNone result ((n : ℕ) → number_under index.now (digest_of key.now) ≡ Some n →
         is_named_at n key.now datasets.now ≡ false) }
@@ -232,8 +232,8 @@ fn first_under(datasets: &Slab<Package>, index: &Index, key: &str) -> Option<u32
     }
 }
 
-/// The first of the numbers at which a dataset of that id or name stands.
-fn first_named(datasets: &Slab<Package>, numbers: &[u32], key: &str) -> Option<u32>
+/// The first of the numbers whose dataset has that id or name.
+fn find_first_named(datasets: &Slab<Package>, numbers: &[u32], key: &str) -> Option<u32>
     ensures { result ≡ find (λ n. is_named_at n key.now datasets.now) numbers.now }
 {
     numbers
@@ -242,7 +242,7 @@ fn first_named(datasets: &Slab<Package>, numbers: &[u32], key: &str) -> Option<u
         .find(|number| is_named_at(datasets, *number, key))
 }
 
-/// Whether a dataset of that id or name stands at the number.
+/// Whether a dataset with that id or name is at the number.
 fn is_named_at(datasets: &Slab<Package>, number: u32, key: &str) -> bool
     ensures { result ≡ is_named_at number key.now datasets.now }
 {

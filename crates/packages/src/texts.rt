@@ -1,23 +1,23 @@
-//! The keys of a dataset's body that have one value: what they say, and what is told of them.
+//! The keys of a dataset's body that have a single value: their values and their errors.
 ghost use Rattle.std.specs.Prelude.{◌≡◌, IfOk, OnErr, OnOk};
 ghost use Rattle.std.specs.Option.{option_copied};
-ghost use Rattle.packages.specs.Texts.{text_given, text_or, title_or, change_told, name_told, name_rules};
-ghost use Rattle.packages.specs.Texts.{missing_told, told_of_name, organization_rules, told_of_organization};
-ghost use Rattle.packages.specs.Texts.{state_named};
-ghost use Rattle.packages.specs.Texts.{told_of_state, state_or, told_of_private, private_or};
+ghost use Rattle.packages.specs.Texts.{text_given, text_or, title_or, change_error, name_error, dataset_name_error};
+ghost use Rattle.packages.specs.Texts.{missing_error, name_key_error, organization_change_error};
+ghost use Rattle.packages.specs.Texts.{organization_key_error, state_named};
+ghost use Rattle.packages.specs.Texts.{state_key_error, state_or, private_key_error, private_or};
 
+use crate::errors::message_unless;
 use crate::package::{LONGEST_NAME, Package, State};
-use crate::told::message_unless;
 use portal_base::copy::TryClone;
 use portal_base::json_value::Json;
 use portal_base::kinds::{KindFault, text_at, truth_at};
-use portal_base::name::fault_of;
+use portal_base::name::name_fault;
 use portal_base::text::Text;
 use std::alloc::{AllocError, Global};
 
-// ---- plain texts
+// ---- texts
 
-/// The text that a key gives.
+/// The text at a key, if it is a text.
 pub fn text_given<'a>(body: &'a Json, key: &str) -> Option<&'a Text>
     ensures { option_copied result ≡ text_given key.now body.now }
 {
@@ -27,7 +27,7 @@ pub fn text_given<'a>(body: &'a Json, key: &str) -> Option<&'a Text>
     }
 }
 
-/// A copy of the text that a key gives, or of this one.
+/// A copy of the text at a key, or else of this one.
 pub fn text_or(alloc: Global, kept: &Text, body: &Json, key: &str) -> Result<Text, AllocError>
     ensures { IfOk result (λ text. text ≡ text_or kept.now key.now body.now) }
 {
@@ -37,7 +37,7 @@ pub fn text_or(alloc: Global, kept: &Text, body: &Json, key: &str) -> Result<Tex
     }
 }
 
-/// Puts the text that a key gives in place of this one. For want of memory nothing changes.
+/// Replaces the text by the one at a key, if there is one. If memory is out, nothing changes.
 pub fn replace_text(
     alloc: Global,
     text: &mut Text,
@@ -53,8 +53,8 @@ pub fn replace_text(
     Ok(())
 }
 
-/// Puts the title that a body gives in place of this one: the name, where it is empty. For want of memory nothing
-/// changes.
+/// Replaces the title by the one of the body, if there is one. An empty title becomes the name. If memory is out,
+/// nothing changes.
 pub fn replace_title(
     alloc: Global,
     title: &mut Text,
@@ -74,39 +74,43 @@ pub fn replace_title(
 
 // ---- the name and the organization
 
-/// What is told of a text that has to be a name of a dataset or of an organization.
-pub fn name_told(alloc: Global, text: &Text) -> Result<Option<Text>, AllocError>
-    ensures { IfOk result (λ told. told ≡ name_told text.now) }
+/// The error of a text that has to be the name of a dataset or of an organization.
+pub fn name_error(alloc: Global, text: &Text) -> Result<Option<Text>, AllocError>
+    ensures { IfOk result (λ error. error ≡ name_error text.now) }
 {
-    match fault_of(text.as_str(), LONGEST_NAME) {
+    match name_fault(text.as_str(), LONGEST_NAME) {
         Some(fault) => Ok(Some(fault.message(alloc, LONGEST_NAME)?)),
         None => Ok(None),
     }
 }
 
-/// What is told of a text that isn't the old one.
-fn change_told(message: &'static str, old: &Text, text: &Text) -> Option<Text>
-    ensures { result ≡ change_told message.now old.now text.now }
+/// The error of a text that differs from the old one.
+fn change_error(message: &'static str, old: &Text, text: &Text) -> Option<Text>
+    ensures { result ≡ change_error message.now old.now text.now }
 {
     message_unless(text.as_str() == old.as_str(), message)
 }
 
-/// What is told of a dataset's name.
-fn name_rules(alloc: Global, old: Option<&Package>, text: &Text) -> Result<Option<Text>, AllocError>
-    ensures { IfOk result (λ told. told ≡ name_rules (option_copied old.entry) text.now) }
+/// The error of a dataset's name: of its form, or else that it differs from the old one.
+fn dataset_name_error(
+    alloc: Global,
+    old: Option<&Package>,
+    text: &Text,
+) -> Result<Option<Text>, AllocError>
+    ensures { IfOk result (λ error. error ≡ dataset_name_error (option_copied old.entry) text.now) }
 {
-    if let Some(message) = name_told(alloc, text)? {
+    if let Some(message) = name_error(alloc, text)? {
         return Ok(Some(message));
     }
     match old {
-        Some(old) => Ok(change_told("Name cannot be changed", &old.name, text)),
+        Some(old) => Ok(change_error("Name cannot be changed", &old.name, text)),
         None => Ok(None),
     }
 }
 
-/// What is told of a key that isn't there: a new dataset has to have it.
-fn missing_told(alloc: Global, old: Option<&Package>) -> Result<Option<Text>, AllocError>
-    ensures { IfOk result (λ told. told ≡ missing_told (option_copied old.entry)) }
+/// The error of an absent key, which a new dataset needs.
+fn missing_error(alloc: Global, old: Option<&Package>) -> Result<Option<Text>, AllocError>
+    ensures { IfOk result (λ error. error ≡ missing_error (option_copied old.entry)) }
 {
     match old {
         Some(_) => Ok(None),
@@ -114,49 +118,49 @@ fn missing_told(alloc: Global, old: Option<&Package>) -> Result<Option<Text>, Al
     }
 }
 
-/// What is told of the key `name`.
-pub fn told_of_name(
+/// The error of the key `name`.
+pub fn name_key_error(
     alloc: Global,
     old: Option<&Package>,
     body: &Json,
 ) -> Result<Option<Text>, AllocError>
-    ensures { IfOk result (λ told. told ≡ told_of_name (option_copied old.entry) body.now) }
+    ensures { IfOk result (λ error. error ≡ name_key_error (option_copied old.entry) body.now) }
 {
     match text_at(body, "name") {
-        Ok(Some(text)) => name_rules(alloc, old, text),
-        Ok(None) => missing_told(alloc, old),
+        Ok(Some(text)) => dataset_name_error(alloc, old, text),
+        Ok(None) => missing_error(alloc, old),
         Err(fault) => Ok(Some(fault.message(alloc)?)),
     }
 }
 
-/// What is told of the key `owner_org`. Whether there is such an organization isn't asked.
-pub fn told_of_organization(
+/// The error of the key `owner_org`. It doesn't check whether the organization exists.
+pub fn organization_key_error(
     alloc: Global,
     old: Option<&Package>,
     body: &Json,
 ) -> Result<Option<Text>, AllocError>
-    ensures { IfOk result (λ told. told ≡ told_of_organization (option_copied old.entry) body.now) }
+    ensures { IfOk result (λ error. error ≡ organization_key_error (option_copied old.entry) body.now) }
 {
     match text_at(body, "owner_org") {
-        Ok(Some(text)) => Ok(organization_rules(old, text)),
-        Ok(None) => missing_told(alloc, old),
+        Ok(Some(text)) => Ok(organization_change_error(old, text)),
+        Ok(None) => missing_error(alloc, old),
         Err(fault) => Ok(Some(fault.message(alloc)?)),
     }
 }
 
-/// What is told of a dataset's organization.
-fn organization_rules(old: Option<&Package>, text: &Text) -> Option<Text>
-    ensures { result ≡ organization_rules (option_copied old.entry) text.now }
+/// The error of an organization that differs from the old one.
+fn organization_change_error(old: Option<&Package>, text: &Text) -> Option<Text>
+    ensures { result ≡ organization_change_error (option_copied old.entry) text.now }
 {
     match old {
-        Some(old) => change_told("Organization cannot be changed", &old.owner_org, text),
+        Some(old) => change_error("Organization cannot be changed", &old.owner_org, text),
         None => None,
     }
 }
 
 // ---- the state
 
-/// The state that a body means by this text.
+/// The state with this name, if a body may give it.
 fn state_named(text: &str) -> Option<State>
     ensures { result ≡ state_named text.now }
 {
@@ -169,9 +173,9 @@ fn state_named(text: &str) -> Option<State>
     }
 }
 
-/// What is told of the key `state`.
-pub fn told_of_state(alloc: Global, body: &Json) -> Result<Option<Text>, AllocError>
-    ensures { IfOk result (λ told. told ≡ told_of_state body.now) }
+/// The error of the key `state`.
+pub fn state_key_error(alloc: Global, body: &Json) -> Result<Option<Text>, AllocError>
+    ensures { IfOk result (λ error. error ≡ state_key_error body.now) }
 {
     match text_at(body, "state") {
         Ok(Some(text)) => {
@@ -183,7 +187,7 @@ pub fn told_of_state(alloc: Global, body: &Json) -> Result<Option<Text>, AllocEr
     }
 }
 
-/// The state that a body gives, or this one.
+/// The state of the body, or else this one.
 pub fn state_or(kept: State, body: &Json) -> State
     ensures { result ≡ state_or kept body.now }
 {
@@ -195,9 +199,9 @@ pub fn state_or(kept: State, body: &Json) -> State
 
 // ---- whether it is private
 
-/// What is told of the key `private`.
-pub fn told_of_private(alloc: Global, body: &Json) -> Result<Option<Text>, AllocError>
-    ensures { IfOk result (λ told. told ≡ told_of_private body.now) }
+/// The error of the key `private`.
+pub fn private_key_error(alloc: Global, body: &Json) -> Result<Option<Text>, AllocError>
+    ensures { IfOk result (λ error. error ≡ private_key_error body.now) }
 {
     match truth_at(body, "private") {
         Ok(_) => Ok(None),
@@ -205,7 +209,7 @@ pub fn told_of_private(alloc: Global, body: &Json) -> Result<Option<Text>, Alloc
     }
 }
 
-/// Whether a body says that the dataset is private, or this.
+/// The value of the body's key `private`, or else this one.
 pub fn private_or(kept: bool, body: &Json) -> bool
     ensures { result ≡ private_or kept body.now }
 {

@@ -1,29 +1,29 @@
-//! Walks over all datasets, in no order that a caller may rest on.
+//! Walks over all datasets, in an order that callers can't rely on.
 ghost use Rattle.std.specs.Prelude.{◌≡◌, ◌∷◌, ◌++◌, [], IfOk, OnOk, filter, if◌then◌else◌, length, map};
 ghost use Rattle.std.specs.List.{list_any};
 ghost use Rattle.slab.specs.Slab.{entries};
 ghost use Rattle.packages.specs.Tags.{text_set};
 
 use crate::package::Package;
-use crate::tags::make_set;
+use crate::tags::sort_and_dedup;
 use portal_base::copy::TryClone;
 use portal_base::text::Text;
 use slab::Slab;
 use std::alloc::{AllocError, Global};
 
-/// What is asked of each dataset.
+/// A test of datasets.
 pub trait Test {
     ghost use Rattle.std.specs.Prelude.{Bool};
     ghost use Rattle.packages.specs.declared.package.Package.{Package};
 
-    /// Whether a dataset passes.
+    /// Whether the dataset passes.
     ghost test: { Self → Package → Bool };
 
     fn passes(&self, dataset: &Package) -> bool
         ensures { result ≡ test self.now dataset.now };
 }
 
-/// How many datasets pass: all but those that fail.
+/// The count of datasets that pass: all, less those that fail.
 pub(crate) fn count_of<T: Test>(datasets: &Slab<Package>, test: &T) -> usize
     ensures { result ≡ length (filter (λ e. T.test test.now e.1) (entries datasets.now)) }
 {
@@ -36,7 +36,7 @@ pub(crate) fn count_of<T: Test>(datasets: &Slab<Package>, test: &T) -> usize
     count
 }
 
-/// Whether a dataset passes.
+/// Whether any dataset passes.
 pub(crate) fn has<T: Test>(datasets: &Slab<Package>, test: &T) -> bool
     ensures { result ≡ list_any (λ e. T.test test.now e.1) (entries datasets.now) }
 {
@@ -48,7 +48,7 @@ pub(crate) fn has<T: Test>(datasets: &Slab<Package>, test: &T) -> bool
     false
 }
 
-/// The names of those that pass, in ascending order.
+/// The names of the datasets that pass, in ascending order.
 pub(crate) fn names_of<T: Test>(
     alloc: Global,
     datasets: &Slab<Package>,
@@ -57,13 +57,13 @@ pub(crate) fn names_of<T: Test>(
     ensures { IfOk result (λ names. names.items
         ≡ text_set (map (λ e. e.1.name) (filter (λ e. T.test test.now e.1) (entries datasets.now)))) }
 {
-    let mut names = names_as_kept(alloc, datasets, test)?;
-    make_set(&mut names);
+    let mut names = names_by_number(alloc, datasets, test)?;
+    sort_and_dedup(&mut names);
     Ok(names)
 }
 
-/// The names of those that pass, by number.
-fn names_as_kept<T: Test>(
+/// The names of the datasets that pass, ordered by the datasets' numbers.
+fn names_by_number<T: Test>(
     alloc: Global,
     datasets: &Slab<Package>,
     test: &T,
@@ -78,7 +78,7 @@ fn names_as_kept<T: Test>(
     Ok(names)
 }
 
-/// Adds the dataset's name, where it passes.
+/// Adds the dataset's name, if the dataset passes.
 fn push_name_of<T: Test>(
     alloc: Global,
     names: &mut Vec<Text>,

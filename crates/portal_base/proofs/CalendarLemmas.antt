@@ -1,4 +1,4 @@
--- The days and times of day that texts name, and the moments that are made of them.
+-- Readings of dates and times of day, and the moments made of them.
 use Rattle.std.proofs.Common.{◌≡◌, ◌≢◌, ℕ, ◌+◌, ◌-◌, ◌*◌, ◌<◌, ◌≤◌, true, false, ◌&&◌, nat_le, nat_lt, cond, refl}
 use Rattle.std.proofs.Common.{sym, ap, ◌∙◌, subst, arith, Bool, List, [], ◌++◌, ◌∷◌, length, take, drop, get_or, ℤ, pos}
 use Rattle.std.proofs.Common.{◌+ℤ◌, ◌*ℤ◌, length-drop, w8, w16, w32, w64, to_z, of_z}
@@ -13,12 +13,13 @@ use Rattle.jiff_core.proofs.SignedLemmas.{signed_arith}
 use Rattle.portal_base.specs.Calendar.{IsDay, has_month, day_in, date_reading, second_in, time_reading, seconds_of}
 use Rattle.portal_base.specs.Calendar.{moment_at}
 use Rattle.portal_base.specs.Moment.{IsMoment}
-use Rattle.portal_base.specs.MomentReading.{fits_form, fits_place, moment_form, has_day, has_time, year_in, number_at}
+use Rattle.portal_base.specs.MomentReading.{fits_form, fits_character, moment_form, has_day}
+use Rattle.portal_base.specs.MomentReading.{has_time, year_in, number_at}
 use Rattle.portal_base.specs.MomentReading.{names_moment, seconds_in, moment_reading}
-use Rattle.portal_base.proofs.FormLemmas.{fits_form-digit, fits_form-other_length, fits_form-other_place}
+use Rattle.portal_base.proofs.FormLemmas.{fits_form-digit, fits_form-other_length, fits_form-other_position}
 use Rattle.portal_base.proofs.ReadingLemmas.{pos-le, has_day-is, from_year_zero, moment_reading-other_form}
 
--- The library's parts of a date that the text names.
+-- jiff's date of a text.
 pub named-IsDate : (y m d y' m' d' : ℕ) → y ≡ y' → m ≡ m' → d ≡ d' → y < 10000 → m < 100 → d < 100
     → has_day y' m' d' ≡ true → IsDate (to_z w16 y) (to_z w8 m) (to_z w8 d)
 named-IsDate y m d y' m' d' year month day yb mb db t =
@@ -35,7 +36,7 @@ date_reading-unnamed text h =
     elim (fits_form (codes "0000-00-00") text) as (λ b. None ≡ cond b (day_in text) None)
     [ true ↦ rw h refl | false ↦ refl ]
 
--- ---- what is read is in range
+-- ---- ranges of what is read
 
 pub IsDay-from : (y m d : ℕ) → y ≤ 9999 → has_day y m d ≡ true → IsDay (days_from_civil (pos y) m d)
 IsDay-from y m d h t =
@@ -56,9 +57,9 @@ IsDay-from y m d h t =
         → IsDay days
     within days count e low high = (omega (arith, signed_arith), omega (arith, signed_arith))
 
-digits_number : (text : List ℕ) (place : ℕ) → get_or text place 0 ≤ 57 → get_or text (place + 1) 0 ≤ 57
-    → number_at place text ≤ 99
-digits_number text place tens units = omega arith
+digits_number : (text : List ℕ) (position : ℕ) → get_or text position 0 ≤ 57 → get_or text (position + 1) 0 ≤ 57
+    → number_at position text ≤ 99
+digits_number text position tens units = omega arith
 
 year_in-bound : (text : List ℕ) → fits_form (codes "0000-00-00") text ≡ true → year_in text ≤ 9999
 year_in-bound text h =
@@ -152,7 +153,7 @@ pub moment_at-read : (date time : List ℕ) (day : ℤ) (second : ℕ) → date_
 unfolding moment_at
 moment_at-read date time day second dated timed = rw (dated, timed) refl
 
--- What is read as a moment has a day and a time of day.
+-- The day and the time of day of a moment.
 pub moment_at-parts : (date time : List ℕ) (z : ℤ) → moment_at date time ≡ Some z
     → (day : ℤ) × (second : ℕ) × (date_reading date ≡ Some day) × (time_reading time ≡ Some second)
     × (seconds_of day second ≡ z)
@@ -174,7 +175,7 @@ moment_at-IsMoment date time z e =
     (IsMoment-seconds_of parts.0 parts.1 (date_reading-IsDay date parts.0 parts.2)
     (time_reading-bound time parts.1 parts.3))
 
--- The moment that is made of the seconds is the one that is read.
+-- The moment made of the seconds is the one that is read.
 pub moment_at-made : (date time : List ℕ) (day : ℤ) (second : ℕ) (made : Option ℤ) (z : ℤ)
     → date_reading date ≡ Some day → time_reading time ≡ Some second → z ≡ seconds_of day second
     → (IsMoment z → IsSome made) → IfSome made (λ m. m ≡ z) → made ≡ moment_at date time
@@ -188,44 +189,46 @@ moment_at-made date time day second made z dated timed e within same =
     some None is k e = cc
     some (Some x) is k e = ap (λ y. Some y) (k ∙ e)
 
--- A text has two forms one behind the other where its parts have them.
+-- A text has a form of two parts exactly if its parts have them.
 fits_form-append : (front back text : List ℕ)
     → fits_form (front ++ back) text
     ≡ (fits_form front (take (length front) text) && fits_form back (drop (length front) text))
 fits_form-append [] back text = refl
 fits_form-append (p ∷ front) back [] = refl
 fits_form-append (p ∷ front) back (c ∷ text) =
-    ap (λ b. fits_place p c && b) (fits_form-append front back text)
-    ∙ associated (fits_place p c) (fits_form front (take (length front) text)) (fits_form back (drop (length front) text))
+    ap (λ b. fits_character p c && b) (fits_form-append front back text)
+    ∙ associated (fits_character p c) (fits_form front (take (length front) text))
+    (fits_form back (drop (length front) text))
   where
     associated : (a b c : Bool) → (a && (b && c)) ≡ ((a && b) && c)
     associated true b c = refl
     associated false b c = refl
 
-pub number_at-take : (n place : ℕ) (text : List ℕ) → place + 1 < n → number_at place (take n text) ≡ number_at place text
-number_at-take n place text lt =
-    let tens = get_or-take n text place 0 (omega arith) in
-    let units = get_or-take n text (place + 1) 0 lt in
+pub number_at-take : (n position : ℕ) (text : List ℕ) → position + 1 < n
+    → number_at position (take n text) ≡ number_at position text
+number_at-take n position text lt =
+    let tens = get_or-take n text position 0 (omega arith) in
+    let units = get_or-take n text (position + 1) 0 lt in
     rw (tens, units) refl
 
-pub number_at-drop : (n place : ℕ) (text : List ℕ) → number_at place (drop n text) ≡ number_at (n + place) text
-number_at-drop n place text =
-    let next : n + (place + 1) ≡ n + place + 1 = omega arith in
-    let tens = get_or-drop n text place 0 in
-    let units = get_or-drop n text (place + 1) 0 ∙ ap (λ k. get_or text k 0) next in
+pub number_at-drop : (n position : ℕ) (text : List ℕ) → number_at position (drop n text) ≡ number_at (n + position) text
+number_at-drop n position text =
+    let next : n + (position + 1) ≡ n + position + 1 = omega arith in
+    let tens = get_or-drop n text position 0 in
+    let units = get_or-drop n text (position + 1) 0 ∙ ap (λ k. get_or text k 0) next in
     rw (tens, units) refl
 
--- The text of a moment has its form where its date and its time have theirs.
+-- A text has the form of a moment if its date and its time have their forms.
 fits_form-parts : (text : List ℕ) → length text ≡ 19 → get_or text 10 0 ≡ 84
     → fits_form moment_form text
     ≡ (fits_form (codes "0000-00-00") (take 10 text) && fits_form (codes "00:00:00") (drop 11 text))
 fits_form-parts text h mark =
-    let behind : drop 10 text ≡ get_or text 10 0 ∷ drop 11 text = drop_more text 10 0 (omega arith) in
+    let after : drop 10 text ≡ get_or text 10 0 ∷ drop 11 text = drop_more text 10 0 (omega arith) in
     fits_form-append (codes "0000-00-00") (codes "T00:00:00") text
     ∙ ap (λ rest. fits_form (codes "0000-00-00") (take 10 text) && fits_form (codes "T00:00:00") rest)
-    (behind ∙ ap (λ c. c ∷ drop 11 text) mark)
+    (after ∙ ap (λ c. c ∷ drop 11 text) mark)
 
--- It is the moment of the date and the time that the text names, where both have their forms and are there.
+-- The reading of a text is the moment of its date and its time.
 assembled : (d t : Bool) (year month day hour minute second y m b h n s : ℕ) → year ≡ y → month ≡ m → day ≡ b
     → hour ≡ h → minute ≡ n → second ≡ s
     → option_and_then (λ x. option_map (seconds_of x)
@@ -270,8 +273,8 @@ moment_reading-other_length text ne =
 pub moment_reading-unmarked : (text : List ℕ) → get_or text 10 0 ≢ 84 → moment_reading text ≡ None
 moment_reading-unmarked text ne =
     moment_reading-other_form text
-    (fits_form-other_place moment_form text 10 (omega arith) (ne_eqb (get_or text 10 0) 84 ne))
+    (fits_form-other_position moment_form text 10 (omega arith) (ne_eqb (get_or text 10 0) 84 ne))
 
--- what is behind a place, as a slice of it is written
+-- the rest from a position on, as a slice
 pub drop-rest : (n : ℕ) (text : List ℕ) → drop n text ≡ take (length text - n) (drop n text)
 drop-rest n text = sym (take_all (length text - n) (drop n text) (omega (arith, length-drop {A = ℕ})))

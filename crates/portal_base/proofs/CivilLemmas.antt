@@ -21,11 +21,11 @@ pub days_from_civil-1970 : days_from_civil (pos 1970) 1 1 ≡ pos 0
 unfolding days_from_civil
 days_from_civil-1970 = rw day_count-epoch refl
 
--- A second of a moment is one that the library has, in nanoseconds.
+-- The seconds of a moment are in jiff's range, in nanoseconds.
 pub IsCivilNanos-moment : (m : ℤ) → IsMoment m → IsCivilNanos (m *ℤ pos 1000000000)
 IsCivilNanos-moment m h = (omega (arith, signed_arith), omega (arith, signed_arith))
 
--- Whole seconds that are a number of seconds and less than a second more are that number.
+-- A number of seconds with less than a second more has that number of whole seconds.
 pub whole_seconds : (a b : ℤ) (s : ℕ) → s < 1000000000 → a *ℤ pos 1000000000 ≡ b *ℤ pos 1000000000 +ℤ pos s
     → (b ≡ a) × (s ≡ 0)
 whole_seconds a b s lt e = (omega (arith, signed_arith), omega (arith, signed_arith))
@@ -43,7 +43,7 @@ civil_nanos-start d dt ymd e midnight =
     ∙ ap (λ z. z *ℤ pos 86400000000000 +ℤ pos (time_nanos dt.time)) zero
     ∙ ap (λ n. pos 0 *ℤ pos 86400000000000 +ℤ pos n) midnight
 
--- A date and time so many nanoseconds after the start, where these are whole seconds.
+-- A date and time a number of nanoseconds after the start, if these are whole seconds.
 pub civil_seconds-after : (m start nanos : ℤ) (at : DateTime) → start ≡ pos 0 → nanos ≡ m *ℤ pos 1000000000
     → civil_nanos at ≡ start +ℤ nanos → (civil_seconds at ≡ m) × (at.time.subsec_nanosecond ≡ 0)
 civil_seconds-after m start nanos at zero n e =
@@ -59,12 +59,12 @@ FitsSigned-moment m h = to_z-of_z w64 m (omega (arith, signed_arith))
 pub zero_plus : (start nanos m : ℤ) → start ≡ pos 0 → nanos ≡ m *ℤ pos 1000000000 → start +ℤ nanos ≡ m *ℤ pos 1000000000
 zero_plus start nanos m zero n = omega (arith, signed_arith)
 
--- A date and time of day without a fraction is known by its second.
+-- A date and time of day without a fraction is determined by its seconds.
 pub civil_nanos-whole : (at : DateTime) → at.time.subsec_nanosecond ≡ 0
     → civil_nanos at ≡ civil_seconds at *ℤ pos 1000000000 +ℤ pos 0
 civil_nanos-whole at whole = civil_nanos-civil_seconds at ∙ ap (λ n. civil_seconds at *ℤ pos 1000000000 +ℤ pos n) whole
 
--- Two that have one second have one text.
+-- Two with the same seconds have the same text.
 pub iso_datetime_text_same : (a b : DateTime) → civil_seconds a ≡ civil_seconds b → a.time.subsec_nanosecond ≡ 0
     → b.time.subsec_nanosecond ≡ 0 → iso_datetime_text a ≡ iso_datetime_text b
 iso_datetime_text_same a b e whole_a whole_b =

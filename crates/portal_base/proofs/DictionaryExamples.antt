@@ -1,4 +1,4 @@
--- Keys that ascend or don't.
+-- Examples of keys that ascend and of keys that do not.
 use Rattle.std.proofs.Common.{◌≡◌, ℕ, List, ◌∷◌, [], true, false, refl}
 use Rattle.std.specs.Prelude.{codes}
 use Rattle.portal_base.specs.declared.json_value.Json.{Json}
@@ -14,7 +14,7 @@ none = refl
 ascending : keys_ascend (under (codes "id") ∷ under (codes "name") ∷ under (codes "title") ∷ []) ≡ true
 ascending = refl
 
--- A key comes before those that it begins.
+-- A key comes before those of which it is a prefix.
 beginning : keys_ascend (under (codes "name") ∷ under (codes "names") ∷ []) ≡ true
 beginning = refl
 

@@ -1,4 +1,4 @@
--- What the test of the keys of a dictionary says of its data.
+-- The test of the keys of a dictionary, as a property of its data.
 use Rattle.std.proofs.Common.{◌≡◌, ℕ, List, [], ◌∷◌, true, refl}
 use Rattle.std.proofs.lemmas.Bool.{and_parts}
 use Rattle.std.specs.Ordering.{nat_cmp}

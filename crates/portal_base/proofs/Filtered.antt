@@ -1,4 +1,4 @@
--- What is kept of a list in order by a test, and how it changes with the list.
+-- Filtered ordered lists, and how they change with the list.
 use Rattle.std.proofs.Common.{◌≡◌, Bool, true, false, not, cond, ◌||◌, ◌&&◌, List, [], ◌∷◌, Option, Some, None, refl}
 use Rattle.std.proofs.Common.{ap, ◌∙◌, sym, inl, inr}
 use Rattle.std.specs.Prelude.{filter, is_some}
@@ -12,9 +12,9 @@ use Rattle.portal_base.specs.Ordered.{IsAscending, IsBelowAll, inserted, found, 
 use Rattle.portal_base.proofs.Removed.{is_eq_true, none_above}
 use Rattle.portal_base.proofs.Unique.{IsIn}
 
--- ---- what stands in it
+-- ---- members
 
--- what is kept was there and passed
+-- A kept item is a member of the list and passes the test.
 pub IsIn-filter : {X : Type 0} (p : X → Bool) (z : X) (xs : List X) → IsIn z (filter p xs) → IsIn z xs × (p z ≡ true)
 IsIn-filter p z [] m = absurd m
 IsIn-filter {X} p z (x ∷ xs) m = by (p x) refl m (IsIn-filter p z xs)
@@ -25,7 +25,7 @@ IsIn-filter {X} p z (x ∷ xs) m = by (p x) refl m (IsIn-filter p z xs)
     by true is (inr n) rest = (inr (rest n).0, (rest n).1)
     by false is n rest = (inr (rest n).0, (rest n).1)
 
--- what was there and passes is kept
+-- A member of the list that passes the test is kept.
 pub filter-IsIn : {X : Type 0} (p : X → Bool) (z : X) (xs : List X) → IsIn z xs → p z ≡ true → IsIn z (filter p xs)
 filter-IsIn p z [] m passes = absurd m
 filter-IsIn {X} p z (x ∷ xs) m passes = by (p x) refl m (λ n. filter-IsIn p z xs n passes)
@@ -37,14 +37,14 @@ filter-IsIn {X} p z (x ∷ xs) m passes = by (p x) refl m (λ n. filter-IsIn p z
     by false is (inl e) rest = let not : p z ≡ false = ap p e ∙ is in absurd (cc)
     by false is (inr n) rest = rest n
 
--- A test that all pass keeps all.
+-- If all items pass the test, all are kept.
 pub filter-all : {X : Type 0} (p : X → Bool) (xs : List X) → ((x : X) → IsIn x xs → p x ≡ true) → filter p xs ≡ xs
 filter-all p [] all = refl
 filter-all {X} p (x ∷ xs) all =
     ap (λ b. cond b (x ∷ filter p xs) (filter p xs)) (all x (inl refl))
     ∙ ap (λ l. x ∷ l) (filter-all p xs (λ z m. all z (inr m)))
 
--- A test that all pass is passed by each.
+-- If all items pass the test, each member passes it.
 pub list_all-IsIn : {X : Type 0} (p : X → Bool) (xs : List X) → list_all p xs ≡ true → (x : X) → IsIn x xs → p x ≡ true
 list_all-IsIn p [] all x m = absurd m
 list_all-IsIn {X} p (y ∷ ys) all x m = by (p y) refl all m (λ rest n. list_all-IsIn p ys rest x n)
@@ -61,7 +61,7 @@ IsIn-list_all p [] each = refl
 IsIn-list_all p (y ∷ ys) each =
     ap (λ b. b && list_all p ys) (each y (inl refl)) ∙ IsIn-list_all p ys (λ x m. each x (inr m))
 
--- Two tests keep the same in either order.
+-- Two filters commute.
 pub filter-filter : {X : Type 0} (p q : X → Bool) (xs : List X) → filter p (filter q xs) ≡ filter q (filter p xs)
 filter-filter p q [] = refl
 filter-filter {X} p q (x ∷ xs) = by (p x) refl (q x) refl (filter-filter p q xs)
@@ -78,7 +78,7 @@ filter-filter {X} p q (x ∷ xs) = by (p x) refl (q x) refl (filter-filter p q x
         ap (λ a. cond a (x ∷ filter p (filter q xs)) (filter p (filter q xs))) p_is ∙ rest
     by false p_is false q_is rest = rest
 
--- Of what is left out nothing passes.
+-- No item passes both a test and its negation.
 pub list_any-left_out : {X : Type 0} (test : X → Bool) (xs : List X)
     → list_any test (filter (λ x. not (test x)) xs) ≡ false
 list_any-left_out test [] = refl
@@ -90,29 +90,29 @@ list_any-left_out {X} test (x ∷ xs) =
     by rest true is none = none
     by rest false is none = ap (λ b. b || list_any test rest) is ∙ none
 
--- ---- what is found in it
+-- ---- look-ups
 
--- Where no item passes, none is found.
+-- If no item passes, none is found.
 pub find-list_any : {X : Type 0} (test : X → Bool) (xs : List X) → list_any test xs ≡ false → find test xs ≡ None
 find-list_any test [] h = refl
 find-list_any {X} test (x ∷ xs) h =
     let P : Bool → Type 0 = λ b. (b || list_any test xs) ≡ false → cond b (Some x) (find test xs) ≡ None in
     (elim (test x) as P [ true ↦ λ e. absurd (cc) | false ↦ λ e. find-list_any test xs e ]) h
 
--- Two tests that agree find alike.
+-- Two tests that agree find the same item.
 pub find-same : {X : Type 0} (p q : X → Bool) → ((x : X) → p x ≡ q x) → (xs : List X) → find p xs ≡ find q xs
 find-same p q e [] = refl
 find-same p q e (x ∷ xs) =
     ap (λ b. cond b (Some x) (find p xs)) (e x) ∙ ap (λ o. cond (q x) (Some x) o) (find-same p q e xs)
 
--- Something is found just where something passes.
+-- An item is found exactly if one passes.
 pub is_some-find_any : {X : Type 0} (test : X → Bool) (xs : List X) → is_some (find test xs) ≡ list_any test xs
 is_some-find_any test [] = refl
 is_some-find_any {X} test (x ∷ xs) =
     let P : Bool → Type 0 = λ b. is_some (cond b (Some x) (find test xs)) ≡ (b || list_any test xs) in
     elim (test x) as P [ true ↦ refl | false ↦ is_some-find_any test xs ]
 
--- A test that passes nothing of what is left out finds what it found.
+-- If a test passes no item that the filter drops, it finds the same item in the filtered list.
 pub find-filter : {X : Type 0} (test p : X → Bool) (xs : List X) → ((x : X) → p x ≡ false → test x ≡ false)
     → find test (filter p xs) ≡ find test xs
 find-filter test p [] apart = refl
@@ -123,11 +123,11 @@ find-filter {X} test p (x ∷ xs) apart = by (p x) refl (find-filter test p xs a
     by true is rest = ap (λ o. cond (test x) (Some x) o) rest
     by false is rest = rest ∙ sym (ap (λ b. cond b (Some x) (find test xs)) (apart x is))
 
--- x, where it passes
+-- x, if it passes
 abbrev pub kept_item : {X : Type 0} → (X → Bool) → X → Option X
 kept_item p x = cond (p x) (Some x) None
 
--- What is found at a key of a list in order is found in what is kept of it, where it is kept.
+-- The item found at a key of an ascending list is found in the filtered list if it is kept.
 pub found-filter : {X : Type 0} (cmp : X → X → Ordering) (o : IsTotalOrder cmp) (at : X → Ordering)
     (key : IsKey cmp at) (p : X → Bool) (xs : List X) → IsAscending cmp xs
     → found at (filter p xs) ≡ option_and_then (kept_item p) (found at xs)
@@ -149,7 +149,7 @@ found-filter {X} cmp o at key p (x ∷ xs) up =
     by false other true keeps rest = ap (λ b. cond b (Some x) (found at (filter p xs))) other ∙ rest
     by false other false keeps rest = rest
 
--- ---- its order
+-- ---- order
 
 pub IsBelowAll-filter : {X : Type 0} (cmp : X → X → Ordering) (p : X → Bool) (a : X) (xs : List X)
     → IsBelowAll cmp a xs → IsBelowAll cmp a (filter p xs)
@@ -171,7 +171,7 @@ IsAscending-filter {X} cmp p (x ∷ xs) up =
       | false ↦ IsAscending-filter cmp p xs up.1
     ]
 
--- ---- its change by an insertion
+-- ---- insertions
 
 not_below : {X : Type 0} (cmp : X → X → Ordering) (o : IsTotalOrder cmp) (x y z : X) → cmp y z ≡ Less
     → is_lt (cmp y x) ≡ false → is_lt (cmp z x) ≡ false
@@ -183,7 +183,7 @@ not_below cmp o x y z below first =
       | Greater ↦ λ e. refl
     ]) refl
 
--- what isn't above the first item goes before all that were kept
+-- An item that is not above the first one is inserted before all kept items.
 inserted-front : {X : Type 0} (cmp : X → X → Ordering) (o : IsTotalOrder cmp) (q : X → Bool) (x y : X) (ys : List X)
     → IsBelowAll cmp y ys → is_lt (cmp y x) ≡ false → inserted cmp x (filter q ys) ≡ x ∷ filter q ys
 inserted-front cmp o q x y [] below first = refl
@@ -195,12 +195,12 @@ inserted-front {X} cmp o q x y (z ∷ zs) below first =
     by rest true second front = ap (λ b. cond b (z ∷ inserted cmp x rest) (x ∷ z ∷ rest)) second
     by rest false second front = front
 
--- an item that is kept or left out, in front of the same item
+-- an item that is kept or dropped, before the same list
 in_front : {X : Type 0} (y : X) (us vs : List X) (b : Bool) → y ∷ cond b us vs ≡ cond b (y ∷ us) (y ∷ vs)
 in_front y us vs true = refl
 in_front y us vs false = refl
 
--- Of a list in order with one item more those are kept that were kept, with the item in order where it is kept.
+-- A filtered insertion: the item is inserted into the filtered list if it passes.
 pub filter-inserted : {X : Type 0} (cmp : X → X → Ordering) (o : IsTotalOrder cmp) (q : X → Bool) (x : X)
     (xs : List X) → IsAscending cmp xs
     → filter q (inserted cmp x xs) ≡ cond (q x) (inserted cmp x (filter q xs)) (filter q xs)
@@ -208,7 +208,7 @@ filter-inserted cmp o q x [] up = refl
 filter-inserted {X} cmp o q x (y ∷ ys) up =
     by (is_lt (cmp y x)) refl (q y) refl (filter-inserted cmp o q x ys up.1) (inserted-front cmp o q x y ys up.0)
   where
-    -- the insertion in front of the first item or behind it
+    -- the insertion before the first item or after it
     turned : (b : Bool) → is_lt (cmp y x) ≡ b
         → cond b (y ∷ inserted cmp x (filter q ys)) (x ∷ y ∷ filter q ys) ≡ inserted cmp x (y ∷ filter q ys)
     turned b is = sym (ap (λ c. cond c (y ∷ inserted cmp x (filter q ys)) (x ∷ y ∷ filter q ys)) is)

@@ -1,4 +1,4 @@
--- Ids of numbers.
+-- Examples of ids.
 use Rattle.std.proofs.Common.{◌≡◌, refl}
 use Rattle.std.specs.Prelude.{codes}
 use Rattle.uuid.proofs.OnLiterals.{uuid_on_literals}

@@ -39,7 +39,7 @@ half xs k = by (k % 2 == 0)
     by true = omega arith
     by false = omega arith
 
--- what an id has at a place
+-- the characters of an id at a position
 abbrev id_character : List ℕ → ℕ → ℕ
 id_character xs k = if is_hyphen_place k then hyphen else hex_digit lower (nibble xs (digit_place k))
 
@@ -52,11 +52,11 @@ fits xs k = by (is_hyphen_place k)
     by true = refl
     by false = hexadecimal (nibble xs (digit_place k)) (half xs (digit_place k))
 
--- ---- places
+-- ---- positions
 
--- each character of the texts is as in an id, from this place on
+-- each character of the text is as in an id, from this position on
 abbrev all_fit : ℕ → List ℕ → Bool
-all_fit place text = list_all (λ p. is_id_character p.0 p.1) (enumerate_from place text)
+all_fit position text = list_all (λ p. is_id_character p.0 p.1) (enumerate_from position text)
 
 and_true : (a : Bool) → (a && true) ≡ a
 and_true true = refl
@@ -72,16 +72,16 @@ nothing_more n = omega arith
 one_more : (n m : ℕ) → n + 1 + m ≡ n + suc m
 one_more n m = omega arith
 
--- one character more at the end
-all_fit-end : (place : ℕ) (text : List ℕ) (c : ℕ)
-    → all_fit place (text ++ c ∷ []) ≡ (all_fit place text && is_id_character (place + length text) c)
-all_fit-end place [] c =
-    and_true (is_id_character place c) ∙ ap (λ (n : ℕ). is_id_character n c) (nothing_more place)
-all_fit-end place (x ∷ xs) c =
-    ap (λ b. is_id_character place x && b)
-    (all_fit-end (place + 1) xs c
-    ∙ ap (λ (n : ℕ). all_fit (place + 1) xs && is_id_character n c) (one_more place (length xs)))
-    ∙ and_all (is_id_character place x) (all_fit (place + 1) xs) (is_id_character (place + length (x ∷ xs)) c)
+-- one more character at the end
+all_fit-end : (position : ℕ) (text : List ℕ) (c : ℕ)
+    → all_fit position (text ++ c ∷ []) ≡ (all_fit position text && is_id_character (position + length text) c)
+all_fit-end position [] c =
+    and_true (is_id_character position c) ∙ ap (λ (n : ℕ). is_id_character n c) (nothing_more position)
+all_fit-end position (x ∷ xs) c =
+    ap (λ b. is_id_character position x && b)
+    (all_fit-end (position + 1) xs c
+    ∙ ap (λ (n : ℕ). all_fit (position + 1) xs && is_id_character n c) (one_more position (length xs)))
+    ∙ and_all (is_id_character position x) (all_fit (position + 1) xs) (is_id_character (position + length (x ∷ xs)) c)
 
 length-end : (xs : List ℕ) (c : ℕ) → length (xs ++ c ∷ []) ≡ length xs + 1
 length-end [] c = refl

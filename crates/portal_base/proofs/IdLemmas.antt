@@ -8,9 +8,9 @@ use Rattle.uuid.proofs.RoundTrips.{parses_hyphenated}
 use Rattle.uuid.proofs.OrderLemmas.{from_be_bytes-to_be_bytes_16}
 use Rattle.portal_base.specs.Id.{id_text}
 
-byte_at_bound : (place n : ℕ) → byte_at place n < 256
+byte_at_bound : (position n : ℕ) → byte_at position n < 256
 byte_at_bound zero n = omega arith
-byte_at_bound (suc place) n = omega arith
+byte_at_bound (suc position) n = omega arith
 
 -- Each byte is below 256.
 pub All-bytes_high_first : (count n : ℕ) → All (λ b. b < 256) (bytes_high_first count n)

@@ -1,4 +1,4 @@
--- What the insertion into an ascending list keeps and finds.
+-- Insertion into an ascending list: order and look-ups.
 use Rattle.std.proofs.Common.{◌≡◌, ℕ, suc, ◌+◌, Bool, true, false, cond, ◌||◌, List, [], ◌∷◌, Some, None, refl, ap}
 use Rattle.std.proofs.Common.{◌∙◌, arith}
 use Rattle.std.specs.Prelude.{insert, Result, Ok, Err, OnOk, is_ok}
@@ -9,7 +9,7 @@ use Rattle.std.specs.Cmp.{IsTotalOrder}
 use Rattle.std.specs.List.{prefix_len, list_any, find}
 use Rattle.portal_base.specs.Ordered.{IsBelowAll, IsAscending, inserted, ascending}
 
--- The insertion is an `insert` behind the items that are below.
+-- The insertion is std's `insert` after the items that are below.
 pub insert-prefix_len : {X : Type 0} (cmp : X → X → Ordering) (x : X) (xs : List X)
     → insert xs (prefix_len (λ y. is_lt (cmp y x)) xs) x ≡ inserted cmp x xs
 insert-prefix_len cmp x [] = refl
@@ -25,14 +25,14 @@ insert-prefix_len {X} cmp x (y ∷ ys) =
     add_one_left : (n : ℕ) → 1 + n ≡ suc n
     add_one_left n = omega arith
 
--- The same of what `insert` gives, where it had room.
+-- The same for the result of `insert`.
 pub inserted_if_ok : {X E : Type 0} (cmp : X → X → Ordering) (x : X) (xs ys : List X) (r : Result Unit E) (i : ℕ)
     → i ≡ prefix_len (λ y. is_lt (cmp y x)) xs → ys ≡ cond (is_ok r) (insert xs i x) xs
     → OnOk r (ys ≡ inserted cmp x xs)
-inserted_if_ok cmp x xs ys (Ok u) i place e = e ∙ ap (λ n. insert xs n x) place ∙ insert-prefix_len cmp x xs
-inserted_if_ok cmp x xs ys (Err u) i place e = tt
+inserted_if_ok cmp x xs ys (Ok u) i index e = e ∙ ap (λ n. insert xs n x) index ∙ insert-prefix_len cmp x xs
+inserted_if_ok cmp x xs ys (Err u) i index e = tt
 
--- A test finds something in the list with x just where it finds x or something in the list.
+-- A test passes an item of the list with x exactly if it passes x or an item of the list.
 pub list_any-inserted : {X : Type 0} (cmp : X → X → Ordering) (test : X → Bool) (x : X) (xs : List X)
     → list_any test (inserted cmp x xs) ≡ (test x || list_any test xs)
 list_any-inserted cmp test x [] = refl
@@ -50,12 +50,12 @@ list_any-inserted cmp test x (y ∷ ys) =
     exchange false true c = refl
     exchange false false c = refl
 
--- Neither of two holds.
+-- If an `||` is false both parts are.
 pub both_false : (a b : Bool) → (a || b) ≡ false → (a ≡ false) × (b ≡ false)
 both_false true b h = absurd (cc)
 both_false false b h = (refl, h)
 
--- What stands alone in its kind is found.
+-- The inserted item is found if no other item passes the test.
 pub find-inserted_found : {X : Type 0} (cmp : X → X → Ordering) (test : X → Bool) (x : X) (xs : List X)
     → test x ≡ true → list_any test xs ≡ false → find test (inserted cmp x xs) ≡ Some x
 find-inserted_found cmp test x [] t n = ap (λ b. cond b (Some x) None) t
@@ -68,7 +68,7 @@ find-inserted_found cmp test x (y ∷ ys) t n =
       | false ↦ ap (λ b. cond b (Some x) (find test (y ∷ ys))) t
     ]
 
--- What fails the test changes nothing that the test finds.
+-- An inserted item that fails the test does not change what is found.
 pub find-inserted_other : {X : Type 0} (cmp : X → X → Ordering) (test : X → Bool) (x : X) (xs : List X)
     → test x ≡ false → find test (inserted cmp x xs) ≡ find test xs
 find-inserted_other cmp test x [] f = ap (λ b. cond b (Some x) None) f
@@ -79,20 +79,20 @@ find-inserted_other cmp test x (y ∷ ys) f =
       | false ↦ ap (λ b. cond b (Some x) (find test (y ∷ ys))) f
     ]
 
--- Where nothing is found, no item passes.
+-- If nothing is found no item passes.
 pub list_any-find : {X : Type 0} (test : X → Bool) (xs : List X) → find test xs ≡ None → list_any test xs ≡ false
 list_any-find test [] h = refl
 list_any-find {X} test (x ∷ xs) h =
     let P : Bool → Type 0 = λ b. cond b (Some x) (find test xs) ≡ None → (b || list_any test xs) ≡ false in
     (elim (test x) as P [ true ↦ λ e. absurd (cc) | false ↦ λ e. list_any-find test xs e ]) h
 
--- Two tests that agree find alike.
+-- Two tests that agree give the same result.
 pub list_any-same : {X : Type 0} (p q : X → Bool) → ((x : X) → p x ≡ q x) → (xs : List X)
     → list_any p xs ≡ list_any q xs
 list_any-same p q e [] = refl
 list_any-same p q e (x ∷ xs) = ap (λ b. b || list_any p xs) (e x) ∙ ap (λ b. q x || b) (list_any-same p q e xs)
 
--- What is below the inserted and below all others is below all.
+-- An item below the inserted one and below all others is below all.
 pub IsBelowAll-inserted : {X : Type 0} (cmp : X → X → Ordering) (a x : X) (xs : List X) → cmp a x ≡ Less
     → IsBelowAll cmp a xs → IsBelowAll cmp a (inserted cmp x xs)
 IsBelowAll-inserted cmp a x [] h hs = (h, tt)
@@ -100,13 +100,13 @@ IsBelowAll-inserted cmp a x (y ∷ ys) h hs =
     let P : Bool → Type 0 = λ b. IsBelowAll cmp a (cond b (y ∷ inserted cmp x ys) (x ∷ y ∷ ys)) in
     elim (is_lt (cmp y x)) as P [ true ↦ (hs.0, IsBelowAll-inserted cmp a x ys h hs.1) | false ↦ (h, hs) ]
 
--- What is below an item is below all that the item is below.
+-- An item below x is below everything that x is below.
 pub IsBelowAll-trans : {X : Type 0} (cmp : X → X → Ordering) (o : IsTotalOrder cmp) (a x : X) (xs : List X)
     → cmp a x ≡ Less → IsBelowAll cmp x xs → IsBelowAll cmp a xs
 IsBelowAll-trans cmp o a x [] h hs = tt
 IsBelowAll-trans cmp o a x (y ∷ ys) h hs = (o.trans a x y h hs.0, IsBelowAll-trans cmp o a x ys h hs.1)
 
--- The insertion keeps the order, where nothing is like x.
+-- The insertion keeps the order if no item is equal to x.
 pub IsAscending-inserted : {X : Type 0} (cmp : X → X → Ordering) (o : IsTotalOrder cmp) (x : X) (xs : List X)
     → IsAscending cmp xs → list_any (λ y. is_eq (cmp y x)) xs ≡ false → IsAscending cmp (inserted cmp x xs)
 IsAscending-inserted cmp o x [] up apart = (tt, tt)
@@ -122,19 +122,19 @@ IsAscending-inserted {X} cmp o x (y ∷ ys) up apart =
           ((below, IsBelowAll-trans cmp o x y ys below up.0), up)
     ]) refl parts.0
 
--- A test finds something in order just where it does in any order.
+-- Sorting does not change whether an item passes a test.
 pub list_any-ascending : {X : Type 0} (cmp : X → X → Ordering) (test : X → Bool) (xs : List X)
     → list_any test (ascending cmp xs) ≡ list_any test xs
 list_any-ascending cmp test [] = refl
 list_any-ascending cmp test (x ∷ xs) =
     list_any-inserted cmp test x (ascending cmp xs) ∙ ap (λ b. test x || b) (list_any-ascending cmp test xs)
 
--- no item is like a later one
+-- no item is equal to a later one
 abbrev pub AreApart : {X : Type 0} → (X → X → Ordering) → List X → Type 0
 AreApart cmp [] = Unit {0}
 AreApart cmp (x ∷ xs) = (list_any (λ y. is_eq (cmp y x)) xs ≡ false) × AreApart cmp xs
 
--- Items of which no two are alike ascend once they are in order.
+-- If no two items are equal, the sorted items strictly ascend.
 pub IsAscending-ascending : {X : Type 0} (cmp : X → X → Ordering) (o : IsTotalOrder cmp) (xs : List X)
     → AreApart cmp xs → IsAscending cmp (ascending cmp xs)
 IsAscending-ascending cmp o [] apart = tt

@@ -44,7 +44,7 @@ number_of-number_text (negative (pos n)) whole h = absurd h
 number_of-number_text (negative (negsuc n)) whole h = number_of-negative n h
 number_of-number_text (float x) whole h = absurd (cc)
 
--- ---- members that are put one after another
+-- ---- members that are added one after another
 
 abbrev joined : Members → Members → Members
 joined no_members ms = ms
@@ -137,7 +137,7 @@ mutual
             ∙ rest.reads (put k d done) (put_precedes done k d ms before h.0) ∙ ap Some (put_last done k d ms before);
       }
 
--- the data of a whole text
+-- the data of a text without a rest
 abbrev whole : Option (grammar.Json × List Token) → Option Data
 whole o = option_and_then of_json (option_and_then (λ p. grammar.if_last p.0 p.1) o)
 

@@ -7,7 +7,7 @@ use Rattle.portal_base.specs.declared.json_value.Json.{Json}
 abbrev Entry : Type 0
 Entry = List ℕ × Json
 
--- the value of an entry that was found
+-- the value of the entry that was found
 abbrev pub value_of_found : Option Entry → Option Json
 value_of_found None = None
 value_of_found (Some e) = Some e.1

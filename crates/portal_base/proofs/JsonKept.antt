@@ -1,4 +1,4 @@
--- A value's data has no float, and stands for that value.
+-- A value's data has no float and is read as the value.
 use Rattle.std.proofs.Common.{◌≡◌, ℕ, ℤ, pos, negsuc, List, [], ◌∷◌, map, false, Some, refl, sym, ap, ◌∙◌, subst}
 use Rattle.serde_json.specs.Data.{Data}
 use Rattle.serde_json.specs.Find.{as_integer, of_integer, is_float}

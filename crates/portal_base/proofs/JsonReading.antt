@@ -1,4 +1,4 @@
--- What a text is read as.
+-- The reading of a JSON text.
 use Rattle.std.proofs.Common.{◌≡◌, ◌⊎◌, List, ℕ, Some, None, Result, Ok, Err, IfOk, IfErr, IsUtf8, inl, inr, refl}
 use Rattle.std.proofs.Common.{sym, ap, ◌∙◌}
 use Rattle.std.proofs.lemmas.Bool.{cond_both}

@@ -1,4 +1,4 @@
--- Orderly data is the data of the value that it stands for, and the entries of a `BTreeMap` are in order.
+-- Orderly data is the data of its value, and the entries of a `BTreeMap` are in order.
 use Rattle.std.proofs.Common.{◌≡◌, ◌≤◌, pos, negsuc, List, [], ◌∷◌, Option, Some, None, IfSome, Result, Ok, Err, IfOk}
 use Rattle.std.proofs.Common.{OnOk, option_map, option_and_then, String, Global, string_bytes, string_cmp, Less, refl}
 use Rattle.std.proofs.Common.{sym, ap, ap₂, ◌∙◌, subst, rules}

@@ -1,4 +1,4 @@
--- The conversions from data, a turn at a time.
+-- The conversions from data, one step at a time.
 use Rattle.std.proofs.Common.{◌≡◌, ℕ, List, [], ◌∷◌, ◌++◌, Option, Some, None, option_map, refl, sym, ap, append_assoc}
 use Rattle.serde_json.specs.Data.{Data, Members, member}
 use Rattle.portal_base.specs.Json.{json_of, entries_of}

@@ -1,4 +1,4 @@
--- Values that are of a kind and values that aren't, and what keys of a body give.
+-- Examples of values by their kinds, and of keys of a body.
 use Rattle.std.proofs.Common.{◌≡◌, [], ◌∷◌, List, ℕ, pos, negsuc, true, false, codes, refl, rules}
 use Rattle.std.specs.Prelude.{Some, None, Ok, Err}
 use Rattle.std.specs.Fmt.{digits}

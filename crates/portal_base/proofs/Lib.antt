@@ -1,7 +1,7 @@
 pub mod CalendarLemmas
 pub mod CivilLemmas
-mod FaultExamples
-pub mod FaultLemmas
+mod KeyErrorExamples
+pub mod KeyErrorLemmas
 pub mod Filtered
 pub mod FormLemmas
 mod IdExamples
@@ -24,7 +24,7 @@ mod NameExamples
 mod OutsideExamples
 pub mod OutsideLemmas
 mod OrderedExamples
-pub mod Placed
+pub mod Upserted
 pub mod ReadingBack
 pub mod ReadingLemmas
 mod JsonFirst

@@ -1,4 +1,4 @@
--- Texts of moments, and moments of texts.
+-- Examples of texts of moments, and of moments of texts.
 use Rattle.std.proofs.Common.{◌≡◌, refl, pos, negsuc, Some, None}
 use Rattle.std.specs.Prelude.{codes}
 use Rattle.portal_base.specs.Moment.{first_moment, last_moment}
@@ -31,7 +31,7 @@ last : moment_text last_moment ≡ codes "9999-12-31T23:59:59"
 unfolding moment_text count_off
 last = refl
 
--- Texts that are read, and texts that aren't.
+-- Texts that are read, and texts that are not.
 read_start : moment_reading (codes "1970-01-01T00:00:00") ≡ Some (pos 0)
 unfolding moment_reading days_from_civil day_count days_of_years days_of_months
 read_start = refl

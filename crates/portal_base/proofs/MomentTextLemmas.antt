@@ -1,4 +1,4 @@
--- The text of a moment's date and time of day is the one that is counted off.
+-- The text of a moment's date and time of day is the one that `moment_text` counts off.
 use Rattle.std.proofs.Common.{◌≡◌, ℕ, zero, suc, ◌+◌, ◌-◌, ◌*◌, ◌/◌, ◌%◌, ◌<◌, ◌≤◌, nat_lt, true, false, refl, sym}
 use Rattle.std.proofs.Common.{ap, ◌∙◌, arith, List, ◌++◌, ℤ, pos, ◌+ℤ◌, ◌-ℤ◌, ◌*ℤ◌, ◌≤ℤ◌, unsigned_abs}
 use Rattle.std.proofs.lemmas.Bool.Decides.{nat_tests}
@@ -20,12 +20,12 @@ use Rattle.portal_base.specs.Moment.{IsMoment, first_moment}
 use Rattle.portal_base.specs.MomentText.{IsMomentText, two_digits, four_digits, count_off, year_of_day, month_of_day}
 use Rattle.portal_base.specs.MomentText.{day_text, clock_text, calendar_seconds, moment_text}
 
--- The days of so many units from a first one on.
+-- the days of a number of units from a first one on
 unfoldable pub total : (ℕ → ℕ) → ℕ → ℕ → ℕ
 total days_in first zero = 0
 total days_in first (suc more) = days_in first + total days_in (suc first) more
 
--- Where the days fill so many units and leave a rest that lies in the next one, that one and the rest are counted.
+-- If the days fill `count` units and the rest is within the next one, the result is that unit and the rest.
 count_off-total : (days_in : ℕ → ℕ) (most first units rest days : ℕ) → units ≤ most → rest < days_in (first + units)
     → days ≡ total days_in first units + rest → count_off days_in most first days ≡ (first + units, rest)
 unfolding count_off total
@@ -46,7 +46,7 @@ count_off-total days_in (suc most) first (suc units) rest days h lt e =
     rw past (count_off-total days_in most (suc first) units rest (days - days_in first) (omega arith) (rw next lt)
     left ∙ ap (λ unit. (unit, rest)) next)
 
--- The days of so many years lie between their first days.
+-- The days of consecutive years are the difference of their first days.
 pub total-years : (first years : ℕ)
     → total (λ year. days_in_year (pos year)) first years + day_count (pos first) 1 1
     ≡ day_count (pos (first + years)) 1 1
@@ -61,7 +61,7 @@ total-years first (suc years) =
           (omega (arith, signed_arith)) (omega (arith, signed_arith)),
     )
 
--- The days of so many months are those that the calendar counts.
+-- The days of consecutive months are those of the calendar.
 pub total-months : (year : ℤ) (before months : ℕ)
     → total (days_in_month year) (suc before) months + days_of_months year before
     ≡ days_of_months year (before + months)
@@ -76,19 +76,19 @@ total-months year before (suc months) =
 pub day_count-year_zero : day_count (pos 0) 1 1 ≡ 3652425
 day_count-year_zero = day_count-early (pos 0) 9999 1 1 refl (omega arith) (omega arith) (omega arith)
 
--- The year of a date's day is its year, after which its place in the year is left.
+-- The year of a date's day is its year, and the rest is its day of the year.
 year_of_day-date : (n m d day : ℕ) → n ≤ 9999 → IsCivilDate (pos n) m d → day + 3652425 ≡ day_count (pos n) m d
     → year_of_day day ≡ (n, day_of_year (pos n) m d - 1)
 year_of_day-date n m d day h date e =
     let same : 0 + n ≡ n = omega arith in
-    let place = day_of_year_bound (pos n) m d date in
+    let bound = day_of_year_bound (pos n) m d date in
     let ordinal = day_count-day_of_year (pos n) m d date.2.0 in
     let years = total-years 0 n in
     count_off-total (λ year. days_in_year (pos year)) 9999 0 n (day_of_year (pos n) m d - 1) day h
     (rw same (omega (arith, date.2.0))) (omega (arith, rw same at years, day_count-year_zero))
     ∙ ap (λ year. (year, day_of_year (pos n) m d - 1)) same
 
--- The month of that place is the date's month, after which its place in the month is left.
+-- The month of a day of the year is the date's month, and the rest is its day of the month.
 month_of_day-date : (n m d : ℕ) → IsCivilDate (pos n) m d → month_of_day n (day_of_year (pos n) m d - 1) ≡ (m, d - 1)
 month_of_day-date n m d date =
     let same : 1 + (m - 1) ≡ m = omega (arith, date.1.0) in
@@ -160,7 +160,7 @@ calendar_seconds-parts at seconds h e =
       one_part (seconds -ℤ first_moment),
     )
 
--- The text of a moment's date and time of day is the one that is counted off.
+-- The text of a moment's date and time of day is the one that `moment_text` counts off.
 iso_datetime_text-moment : (at : DateTime) (seconds : ℤ) → IsMoment seconds → civil_seconds at ≡ seconds
     → at.time.subsec_nanosecond ≡ 0 → iso_datetime_text at ≡ moment_text seconds
 unfolding moment_text
@@ -183,7 +183,7 @@ iso_datetime_text-moment at seconds h e whole =
     ∙ ap (λ text. (four_digits n ++ codes "-" ++ two_digits at.date.month ++ codes "-" ++ two_digits at.date.day)
     ++ codes "T" ++ text) of_clock)
 
--- The text of a moment is the one that is counted off.
+-- The text of a moment is `moment_text`.
 pub IsMomentText-moment_text : (seconds : ℤ) (text : List ℕ) → IsMoment seconds → IsMomentText seconds text
     → text ≡ moment_text seconds
 IsMomentText-moment_text seconds text h is = is.3 ∙ iso_datetime_text-moment is.0 seconds h is.1 is.2

@@ -1,4 +1,4 @@
--- Texts that are names, of at most a hundred characters or of some bound, and the faults of others.
+-- Examples of names and of texts with faults.
 use Rattle.std.proofs.Common.{◌≡◌, ◌∷◌, [], Some, None, true, false, refl}
 use Rattle.std.specs.Prelude.{codes}
 use Rattle.std.specs.Str.{chars}
@@ -13,7 +13,7 @@ two_letters : name_fault (codes "ab") 100 ≡ None
 unfolding chars
 two_letters = refl
 
--- One character of two bytes: é.
+-- One character of two bytes, é.
 one_character : name_fault (195 ∷ 169 ∷ []) 100 ≡ Some Length
 unfolding chars
 one_character = refl

@@ -1,8 +1,8 @@
--- Numbers in order: what is inserted, found and removed.
+-- Examples of ordered numbers: insertions, look-ups and removals.
 use Rattle.std.proofs.Common.{◌≡◌, ℕ, true, false, List, [], ◌∷◌, Some, None, refl}
 use Rattle.std.specs.declared.cmp.Ordering.{Ordering}
 use Rattle.std.specs.Ordering.{nat_cmp}
-use Rattle.portal_base.specs.Ordered.{inserted, ascending, are_apart, found, removed, dropped, placed}
+use Rattle.portal_base.specs.Ordered.{inserted, ascending, are_apart, found, removed, dropped, upserted}
 
 abbrev some_numbers : List ℕ
 some_numbers = 2 ∷ 5 ∷ 7 ∷ []
@@ -13,8 +13,8 @@ in_front = refl
 between : inserted nat_cmp 6 some_numbers ≡ 2 ∷ 5 ∷ 6 ∷ 7 ∷ []
 between = refl
 
-behind : inserted nat_cmp 9 some_numbers ≡ 2 ∷ 5 ∷ 7 ∷ 9 ∷ []
-behind = refl
+inserted_last : inserted nat_cmp 9 some_numbers ≡ 2 ∷ 5 ∷ 7 ∷ 9 ∷ []
+inserted_last = refl
 
 into_nothing : inserted nat_cmp 3 [] ≡ 3 ∷ []
 into_nothing = refl
@@ -25,7 +25,7 @@ in_order = refl
 apart : are_apart nat_cmp (7 ∷ 2 ∷ 5 ∷ []) ≡ true
 apart = refl
 
--- Two that are alike are told also where others stand between them.
+-- Equal items are noticed also if others are between them.
 not_apart : are_apart nat_cmp (7 ∷ 2 ∷ 7 ∷ []) ≡ false
 not_apart = refl
 
@@ -47,16 +47,16 @@ dropped_there = refl
 none_dropped : dropped (λ x. nat_cmp x 6) some_numbers ≡ some_numbers
 none_dropped = refl
 
--- All at the key go.
+-- All items with the key are dropped.
 both_dropped : dropped (λ x. nat_cmp x 5) (5 ∷ 2 ∷ 5 ∷ []) ≡ 2 ∷ []
 both_dropped = refl
 
-placed_between : placed nat_cmp 6 some_numbers ≡ 2 ∷ 5 ∷ 6 ∷ 7 ∷ []
-placed_between = refl
+upserted_between : upserted nat_cmp 6 some_numbers ≡ 2 ∷ 5 ∷ 6 ∷ 7 ∷ []
+upserted_between = refl
 
 -- the order of pairs by their first number
 abbrev by_first : ℕ × ℕ → ℕ × ℕ → Ordering
 by_first x y = nat_cmp x.0 y.0
 
-placed_in_place : placed by_first (5, 1) ((2, 0) ∷ (5, 0) ∷ (7, 0) ∷ []) ≡ (2, 0) ∷ (5, 1) ∷ (7, 0) ∷ []
-placed_in_place = refl
+upserted_over_equal : upserted by_first (5, 1) ((2, 0) ∷ (5, 0) ∷ (7, 0) ∷ []) ≡ (2, 0) ∷ (5, 1) ∷ (7, 0) ∷ []
+upserted_over_equal = refl

@@ -15,7 +15,8 @@ use Rattle.jiff_core.proofs.CalendarLemmas.{days_in_month_bounds, days_of_months
 use Rattle.jiff_core.proofs.DateLemmas.{civil}
 use Rattle.jiff_core.proofs.SignedLemmas.{signed_arith, one_part}
 use Rattle.portal_base.specs.Moment.{IsMoment, first_moment}
-use Rattle.portal_base.specs.MomentReading.{fits_form, fits_place, moment_form, number_at, year_in, month_in, day_in}
+use Rattle.portal_base.specs.MomentReading.{fits_form, fits_character, moment_form, number_at}
+use Rattle.portal_base.specs.MomentReading.{year_in, month_in, day_in}
 use Rattle.portal_base.specs.MomentReading.{hour_in, minute_in, second_in, has_day, has_time, names_moment}
 use Rattle.portal_base.specs.MomentReading.{seconds_in, moment_reading}
 use Rattle.portal_base.specs.MomentText.{IsMomentText, calendar_seconds, two_digits, moment_text}
@@ -27,15 +28,15 @@ use Rattle.portal_base.proofs.ReadingLemmas.{has_day-is, le-pos, pos-le, moment_
 use Rattle.portal_base.proofs.ReadingLemmas.{moment_reading-other_form, moment_reading-unnamed, names_moment-is}
 use Rattle.portal_base.proofs.ReadingLemmas.{number_at-bound, year_in-bound, IsMoment-named}
 
--- Two digits fit their places.
+-- Two digits fit a form of two zeros.
 fits_form-digits : (n : ℕ) (form rest : List ℕ) → n < 100 → fits_form form rest ≡ true
     → fits_form (48 ∷ 48 ∷ form) (two_digits n ++ rest) ≡ true
 fits_form-digits n form rest h fits =
-    and_from (fits_place 48 (48 + n / 10)) (fits_place 48 (48 + n % 10) && fits_form form rest)
+    and_from (fits_character 48 (48 + n / 10)) (fits_character 48 (48 + n % 10) && fits_form form rest)
     (digit (n / 10) (omega arith))
-    (and_from (fits_place 48 (48 + n % 10)) (fits_form form rest) (digit (n % 10) (omega arith)) fits)
+    (and_from (fits_character 48 (48 + n % 10)) (fits_form form rest) (digit (n % 10) (omega arith)) fits)
   where
-    digit : (x : ℕ) → x < 10 → fits_place 48 (48 + x) ≡ true
+    digit : (x : ℕ) → x < 10 → fits_character 48 (48 + x) ≡ true
     digit x lt = and_from (nat_le 48 (48 + x)) (nat_le (48 + x) 57) (le-leb 48 (48 + x) (omega arith))
         (le-leb (48 + x) 57 (omega arith))
 
@@ -58,7 +59,7 @@ fits_form-parts y m d h n s year month day hour minute second =
 digits_back : (n : ℕ) → n < 100 → (48 + n / 10 - 48) * 10 + (48 + n % 10 - 48) ≡ n
 digits_back n h = omega arith
 
--- What it names are that day and time of day.
+-- It names that day and time of day.
 year_in-parts : (y m d h n s : ℕ) → y < 10000 → year_in (parts_text y m d h n s) ≡ y
 year_in-parts y m d h n s lt = omega (arith, digits_back (y / 100) (omega arith), digits_back (y % 100) (omega arith))
 
@@ -183,13 +184,14 @@ IsMomentText-parts y m d h n s year month day hour minute second =
 
 -- The characters of a text, one by one.
 listed : ℕ → ℕ → List ℕ → List ℕ
-listed zero place text = []
-listed (suc more) place text = get_or text place 0 ∷ listed more (suc place) text
+listed zero position text = []
+listed (suc more) position text = get_or text position 0 ∷ listed more (suc position) text
 
-listed-shift : (more place c : ℕ) (text : List ℕ) → listed more (suc place) (c ∷ text) ≡ listed more place text
+listed-shift : (more position c : ℕ) (text : List ℕ) → listed more (suc position) (c ∷ text) ≡ listed more position text
 unfolding listed
-listed-shift zero place c text = refl
-listed-shift (suc more) place c text = ap (λ xs. get_or text place 0 ∷ xs) (listed-shift more (suc place) c text)
+listed-shift zero position c text = refl
+listed-shift (suc more) position c text =
+    ap (λ xs. get_or text position 0 ∷ xs) (listed-shift more (suc position) c text)
 
 listed-all : (text : List ℕ) → listed (length text) 0 text ≡ text
 unfolding listed
@@ -265,23 +267,23 @@ reading-only seconds text e =
     by_form (inl t) = by_name t (cases_Bool (names_moment text))
     by_form (inr t) = absurd (cc (moment_reading-other_form text t))
 
--- Days that lie within so many units lie in one of them.
-in_unit : (days_in : ℕ → ℕ) (most first days : ℕ) → days < total days_in first (suc most)
-    → (units : ℕ) × (units ≤ most)
+-- A day within consecutive units is in one of them.
+in_unit : (days_in : ℕ → ℕ) (limit first days : ℕ) → days < total days_in first (suc limit)
+    → (units : ℕ) × (units ≤ limit)
     × ((rest : ℕ) × (rest < days_in (first + units)) × (days ≡ total days_in first units + rest))
 unfolding total
 in_unit days_in zero first days h =
     let none : first + 0 ≡ first = omega arith in
     (0, omega arith, (days, rw none (omega arith), omega arith))
-in_unit days_in (suc most) first days h =
-    step (cases_lt days (days_in first)) (in_unit days_in most (suc first) (days - days_in first))
+in_unit days_in (suc limit) first days h =
+    step (cases_lt days (days_in first)) (in_unit days_in limit (suc first) (days - days_in first))
   where
     step : (days < days_in first) ⊎ (days_in first ≤ days)
-        → (days - days_in first < total days_in (suc first) (suc most)
-        → (units : ℕ) × (units ≤ most)
+        → (days - days_in first < total days_in (suc first) (suc limit)
+        → (units : ℕ) × (units ≤ limit)
         × ((rest : ℕ) × (rest < days_in (suc first + units))
         × (days - days_in first ≡ total days_in (suc first) units + rest)))
-        → (units : ℕ) × (units ≤ suc most)
+        → (units : ℕ) × (units ≤ suc limit)
         × ((rest : ℕ) × (rest < days_in (first + units)) × (days ≡ total days_in first units + rest))
     step (inl lt) next = let none : first + 0 ≡ first = omega arith in (0, omega arith, (days, rw none lt, omega arith))
     step (inr le) next =
@@ -314,13 +316,13 @@ date_of day h =
     let before : 0 + months.0 ≡ months.0 = omega arith in
     let before_month = rw before at (total-months (pos y) 0 months.0) in
     let back : m - 1 ≡ months.0 = omega arith in
-    let place : day_of_year (pos y) m d ≡ rest + 1 =
+    let position : day_of_year (pos y) m d ≡ rest + 1 =
     rw back (omega (arith, before_month, days_of_months-zero (pos y), months.2.2)) in
     let date : day + 3652425 ≡ day_count (pos y) m d =
     omega (
       arith,
       day_count-day_of_year (pos y) m d (omega arith),
-      place,
+      position,
       before_year,
       day_count-year_zero,
       years.2.2,

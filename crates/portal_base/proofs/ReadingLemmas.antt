@@ -1,4 +1,4 @@
--- The day and time of day that a text names, and the second of them.
+-- The day and the time of day of a text, and its seconds.
 use Rattle.std.proofs.Common.{◌≡◌, ℕ, ◌+◌, ◌*◌, ◌≤◌, true, false, ◌&&◌, ◌↔◌, nat_lt, nat_le, cond, refl, ap}
 use Rattle.std.proofs.Common.{arith, List, get_or, ℤ, pos, negsuc, ◌+ℤ◌, ◌*ℤ◌, ◌≤ℤ◌, Some, None}
 use borrow.Author.Differences.{up, down}
@@ -16,11 +16,11 @@ use Rattle.portal_base.proofs.FormLemmas.{fits_form-digit}
 use Rattle.portal_base.proofs.MomentTextLemmas.{day_count-year_zero}
 
 -- Two digits make a number below 100.
-pub number_at-bound : (text : List ℕ) (place : ℕ) → fits_form moment_form text ≡ true
-    → get_or moment_form place 0 ≡ 48 → get_or moment_form (place + 1) 0 ≡ 48 → number_at place text ≤ 99
-number_at-bound text place h tens units =
-    let first = fits_form-digit moment_form text place h tens in
-    let second = fits_form-digit moment_form text (place + 1) h units in
+pub number_at-bound : (text : List ℕ) (position : ℕ) → fits_form moment_form text ≡ true
+    → get_or moment_form position 0 ≡ 48 → get_or moment_form (position + 1) 0 ≡ 48 → number_at position text ≤ 99
+number_at-bound text position h tens units =
+    let first = fits_form-digit moment_form text position h tens in
+    let second = fits_form-digit moment_form text (position + 1) h units in
     omega (arith, first.2, second.2)
 
 pub year_in-bound : (text : List ℕ) → fits_form moment_form text ≡ true → year_in text ≤ 9999
@@ -32,7 +32,7 @@ pos-le a b h = omega (arith, signed_arith)
 pub le-pos : (a b : ℕ) → pos a ≤ℤ pos b → a ≤ b
 le-pos a b h = omega (arith, signed_arith)
 
--- The tests of the calendar and the clock, as the library states them.
+-- The tests of the calendar and the clock agree with jiff's.
 day_within : (m d n : ℕ)
     → ((nat_le 1 m && nat_le m 12 && nat_le 1 d && nat_le d n) ≡ true) ↔
     (IsBetween (pos 1) (pos 12) (pos m) × IsBetween (pos 1) (pos n) (pos d))
@@ -74,7 +74,7 @@ has_time-is h m s = (
       (lt-ltb m 60 (omega (arith, le-pos m 59 time.1.1)))) (lt-ltb s 60 (omega (arith, le-pos s 59 time.2.1))),
 )
 
--- A text that names a moment names a day and time of day that the library has, and the other way round.
+-- A text names a moment exactly if jiff has its day and its time of day.
 pub names_moment-is : (text : List ℕ) → fits_form moment_form text ≡ true
     → (names_moment text ≡ true) ↔
     (IsDate (pos (year_in text)) (pos (month_in text)) (pos (day_in text))
@@ -86,7 +86,7 @@ names_moment-is text h =
     (has_time (hour_in text) (minute_in text) (second_in text)) in
     (λ t. (day.0 (both t).0, time.0 (both t).1), λ k. and_from _ _ (day.1 k.0) (time.1 k.1))
 
--- A text of another form, or one that names no day and time of day, is read as none.
+-- A text of another form, or whose day or time of day does not exist, is not read.
 pub moment_reading-other_form : (text : List ℕ) → fits_form moment_form text ≡ false → moment_reading text ≡ None
 unfolding moment_reading
 moment_reading-other_form text h = ap (λ b. cond (b && names_moment text) (Some (seconds_in text)) None) h
@@ -102,7 +102,7 @@ unfolding moment_reading
 moment_reading-named text h t =
     ap (λ b. cond b (Some (seconds_in text)) None) (and_from (fits_form moment_form text) (names_moment text) h t)
 
--- The days of the calendar from the year 0000 on, counted from the year -10000, begin with this one.
+-- The first day of the year 0000, counted from the year -10000.
 pub from_year_zero : (y m d : ℕ) → 1 ≤ d → 3652425 ≤ day_count (pos y) m d
 from_year_zero y m d first =
     let before : pos 0 ≡ negsuc 0 +ℤ pos 1 = refl in
@@ -118,7 +118,7 @@ from_year_zero y m d first =
       day_count-year_zero,
     )
 
--- What a text names is a moment.
+-- The seconds of a text that names a moment are in range.
 pub IsMoment-named : (text : List ℕ) → fits_form moment_form text ≡ true → names_moment text ≡ true
     → IsMoment (seconds_in text)
 IsMoment-named text h t =

@@ -1,4 +1,4 @@
--- A sort of items of which no two are alike gives the ascending list of them.
+-- A sort of distinct items gives their ascending list.
 use Rattle.std.proofs.Common.{◌≡◌, ℕ, suc, get_or, ◌+◌, ◌<◌, ◌≤◌, length, Bool, true, false, cond, ◌||◌, List, [], ◌∷◌}
 use Rattle.std.proofs.Common.{refl, sym, ap, ◌∙◌, arith}
 use Rattle.std.specs.declared.cmp.Ordering.{Ordering}
@@ -16,7 +16,7 @@ use Rattle.portal_base.proofs.Inserted.{list_any-same, both_false, AreApart, IsA
 use Rattle.portal_base.proofs.Removed.{is_eq_true}
 use Rattle.portal_base.proofs.Unique.{IsIn-Contains, Contains-IsIn, unique, IsIn-ascending, ascending-IsIn}
 
--- how many items are like z
+-- the number of items equal to z
 abbrev pub count_like : {X : Type 0} → (X → X → Ordering) → X → List X → ℕ
 count_like cmp z xs = sum_by (λ y. cond (is_eq (cmp y z)) 1 0) xs
 
@@ -24,7 +24,7 @@ count_like-cons : {X : Type 0} (cmp : X → X → Ordering) (z x : X) (xs : List
     → count_like cmp z (x ∷ xs) ≡ cond (is_eq (cmp x z)) 1 0 + count_like cmp z xs
 count_like-cons cmp z x xs = sum_by-cons (λ y. cond (is_eq (cmp y z)) 1 0) x xs
 
--- Where no item is like z, none is counted.
+-- If no item is equal to z, the number is 0.
 pub count_none : {X : Type 0} (cmp : X → X → Ordering) (z : X) (xs : List X)
     → list_any (λ y. is_eq (cmp y z)) xs ≡ false → count_like cmp z xs ≡ 0
 count_none cmp z [] n = refl
@@ -44,7 +44,7 @@ none_counted {X} cmp z (x ∷ xs) n =
       | false ↦ λ e. none_counted cmp z xs (omega arith)
     ]) (sym (count_like-cons cmp z x xs) ∙ n)
 
--- Of items of which no two are alike at most one is like z.
+-- Of distinct items at most one is equal to z.
 pub count_apart : {X : Type 0} (cmp : X → X → Ordering) (o : IsTotalOrder cmp) (z : X) (xs : List X)
     → AreApart cmp xs → count_like cmp z xs ≤ 1
 count_apart cmp o z [] apart = omega arith
@@ -72,7 +72,7 @@ apart_count {X} cmp o (x ∷ xs) few =
           rw (count_like-cons cmp z x xs) at (few z) in omega arith),
     )
 
--- No order of the items makes two of them alike.
+-- A permutation of distinct items is distinct.
 pub AreApart-permutation : {X : Type 0} (cmp : X → X → Ordering) (o : IsTotalOrder cmp) (xs ys : List X)
     → IsPermutation xs ys → AreApart cmp xs → AreApart cmp ys
 AreApart-permutation cmp o xs ys p apart =
@@ -80,7 +80,7 @@ AreApart-permutation cmp o xs ys p apart =
     let same : count_like cmp z ys ≡ count_like cmp z xs =
     sum_by-IsPermutation (λ y. cond (is_eq (cmp y z)) 1 0) xs ys p in omega arith)
 
--- What is neither above nor like x is below it.
+-- An item that is neither above x nor equal to it is below it.
 below : {X : Type 0} (cmp : X → X → Ordering) (o : IsTotalOrder cmp) (x y : X) → is_lt (cmp y x) ≡ false
     → is_eq (cmp y x) ≡ false → cmp x y ≡ Less
 below {X} cmp o x y l e =
@@ -92,7 +92,7 @@ below {X} cmp o x y l e =
     greater Equal p q = absurd (cc)
     greater Greater p q = refl
 
--- x is below items none of which is below it or like it.
+-- x is below items that are neither below it nor equal to it.
 pub IsBelowAll-sorted : {X : Type 0} (cmp : X → X → Ordering) (o : IsTotalOrder cmp) (x : X) (ys : List X)
     → ((k : ℕ) (d : X) → k < length ys → is_lt (cmp (get_or ys k d) x) ≡ false)
     → list_any (λ y. is_eq (cmp y x)) ys ≡ false → IsBelowAll cmp x ys
@@ -104,7 +104,7 @@ IsBelowAll-sorted {X} cmp o x (y ∷ ys) above apart =
           (λ k d lt. above (suc k) d (omega arith)) parts.1,
     )
 
--- Sorted items of which no two are alike ascend.
+-- Distinct sorted items strictly ascend.
 pub IsAscending-sorted : {X : Type 0} (cmp : X → X → Ordering) (o : IsTotalOrder cmp) (xs : List X)
     → ((i j : ℕ) (d : X) → i ≤ j → j < length xs → is_lt (cmp (get_or xs j d) (get_or xs i d)) ≡ false)
     → AreApart cmp xs → IsAscending cmp xs
@@ -121,7 +121,7 @@ IsAscending-sort cmp o xs ys apart p up =
     (λ i j d le lt. sorted_far (λ x y. is_lt (cmp x y)) (ranks_by o (λ x. x)) ys up i j d le lt)
     (AreApart-permutation cmp o xs ys p apart)
 
--- What a sort gives.
+-- The result of a sort.
 pub sort-ascending : {X : Type 0} (cmp : X → X → Ordering) (o : IsTotalOrder cmp) (xs ys : List X) → AreApart cmp xs
     → IsPermutation xs ys → IsSortedBy (λ x y. is_lt (cmp x y)) ys → ys ≡ ascending cmp xs
 sort-ascending cmp o xs ys apart p up =

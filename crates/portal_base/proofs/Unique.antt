@@ -14,14 +14,14 @@ abbrev pub IsIn : {X : Type 0} → X → List X → Type 0
 IsIn z [] = ⊥
 IsIn z (x ∷ xs) = (z ≡ x) ⊎ IsIn z xs
 
--- What is in a list is above whatever is below all of it.
+-- A member of a list is above everything that is below the list.
 pub below_in : {X : Type 0} (cmp : X → X → Ordering) (a z : X) (xs : List X) → IsBelowAll cmp a xs → IsIn z xs
     → cmp a z ≡ Less
 below_in cmp a z [] below m = absurd m
 below_in cmp a z (x ∷ xs) below (inl e) = rw e below.0
 below_in cmp a z (x ∷ xs) below (inr m) = below_in cmp a z xs below.1 m
 
--- What stands at a place is in the list.
+-- The item at an index is a member.
 pub IsIn-get_or : {X : Type 0} (z : X) (xs : List X) (k : ℕ) → k < length xs → get_or xs k z ≡ z → IsIn z xs
 IsIn-get_or z [] k lt e = absurd (omega arith)
 IsIn-get_or z (x ∷ xs) zero lt e = inl (sym e)
@@ -35,11 +35,11 @@ Contains-IsIn z [] m = absurd m
 Contains-IsIn z (x ∷ xs) (inl e) = (0, omega arith, sym e)
 Contains-IsIn z (x ∷ xs) (inr m) = let c = Contains-IsIn z xs m in (suc c.0, omega arith, c.2)
 
--- Nothing is below itself.
+-- No item is below itself.
 pub not_below_itself : {X : Type 0} (cmp : X → X → Ordering) (o : IsTotalOrder cmp) (x : X) → cmp x x ≡ Less → ⊥
 not_below_itself cmp o x h = let e : cmp x x ≡ Equal = tied_itself o x in cc
 
--- Of two lists that ascend, with the same items, the first items are the same.
+-- Two ascending lists with the same items have the same first item.
 same_heads : {X : Type 0} (cmp : X → X → Ordering) (o : IsTotalOrder cmp) (x y : X) (xs ys : List X)
     → IsBelowAll cmp x xs → IsBelowAll cmp y ys → IsIn x (y ∷ ys) → IsIn y (x ∷ xs) → x ≡ y
 same_heads cmp o x y xs ys bx by (inl e) n = e
@@ -51,7 +51,7 @@ same_heads cmp o x y xs ys bx by (inr m) (inr n) =
     let turned : ordering_reverse (cmp y x) ≡ Greater = ap ordering_reverse up in
     cc
 
--- What is in the tail of a list whose head it isn't like is in the tail of the other.
+-- A member of one tail is a member of the other.
 in_tail : {X : Type 0} (cmp : X → X → Ordering) (o : IsTotalOrder cmp) (x z : X) (xs ys : List X)
     → IsBelowAll cmp x xs → IsIn z xs → IsIn z (x ∷ ys) → IsIn z ys
 in_tail cmp o x z xs ys below m (inl e) =
@@ -70,18 +70,18 @@ unique {X} cmp o (x ∷ xs) (y ∷ ys) ux uy to from =
     (λ z m. in_tail cmp o y z ys xs uy.0 m (subst (λ w. IsIn z (w ∷ xs)) e (from z (inr m)))) in
     cc
 
--- The insertion has x and the items.
+-- The list after an insertion has x and the old items.
 pub IsIn-inserted : {X : Type 0} (cmp : X → X → Ordering) (z x : X) (xs : List X) → IsIn z (x ∷ xs)
     → IsIn z (inserted cmp x xs)
 IsIn-inserted cmp z x [] m = m
 IsIn-inserted {X} cmp z x (y ∷ ys) m =
     let P : Bool → Type 0 = λ b. IsIn z (cond b (y ∷ inserted cmp x ys) (x ∷ y ∷ ys)) in
-    elim (is_lt (cmp y x)) as P [ true ↦ ahead (IsIn-inserted cmp z x ys) m | false ↦ m ]
+    elim (is_lt (cmp y x)) as P [ true ↦ into (IsIn-inserted cmp z x ys) m | false ↦ m ]
   where
-    ahead : (IsIn z (x ∷ ys) → IsIn z (inserted cmp x ys)) → IsIn z (x ∷ y ∷ ys) → IsIn z (y ∷ inserted cmp x ys)
-    ahead go (inl e) = inr (go (inl e))
-    ahead go (inr (inl e)) = inl e
-    ahead go (inr (inr n)) = inr (go (inr n))
+    into : (IsIn z (x ∷ ys) → IsIn z (inserted cmp x ys)) → IsIn z (x ∷ y ∷ ys) → IsIn z (y ∷ inserted cmp x ys)
+    into go (inl e) = inr (go (inl e))
+    into go (inr (inl e)) = inl e
+    into go (inr (inr n)) = inr (go (inr n))
 
 -- It has nothing else.
 pub inserted-IsIn : {X : Type 0} (cmp : X → X → Ordering) (z x : X) (xs : List X) → IsIn z (inserted cmp x xs)
@@ -89,17 +89,17 @@ pub inserted-IsIn : {X : Type 0} (cmp : X → X → Ordering) (z x : X) (xs : Li
 inserted-IsIn cmp z x [] m = m
 inserted-IsIn {X} cmp z x (y ∷ ys) m =
     let P : Bool → Type 0 = λ b. IsIn z (cond b (y ∷ inserted cmp x ys) (x ∷ y ∷ ys)) → IsIn z (x ∷ y ∷ ys) in
-    (elim (is_lt (cmp y x)) as P [ true ↦ λ n. behind (inserted-IsIn cmp z x ys) n | false ↦ λ n. n ]) m
+    (elim (is_lt (cmp y x)) as P [ true ↦ λ n. out_of (inserted-IsIn cmp z x ys) n | false ↦ λ n. n ]) m
   where
     further : IsIn z (x ∷ ys) → IsIn z (x ∷ y ∷ ys)
     further (inl e) = inl e
     further (inr n) = inr (inr n)
 
-    behind : (IsIn z (inserted cmp x ys) → IsIn z (x ∷ ys)) → IsIn z (y ∷ inserted cmp x ys) → IsIn z (x ∷ y ∷ ys)
-    behind go (inl e) = inr (inl e)
-    behind go (inr n) = further (go n)
+    out_of : (IsIn z (inserted cmp x ys) → IsIn z (x ∷ ys)) → IsIn z (y ∷ inserted cmp x ys) → IsIn z (x ∷ y ∷ ys)
+    out_of go (inl e) = inr (inl e)
+    out_of go (inr n) = further (go n)
 
--- The whole order has the items.
+-- The sorted list has the items.
 pub IsIn-ascending : {X : Type 0} (cmp : X → X → Ordering) (z : X) (xs : List X) → IsIn z xs
     → IsIn z (ascending cmp xs)
 IsIn-ascending cmp z [] m = m

@@ -1,4 +1,4 @@
--- How the words of a text are found going forward: what stands before a character between words, and what at the end.
+-- The words of a text, found from its start: the word before a separator, and the word at the end.
 use Rattle.std.proofs.Common.{◌≡◌, refl, ap, sym, subst, arith, eqb-true, length, ◌==◌, ◌∙◌, append_assoc, append-nil}
 use Rattle.std.proofs.Common.{ℕ, List, [], ◌∷◌, ◌++◌, Bool, true, false, not, cond, ◌&&◌}
 use Rattle.std.specs.Prelude.{filter, map, encode_utf8, encode_utf8_all}
@@ -16,7 +16,7 @@ split_step : (c : ℕ) (b : Bool) (pieces : List (List ℕ)) → is_word_charact
     → cond (is_between_words c) ([] ∷ pieces) (onto_first c pieces) ≡ cond (not b) ([] ∷ pieces) (onto_first c pieces)
 split_step c b pieces e = ap (λ x. cond (not x) ([] ∷ pieces) (onto_first c pieces)) e
 
--- the first of a word's characters is of the word, and so are the others
+-- If a word begins with a character, the character and the rest are of the word.
 of_word : (c : ℕ) (word : List ℕ) → list_all is_word_character (c ∷ word) ≡ true
     → (is_word_character c ≡ true) × (list_all is_word_character word ≡ true)
 of_word c word all = by (is_word_character c) refl all
@@ -26,7 +26,7 @@ of_word c word all = by (is_word_character c) refl all
     by true e all = (e, all)
     by false e all = absurd (cc)
 
--- the text is cut at the first character between words
+-- A text is split at its first separator.
 split_at : (word : List ℕ) (c : ℕ) (rest : List ℕ) → list_all is_word_character word ≡ true
     → is_word_character c ≡ false
     → slice_split is_between_words (word ++ c ∷ rest) ≡ word ∷ slice_split is_between_words rest
@@ -35,7 +35,7 @@ split_at (w ∷ word) c rest all between =
     split_step w true (slice_split is_between_words (word ++ c ∷ rest)) (of_word w word all).0
     ∙ ap (onto_first w) (split_at word c rest (of_word w word all).1 between)
 
--- a word alone isn't cut
+-- A single word is not split.
 split_word : (word : List ℕ) → list_all is_word_character word ≡ true
     → slice_split is_between_words word ≡ word ∷ []
 split_word [] all = refl
@@ -47,7 +47,7 @@ split_word (w ∷ word) all =
 abbrev pub tokens_of : List ℕ → List (List ℕ)
 tokens_of characters = map folded (words_of characters)
 
--- a word that ends before another character gives its token, and then come those of the rest
+-- A word before a separator gives its token, and the tokens of the rest follow.
 pub word_ends : (word : List ℕ) (c : ℕ) (rest : List ℕ) → list_all is_word_character word ≡ true
     → is_word_character c ≡ false → tokens_of (word ++ c ∷ rest) ≡ token_of_word word ++ tokens_of rest
 word_ends word c rest all between =
@@ -55,11 +55,11 @@ word_ends word c rest all between =
     ∙ ap (map folded) (filter-append has_character (word ∷ []) (slice_split is_between_words rest))
     ∙ map-append folded (filter has_character (word ∷ [])) (words_of rest)
 
--- a word at the end gives its token
+-- A word at the end gives its token.
 pub last_word_ends : (word : List ℕ) → list_all is_word_character word ≡ true → tokens_of word ≡ token_of_word word
 last_word_ends word all = ap (λ pieces. map folded (filter has_character pieces)) (split_word word all)
 
--- a text that isn't empty has a character, and its token
+-- A nonempty word has a token.
 pub a_word_has_a_token : (text : List ℕ) → IsUtf8 text → (length text == 0) ≡ false
     → token_of_word (chars text) ≡ folded (chars text) ∷ []
 a_word_has_a_token text utf8 filled = by (chars text) (encodes-chars text utf8)
@@ -69,7 +69,7 @@ a_word_has_a_token text utf8 filled = by (chars text) (encodes-chars text utf8)
     by [] same = absurd (cc)
     by (c ∷ characters) same = refl
 
--- an empty text adds no token
+-- An empty word adds no token.
 pub no_word_adds_none : (found : List (List ℕ)) (text : List ℕ) → (length text == 0) ≡ true
     → found ≡ found ++ token_of_word (chars text)
 no_word_adds_none found [] empty =
@@ -78,8 +78,8 @@ no_word_adds_none found [] empty =
     )
 no_word_adds_none found (b ∷ text) empty = absurd (omega (arith, eqb-true (length (b ∷ text)) 0 empty))
 
--- Where a reading of a text's words stands: the word in hand is one so far, and the tokens of the text are those that
--- were found, and those of the word in hand and what is left.
+-- The state of the reader: the current word consists of word characters, and the tokens of the text are those found,
+-- followed by those of the current word and the remaining text.
 pub record Stands (text : List ℕ) (found : List (List ℕ)) (word left : List ℕ) : Type 0 where
   pub is_word : list_all is_word_character (chars word) ≡ true
   pub is_text : IsUtf8 left
@@ -96,7 +96,7 @@ reading_begins text found word left none empty all utf8 =
           ∙ ap (λ f. f ++ tokens_of (chars word ++ chars left)) (sym none);
     }
 
--- one more character of the word in hand
+-- one more character of the current word
 chars_more : (word more : List ℕ) (c : ℕ) → IsUtf8 word → IsUtf8 more → more ≡ word ++ encode_utf8 c
     → chars more ≡ chars word ++ c ∷ []
 chars_more word more c utf8 still grown =
@@ -110,14 +110,14 @@ chars_more word more c utf8 still grown =
 pub word_goes_on : (text : List ℕ) (found : List (List ℕ)) (word more : List ℕ) (c : ℕ) (left rest : List ℕ)
     → Stands text found word left → IsUtf8 word → IsUtf8 more → is_word_character c ≡ true
     → more ≡ word ++ encode_utf8 c → left ≡ encode_utf8 c ++ rest → Stands text found more rest
-word_goes_on text found word more c left rest stands utf8 still is_one grown splits =
+word_goes_on text found word more c left rest state utf8 still is_one grown splits =
     let same = chars_more word more c utf8 still grown in
     record {
       is_word = ap (list_all is_word_character) same ∙ list_all-append is_word_character (chars word) (c ∷ [])
-          ∙ ap (λ b. b && list_all is_word_character (c ∷ [])) stands.is_word ∙ ap (λ b. b && true) is_one;
-      is_text = IsUtf8-past_char left rest c stands.is_text splits;
-      all_found = stands.all_found ∙ ap (λ cs. found ++ tokens_of cs) (
-          ap (λ cs. chars word ++ cs) (chars_past_char left rest c stands.is_text splits)
+          ∙ ap (λ b. b && list_all is_word_character (c ∷ [])) state.is_word ∙ ap (λ b. b && true) is_one;
+      is_text = IsUtf8-past_char left rest c state.is_text splits;
+      all_found = state.all_found ∙ ap (λ cs. found ++ tokens_of cs) (
+          ap (λ cs. chars word ++ cs) (chars_past_char left rest c state.is_text splits)
           ∙ sym (append_assoc (chars word) (c ∷ []) (chars rest)) ∙ ap (λ cs. cs ++ chars rest) (sym same)
           );
     }
@@ -125,14 +125,14 @@ word_goes_on text found word more c left rest stands utf8 still is_one grown spl
 pub word_is_ended : (text : List ℕ) (found more : List (List ℕ)) (word empty : List ℕ) (c : ℕ) (left rest : List ℕ)
     → Stands text found word left → is_word_character c ≡ false → more ≡ found ++ token_of_word (chars word)
     → empty ≡ [] → left ≡ encode_utf8 c ++ rest → Stands text more empty rest
-word_is_ended text found more word empty c left rest stands between grown none splits =
+word_is_ended text found more word empty c left rest state between grown none splits =
     let no_characters = ap chars none ∙ chars-nil in
     record {
       is_word = ap (list_all is_word_character) no_characters;
-      is_text = IsUtf8-past_char left rest c stands.is_text splits;
-      all_found = stands.all_found
-          ∙ ap (λ cs. found ++ tokens_of (chars word ++ cs)) (chars_past_char left rest c stands.is_text splits)
-          ∙ ap (λ ts. found ++ ts) (word_ends (chars word) c (chars rest) stands.is_word between)
+      is_text = IsUtf8-past_char left rest c state.is_text splits;
+      all_found = state.all_found
+          ∙ ap (λ cs. found ++ tokens_of (chars word ++ cs)) (chars_past_char left rest c state.is_text splits)
+          ∙ ap (λ ts. found ++ ts) (word_ends (chars word) c (chars rest) state.is_word between)
           ∙ sym (append_assoc found (token_of_word (chars word)) (tokens_of (chars rest)))
           ∙ ap (λ ts. ts ++ tokens_of (chars rest)) (sym grown)
           ∙ ap (λ cs. more ++ tokens_of (cs ++ chars rest)) (sym no_characters);
@@ -140,11 +140,11 @@ word_is_ended text found more word empty c left rest stands between grown none s
 
 pub reading_ends : (text : List ℕ) (found more : List (List ℕ)) (word left : List ℕ) → Stands text found word left
     → length left ≡ 0 → more ≡ found ++ token_of_word (chars word) → more ≡ tokens text
-reading_ends text found more word left stands at_end grown =
-    grown ∙ ap (λ ts. found ++ ts) (sym (last_word_ends (chars word) stands.is_word))
+reading_ends text found more word left state at_end grown =
+    grown ∙ ap (λ ts. found ++ ts) (sym (last_word_ends (chars word) state.is_word))
     ∙ ap (λ cs. found ++ tokens_of cs) (sym (append-nil (chars word)))
     ∙ ap (λ cs. found ++ tokens_of (chars word ++ cs)) (sym (ap chars (nil_of_length left at_end) ∙ chars-nil))
-    ∙ sym stands.all_found
+    ∙ sym state.all_found
   where
     nil_of_length : (bytes : List ℕ) → length bytes ≡ 0 → bytes ≡ []
     nil_of_length [] none = refl

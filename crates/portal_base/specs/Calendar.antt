@@ -1,6 +1,5 @@
 -- The texts of dates, times of day, years and year-months (ISO 8601, sections 5.2.1 and 5.3.1, extended format), on
--- the proleptic Gregorian calendar, with years of four digits. Each reader of a date or a time stands on these, and
--- adds only the form around them.
+-- the proleptic Gregorian calendar, with years of four digits. Every definition that reads a date or a time uses these.
 use Rattle.std.specs.Prelude.{ℕ, ◌+◌, ◌*◌, Bool, ◌&&◌, nat_le, if◌then◌else◌, List, codes, ℤ, pos, negsuc, ◌+ℤ◌}
 use Rattle.std.specs.Prelude.{◌*ℤ◌, ◌≤ℤ◌, Option, Some, None, option_map, option_and_then}
 use Rattle.jiff_core.specs.Calendar.{days_from_civil}
@@ -10,7 +9,7 @@ use Rattle.portal_base.specs.MomentReading.{fits_form, number_at, year_in, has_d
 abbrev pub IsDay : ℤ → Type 0
 IsDay day = (negsuc 719527 ≤ℤ day) × (day ≤ℤ pos 2932896)
 
--- The calendar has the month.
+-- the month is 1 to 12
 abbrev pub has_month : ℕ → Bool
 has_month month = nat_le 1 month && nat_le month 12
 
@@ -48,7 +47,7 @@ yearmonth_reading text =
     if fits_form (codes "0000-00") text && has_month (number_at 5 text)
     then Some (year_in text, number_at 5 text) else None
 
--- so many seconds after midnight of a day, in seconds since 1970-01-01T00:00:00
+-- a day and the seconds since its midnight, as seconds since 1970-01-01T00:00:00
 abbrev pub seconds_of : ℤ → ℕ → ℤ
 seconds_of day second = day *ℤ pos 86400 +ℤ pos second
 

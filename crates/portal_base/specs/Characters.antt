@@ -1,4 +1,4 @@
--- The characters that words are made of: letters, marks and numbers by their general category (Unicode, section 4.5).
+-- The characters of words: letters, marks and numbers by their general category (Unicode, section 4.5).
 use Rattle.std.specs.Prelude.{ℕ, Bool, true, false}
 use Rattle.ucd_category.specs.GeneralCategory.{general_category}
 use Rattle.ucd_category.specs.declared.GeneralCategory.{GeneralCategory}

@@ -1,4 +1,4 @@
--- Dictionaries that are made from their members in order, with keys that ascend by bytes.
+-- Dictionaries that are made of their members, with keys that ascend by bytes.
 use Rattle.std.specs.Prelude.{ℕ, pos, List, [], ◌∷◌, Bool, true, false, ◌&&◌, ⊤}
 use Rattle.std.specs.Borrow.{Bor}
 use Rattle.std.specs.Ordering.{nat_cmp}
@@ -13,7 +13,7 @@ use Rattle.portal_base.specs.declared.json_value.Json as json
 use Rattle.portal_base.specs.declared.dictionary.Value.{Value}
 use Rattle.portal_base.specs.declared.dictionary.Value.TheVariants as value
 
--- the value that is made
+-- the JSON value of a member
 abbrev pub value_json : Value → Json
 value_json (value.Truth truth) = json.Truth truth
 value_json (value.Whole n) = json.Whole (pos n)
@@ -24,7 +24,7 @@ value_json (value.Moment moment) = json.Text (moment_text moment)
 value_json (value.List list) = json.List list
 value_json (value.Json j) = j
 
--- the key, and the value that is made
+-- the key and the JSON value of a member
 abbrev pub member_json : Bor (List ℕ) × Value → List ℕ × Json
 member_json m = (m.0.now, value_json m.1)
 
@@ -48,7 +48,7 @@ abbrev pub KeysAscend : Members → Type 0
 KeysAscend no_members = ⊤
 KeysAscend (member k d ms) = Precedes k ms × KeysAscend ms
 
--- an object whose keys strictly ascend by bytes
+-- The data is an object whose keys strictly ascend by bytes.
 abbrev pub IsAscending : Data → Type 0
 IsAscending null = ⊥
 IsAscending (boolean b) = ⊥

@@ -1,4 +1,4 @@
--- JSON values (RFC 8259) without fractions: the data they stand for, their text, and the value of a text.
+-- JSON values (RFC 8259) without fractions: their data, their text, and the value of a text.
 use Rattle.std.specs.Prelude.{◌≡◌, ◌≤◌, ◌<◌, ◌^◌, ℕ, ℤ, pos, negsuc, List, [], ◌∷◌, map, Option, Some, None}
 use Rattle.std.specs.Prelude.{option_map, option_and_then, Result, Ok, Err, if◌then◌else◌, bytes_eq, ⊤}
 use Rattle.std.specs.Ordering.{nat_cmp}
@@ -21,7 +21,7 @@ abbrev pub members_of : List (List ℕ × Data) → Members
 members_of [] = no_members
 members_of (m ∷ ms) = member m.0 m.1 (members_of ms)
 
--- one level, with each value inside already seen as its data
+-- the data of one level, whose inner values are data already
 abbrev pub data_step : Json-F Data → Data
 data_step Json-F.Null = null
 data_step (Json-F.Truth b) = boolean b
@@ -30,7 +30,7 @@ data_step (Json-F.Text s) = string s
 data_step (Json-F.List ds) = array (items_of ds)
 data_step (Json-F.Map ms) = object (members_of ms)
 
--- the data that a value stands for
+-- the data of a value
 abbrev pub data_of : Json → Data
 data_of = fold-Json Data data_step
 
@@ -40,11 +40,11 @@ items_data js = items_of (map data_of js)
 abbrev pub members_data : List (List ℕ × Json) → Members
 members_data es = members_of (map (λ e. (e.0, data_of e.1)) es)
 
--- The text with no space (RFC 8259, section 2), of which a map's members stand in the order of its list.
+-- The text without white space (RFC 8259, section 2). A map keeps the order of its entries.
 abbrev pub json_text : Json → List ℕ
 json_text j = compact_text (data_of j)
 
--- The value of some data, where each number is an integer.
+-- The value of some data, if each number is an integer.
 abbrev mutual
   pub json_of : Data → Option Json
   json_of null = Some json.Null
@@ -66,13 +66,13 @@ abbrev pub or_fault : {A : Type 0} → JsonFault → Option A → Result A JsonF
 or_fault fault None = Err fault
 or_fault fault (Some a) = Ok a
 
--- what the data of a text, if it has any, is read as
+-- what the data of a text is read as; a text without data is not JSON
 abbrev pub reading_of : Option Data → Result Json JsonFault
 reading_of None = Err NotJson
 reading_of (Some d) = or_fault Fraction (json_of d)
 
--- What bytes are read as. They are JSON where they are UTF-8 and one value of the grammar (RFC 8259), which nests 127
--- levels at most.
+-- What bytes are read as. They are JSON if they are UTF-8 and one value of the grammar (RFC 8259), of at most 127
+-- levels.
 abbrev pub json_reading : List ℕ → Result Json JsonFault
 json_reading bytes = if is_utf8 bytes then reading_of (read bytes) else Err NotJson
 
@@ -89,7 +89,7 @@ member_in key (Json-F.Text s) = None
 member_in key (Json-F.List js) = None
 member_in key (Json-F.Map es) = first_of key es
 
--- a map's member of that key
+-- the value of a map's first entry with that key
 abbrev pub member_of : List ℕ → Json → Option Json
 member_of key j = member_in key (out-Json j)
 
@@ -129,6 +129,6 @@ abbrev mutual
   MembersAreOrderly no_members = ⊤
   MembersAreOrderly (member k d ms) = Precedes k ms × IsOrderly d × MembersAreOrderly ms
 
--- Orderly, and nested 127 levels at most.
+-- The data is orderly and has at most 127 levels.
 abbrev pub IsReadable : Json → Type 0
 IsReadable j = IsOrderly (data_of j) × (depth (data_of j) ≤ max_depth)

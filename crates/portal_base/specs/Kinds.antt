@@ -1,4 +1,4 @@
--- The values of a body's keys by their kinds, and the faults of those that are of another kind.
+-- The values of a body's keys by their kinds, and the faults of values of other kinds.
 use Rattle.std.specs.Prelude.{ℕ, ℤ, pos, negsuc, neg_ℤ, ◌==◌, nat_le, Bool, true, false, ◌&&◌, ◌||◌, if◌then◌else◌}
 use Rattle.std.specs.Prelude.{List, [], ◌∷◌, ◌++◌, length, reverse, map, filter, codes, Option, Some, None, option_map}
 use Rattle.std.specs.Prelude.{option_and_then, Result, Ok, Err}
@@ -14,7 +14,7 @@ use Rattle.portal_base.specs.declared.kinds.KindFault.{KindFault}
 use Rattle.portal_base.specs.declared.kinds.KindFault.TheVariants.{Missing, NotText, NotWholeFromZero, NotWhole}
 use Rattle.portal_base.specs.declared.kinds.KindFault.TheVariants.{NotTruth, NotTexts, NotList, NotDictionary, Longer}
 
--- ---- what is there
+-- ---- keys that are present
 
 abbrev pub is_null_in : Json-F Json → Bool
 is_null_in Json-F.Null = true
@@ -25,7 +25,7 @@ abbrev pub non_null : Option Json → Option Json
 non_null None = None
 non_null (Some value) = if is_null_in (out-Json value) then None else Some value
 
--- the value of a dictionary's key, where it is there
+-- the value of a dictionary's key, if the key is present
 abbrev pub present : List ℕ → Json → Option Json
 present key body = non_null (member_of key body)
 
@@ -61,7 +61,7 @@ dictionary_in value = dictionary_of (out-Json value)
 abbrev pub is_digits : List ℕ → Bool
 is_digits text = nat_le 1 (length text) && nat_le (length text) 18 && list_all is_ascii_digit text
 
--- the number that they spell
+-- the number of such digits
 abbrev pub digits_spelled : List ℕ → Option ℕ
 digits_spelled text = if is_digits text then Some (digits_value 10 text) else None
 
@@ -85,7 +85,7 @@ whole_in value = whole_of (out-Json value)
 
 -- ---- truth values
 
--- the text is one of the list
+-- the text is in the list
 abbrev pub is_among : List (List ℕ) → List ℕ → Bool
 is_among texts text = list_any (λ t. bytes_eq t text) texts
 
@@ -115,34 +115,34 @@ truth_in value = truth_of (out-Json value)
 abbrev pub is_blank : ℕ → Bool
 is_blank c = (c == 32) || (c == 9)
 
--- without the blanks in front
-abbrev pub past_blanks : List ℕ → List ℕ
-past_blanks [] = []
-past_blanks (c ∷ cs) = if is_blank c then past_blanks cs else c ∷ cs
+-- without the blanks at the start
+abbrev pub trimmed_start : List ℕ → List ℕ
+trimmed_start [] = []
+trimmed_start (c ∷ cs) = if is_blank c then trimmed_start cs else c ∷ cs
 
--- without the blanks behind
-abbrev pub before_blanks : List ℕ → List ℕ
-before_blanks text = reverse (past_blanks (reverse text))
+-- without the blanks at the end
+abbrev pub trimmed_end : List ℕ → List ℕ
+trimmed_end text = reverse (trimmed_start (reverse text))
 
 -- without the blanks at both ends
 abbrev pub trimmed : List ℕ → List ℕ
-trimmed text = before_blanks (past_blanks text)
+trimmed text = trimmed_end (trimmed_start text)
 
 abbrev pub is_comma : ℕ → Bool
 is_comma c = c == 44
 
-abbrev pub has_byte : List ℕ → Bool
-has_byte text = nat_le 1 (length text)
+abbrev pub is_nonempty : List ℕ → Bool
+is_nonempty text = nat_le 1 (length text)
 
--- the parts without the blanks at their ends, of which the empty ones are dropped
+-- the parts without the blanks at both ends; empty ones are dropped
 abbrev pub kept_parts : List (List ℕ) → List (List ℕ)
-kept_parts parts = filter has_byte (map trimmed parts)
+kept_parts parts = filter is_nonempty (map trimmed parts)
 
 -- the texts between the commas of a text
 abbrev pub texts_spelled : List ℕ → List (List ℕ)
 texts_spelled text = kept_parts (slice_split is_comma text)
 
--- what each of the items is read as, where all are read
+-- what the items are read as, if all can be read
 abbrev pub all_of : {A : Type 0} → (Json → Option A) → List Json → Option (List A)
 all_of read [] = Some []
 all_of read (item ∷ items) = option_and_then (λ x. option_map (λ xs. x ∷ xs) (all_of read items)) (read item)
@@ -152,18 +152,18 @@ texts_of (Json-F.Text text) = Some (texts_spelled text)
 texts_of (Json-F.List items) = all_of text_in items
 texts_of other = None
 
--- a list of texts, taken as it is, or the parts of one text
+-- a list of texts, unchanged, or the parts of one text
 abbrev pub texts_in : Json → Option (List (List ℕ))
 texts_in value = texts_of (out-Json value)
 
 -- ---- keys of a body
 
--- what is read, or this fault where nothing is
+-- what was read, or this fault
 abbrev pub or_fault : {A : Type 0} → KindFault → Option A → Result A KindFault
 or_fault fault None = Err fault
 or_fault fault (Some x) = Ok x
 
--- what a value is read as, where it is there
+-- what a value is read as, if it is present
 abbrev pub kind_at : {A : Type 0} → (Json → Option A) → KindFault → Option Json → Result (Option A) KindFault
 kind_at read fault None = Ok None
 kind_at read fault (Some value) = or_fault fault (option_map Some (read value))
@@ -186,38 +186,38 @@ list_at key body = kind_at list_in NotList (present key body)
 abbrev pub dictionary_at : List ℕ → Json → Result (Option (List (List ℕ × Json))) KindFault
 dictionary_at key body = kind_at dictionary_in NotDictionary (present key body)
 
--- the number, if it isn't negative
+-- the number, if it is not negative
 abbrev pub from_zero : ℤ → Option ℕ
 from_zero (pos n) = Some n
 from_zero (negsuc n) = None
 
--- a whole number that isn't negative
+-- a whole number that is not negative
 abbrev pub count_in : Json → Option ℕ
 count_in value = option_and_then from_zero (whole_in value)
 
 abbrev pub count_at : List ℕ → Json → Result (Option ℕ) KindFault
 count_at key body = kind_at count_in NotWholeFromZero (present key body)
 
--- no more than so many bytes of UTF-8
-abbrev pub within : ℕ → Option (List ℕ) → Result (Option (List ℕ)) KindFault
-within longest None = Ok None
-within longest (Some text) = if nat_le (length text) longest then Ok (Some text) else Err (Longer longest)
+-- a text of at most `longest` bytes of UTF-8
+abbrev pub within_limit : ℕ → Option (List ℕ) → Result (Option (List ℕ)) KindFault
+within_limit longest None = Ok None
+within_limit longest (Some text) = if nat_le (length text) longest then Ok (Some text) else Err (Longer longest)
 
 abbrev pub bounded_by : ℕ → Result (Option (List ℕ)) KindFault → Result (Option (List ℕ)) KindFault
 bounded_by longest (Err fault) = Err fault
-bounded_by longest (Ok found) = within longest found
+bounded_by longest (Ok found) = within_limit longest found
 
--- a text of no more than so many bytes
+-- the text of a key, of at most `longest` bytes of UTF-8
 abbrev pub short_text_at : ℕ → List ℕ → Json → Result (Option (List ℕ)) KindFault
 short_text_at longest key body = bounded_by longest (text_at key body)
 
--- what is there, which has to be
+-- the value of a required key
 abbrev pub required : {A : Type 0} → Option A → Result A KindFault
 required found = or_fault Missing found
 
 -- ---- messages
 
--- what is told of the fault
+-- the message of a fault
 abbrev pub message_of : KindFault → List ℕ
 message_of Missing = codes "Missing value"
 message_of NotText = codes "Must be text"

@@ -1,6 +1,6 @@
 pub mod Calendar
 pub mod Counted
-pub mod Faults
+pub mod KeyErrors
 pub mod formers
 pub mod Json
 pub mod Kinds

@@ -14,8 +14,8 @@ abbrev pub has_character : List ℕ → Bool
 has_character [] = false
 has_character (c ∷ characters) = true
 
--- The words among characters: the runs of letters, marks and numbers that are as long as can be, so what stands between
--- the other characters, where something does.
+-- The words among characters: the longest runs of letters, marks and numbers. They are the nonempty parts between the
+-- other characters.
 abbrev pub words_of : List ℕ → List (List ℕ)
 words_of characters = filter has_character (slice_split is_between_words characters)
 
@@ -23,7 +23,7 @@ words_of characters = filter has_character (slice_split is_between_words charact
 abbrev pub folded : List ℕ → List ℕ
 folded word = encode_utf8_all (default_case_fold word)
 
--- the token of a word that has come to its end, where it has a character
+-- the token of a finished word, unless the word is empty
 abbrev pub token_of_word : List ℕ → List (List ℕ)
 token_of_word word = map folded (filter has_character (word ∷ []))
 

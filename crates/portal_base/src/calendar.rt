@@ -1,13 +1,14 @@
-//! Dates, times of day, years and year-months of texts. Every reader of a date or a time takes it from here.
+//! Parsers of dates, times of day, years and year-months. Every parser of a date or a time uses these.
 ghost use Rattle.std.specs.Prelude.{◌≡◌, ◌+◌, ◌<◌, IfSome, IsTrue, slice_index, length};
 ghost use Rattle.std.specs.Char.{is_ascii_digit};
 ghost use Rattle.portal_base.specs.Calendar.{date_reading, day_in, has_month, minute_reading, second_in, time_reading};
 ghost use Rattle.portal_base.specs.Calendar.{year_reading, yearmonth_reading};
-ghost use Rattle.portal_base.specs.MomentReading.{fits_form, fits_place, has_day, has_time, number_at, year_in};
+ghost use Rattle.portal_base.specs.MomentReading.{fits_form, fits_character, has_day, has_time, number_at, year_in};
 
 use jiff::civil::Date;
 
-/// The days since 1970-01-01 of a date `YYYY-MM-DD` (ISO 8601, section 5.2.1.1), if the calendar has it.
+/// Parses a date `YYYY-MM-DD` (ISO 8601, section 5.2.1.1) as the number of days since 1970-01-01. The result is `None`
+/// if the text has another form or the calendar lacks the date.
 #[tactic(auto, unfolding(crate::specs::Calendar::date_reading))]
 pub fn date_of(text: &[u8]) -> Option<i32>
     ensures { result ≡ date_reading text.now }
@@ -24,8 +25,8 @@ pub fn date_of(text: &[u8]) -> Option<i32>
     }
 }
 
-/// The seconds since midnight of a time `hh:mm:ss` (ISO 8601, section 5.3.1.1), if the clock has it: no hour 24, and
-/// no second 60.
+/// Parses a time of day `hh:mm:ss` (ISO 8601, section 5.3.1.1) as the number of seconds since midnight. The hour 24 and
+/// the second 60 are refused.
 #[tactic(auto, unfolding(crate::specs::Calendar::time_reading))]
 pub fn second_of(text: &[u8]) -> Option<u32>
     ensures { result ≡ time_reading text.now }
@@ -43,7 +44,7 @@ pub fn second_of(text: &[u8]) -> Option<u32>
     }
 }
 
-/// The minutes since midnight of a time `hh:mm` (ISO 8601, section 5.3.1.2), if the clock has it.
+/// Parses a time of day `hh:mm` (ISO 8601, section 5.3.1.2) as the number of minutes since midnight.
 #[tactic(auto, unfolding(crate::specs::Calendar::minute_reading))]
 pub fn minute_of(text: &[u8]) -> Option<u32>
     ensures value { result ≡ minute_reading text.now }
@@ -61,7 +62,7 @@ pub fn minute_of(text: &[u8]) -> Option<u32>
     }
 }
 
-/// A year `YYYY` (ISO 8601, section 5.2.1.2).
+/// Parses a year `YYYY` (ISO 8601, section 5.2.1.2).
 #[tactic(auto, unfolding(crate::specs::Calendar::year_reading))]
 pub fn year_of(text: &[u8]) -> Option<u16>
     ensures { result ≡ year_reading text.now }
@@ -73,7 +74,7 @@ pub fn year_of(text: &[u8]) -> Option<u16>
     }
 }
 
-/// A year and a month `YYYY-MM` (ISO 8601, section 5.2.1.2).
+/// Parses a year and a month `YYYY-MM` (ISO 8601, section 5.2.1.2).
 #[tactic(auto, unfolding(crate::specs::Calendar::yearmonth_reading))]
 pub fn year_month_of(text: &[u8]) -> Option<(u16, u8)>
     ensures { result ≡ yearmonth_reading text.now }
@@ -89,43 +90,43 @@ pub fn year_month_of(text: &[u8]) -> Option<(u16, u8)>
     }
 }
 
-// Whether the text has the form, in which a 0 stands for any digit.
+// Whether the text has the form. A 0 in the form matches any digit.
 fn fits(form: &[u8], text: &[u8]) -> bool
     ensures { result ≡ fits_form form.now text.now }
 {
     if text.len() != form.len() {
         return false;
     }
-    for place in 0..form.len() {
-        if !fits_place(form[place], text[place]) {
+    for position in 0..form.len() {
+        if !fits_character(form[position], text[position]) {
             return false;
         }
     }
     true
 }
 
-fn fits_place(place: u8, byte: u8) -> bool
-    ensures { result ≡ fits_place place byte }
+fn fits_character(form_byte: u8, byte: u8) -> bool
+    ensures { result ≡ fits_character form_byte byte }
 {
-    if place == b'0' {
+    if form_byte == b'0' {
         byte >= b'0' && byte <= b'9'
     } else {
-        byte == place
+        byte == form_byte
     }
 }
 
-// The number of the two digits that begin at the place.
-fn number_at(text: &[u8], place: usize) -> u8
-    requires within { place + 1 < length text.now }
-    requires tens { IsTrue (is_ascii_digit (slice_index text.now place)) }
-    requires units { IsTrue (is_ascii_digit (slice_index text.now (place + 1))) }
-    ensures number { result ≡ number_at place text.now }
+// The number that two digits spell. The first digit is at the position.
+fn number_at(text: &[u8], position: usize) -> u8
+    requires within { position + 1 < length text.now }
+    requires tens { IsTrue (is_ascii_digit (slice_index text.now position)) }
+    requires units { IsTrue (is_ascii_digit (slice_index text.now (position + 1))) }
+    ensures number { result ≡ number_at position text.now }
     ensures bound { result < 100 }
 {
-    (text[place] - b'0') * 10 + (text[place + 1] - b'0')
+    (text[position] - b'0') * 10 + (text[position + 1] - b'0')
 }
 
-// The number of the four digits at the start.
+// The number that the first four digits spell.
 fn year_at_start(text: &[u8]) -> u16
     requires within { 3 < length text.now }
     requires first { IsTrue (is_ascii_digit (slice_index text.now 0)) }

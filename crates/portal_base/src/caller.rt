@@ -1,7 +1,7 @@
-//! Who calls.
+//! The caller of an action.
 use crate::text::Text;
 
-/// Who calls: nobody that is known, or the user of that name.
+/// The caller of an action: anonymous, or the user with this name.
 #[derive(Drop)]
 pub enum Caller {
     Anonymous,

@@ -1,11 +1,11 @@
-//! The characters of texts: how many there are, and which are of words.
+//! Counts and tests of the characters of texts.
 ghost use Rattle.std.specs.Prelude.{◌≡◌, length};
 ghost use Rattle.std.specs.Str.{chars};
 ghost use Rattle.portal_base.specs.Characters.{is_word_category, is_word_character};
 
 use unicode::properties::GeneralCategory;
 
-/// How many Unicode scalar values the text has.
+/// The number of Unicode scalar values in the text.
 pub fn count_of_characters(text: &str) -> usize
     ensures { result ≡ length (chars text.now) }
 {

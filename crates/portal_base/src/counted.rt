@@ -1,4 +1,4 @@
-//! A clock, a drawer of numbers and a ticker that only count their calls.
+//! A clock, a source of nonces and a ticker that only count their calls.
 ghost use Rattle.std.specs.Prelude.{◌≡◌, true, false, not, nat_lt, if◌then◌else◌};
 ghost use Rattle.portal_base.specs.Counted.{script_moment, next_count};
 
@@ -10,11 +10,12 @@ use std::marker::Model;
 /// 2024-01-01T00:00:00, in seconds since 1970-01-01T00:00:00.
 const SCRIPT_START: i64 = 1_704_067_200;
 
-/// How many seconds there are from the start to the last moment.
+/// The number of seconds from the start to the last moment.
 const SCRIPT_LENGTH: u64 = 251_698_233_599;
 
-/// A clock that answers 2024-01-01T00:00:00, and one second more at each call, up to the last moment of all. A contract
-/// sees it as the number of calls so far. At the last number of a `u64` it stays, and tells no more what it gave.
+/// A clock that returns 2024-01-01T00:00:00, and one second more at each call, up to the last moment. A contract sees
+/// it as the number of calls so far. The count stops at the maximum of a `u64`; from then on the moments given are not
+/// observable.
 #[derive(Drop)]
 pub struct ScriptClock {
     calls: u64,
@@ -37,9 +38,9 @@ impl ScriptClock {
 }
 
 impl Clock for ScriptClock {
-    ghost use Rattle.portal_base.specs.Counted.{script_moments, told_below_last};
+    ghost use Rattle.portal_base.specs.Counted.{script_moments, given_below_max};
 
-    ghost given = { told_below_last script_moments };
+    ghost given = { given_below_max script_moments };
 
     fn now(&mut self) -> Moment
         ensures moment { result ≡ script_moment self.old }
@@ -51,8 +52,8 @@ impl Clock for ScriptClock {
     }
 }
 
-/// What draws 1, 2, 3 and so on, up to the last number of a `u64`. A contract sees it as the number drawn last. At the
-/// last number it stays, and tells no more what it gave.
+/// A source of the nonces 1, 2, 3 and so on, up to the maximum of a `u64`. A contract sees it as the last nonce. At the
+/// maximum it repeats that nonce, and the nonces given are not observable.
 #[derive(Drop)]
 pub struct CountNonces {
     last: u64,
@@ -75,9 +76,9 @@ impl CountNonces {
 }
 
 impl Nonces for CountNonces {
-    ghost use Rattle.portal_base.specs.Counted.{numbers_to, told_below_last};
+    ghost use Rattle.portal_base.specs.Counted.{numbers_to, given_below_max};
 
-    ghost given = { told_below_last numbers_to };
+    ghost given = { given_below_max numbers_to };
 
     fn next(&mut self) -> Nonce
         ensures number { result.0 ≡ self.new }
@@ -88,10 +89,10 @@ impl Nonces for CountNonces {
     }
 }
 
-/// A ticker that answers true so many times, and false from then on.
+/// A ticker that returns true a fixed number of times, and false from then on.
 #[derive(Drop)]
 pub struct CountTicker {
-    most: u64,
+    limit: u64,
     count: u64,
     has_ended: bool,
 }
@@ -102,17 +103,17 @@ impl Model for CountTicker {
 
     ghost Value = { Ticking };
 
-    ghost view = { λ t. record { most = t.most; count = t.count; has_ended = t.has_ended } };
+    ghost view = { λ t. record { limit = t.limit; count = t.count; has_ended = t.has_ended } };
 
-    ghost invariant = { λ t. t.has_ended ≡ true → t.most ≤ t.count };
+    ghost invariant = { λ t. t.has_ended ≡ true → t.limit ≤ t.count };
 }
 
 impl CountTicker {
     pub fn new(count: u64) -> CountTicker
-        ensures { result ≡ record { most = count; count = 0; has_ended = false } }
+        ensures { result ≡ record { limit = count; count = 0; has_ended = false } }
     {
         CountTicker {
-            most: count,
+            limit: count,
             count: 0,
             has_ended: false,
         }
@@ -125,13 +126,13 @@ impl Ticker for CountTicker {
     ghost has_ended = { λ t. t.has_ended };
 
     fn tick(&mut self) -> bool
-        ensures answer { result ≡ nat_lt self.old.count self.old.most }
-        ensures most { self.new.most ≡ self.old.most }
+        ensures answer { result ≡ nat_lt self.old.count self.old.limit }
+        ensures limit { self.new.limit ≡ self.old.limit }
         ensures count { self.new.count ≡ (if result then next_count self.old.count else self.old.count) }
         ensures end { self.new.has_ended ≡ not result }
         ensures ended { self.old.has_ended ≡ true → result ≡ false }
     {
-        if self.count >= self.most {
+        if self.count >= self.limit {
             self.has_ended = true;
             return false;
         }

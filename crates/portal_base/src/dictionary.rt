@@ -1,4 +1,4 @@
-//! Dictionaries, each made in one call from its members in order.
+//! JSON dictionaries, each made in one call from its members.
 ghost use Rattle.std.specs.Prelude.{◌≡◌, map, IfOk, IsTrue};
 ghost use Rattle.portal_base.specs.declared.json_value.Json.{Map};
 ghost use Rattle.portal_base.specs.Json.{IsOrderly, data_of, members_data};
@@ -11,25 +11,25 @@ use crate::seq::Seq;
 use crate::text::Text;
 use std::alloc::{AllocError, Global};
 
-/// What the value of a member is made from.
+/// What the value of a member is made of.
 #[derive(Drop)]
 pub enum Value<'a> {
     Truth(bool),
     Whole(usize),
-    /// A text that stands in the program, of which no copy is made.
+    /// A string of the program, which is not copied.
     Static(&'static str),
     /// A string that is copied.
     Str(&'a str),
-    /// A text that is copied, unless it stands in the program.
+    /// A text that is copied, unless its bytes are in the program.
     Text(&'a Text),
-    /// A moment, which is written as a text.
+    /// A moment, which becomes its text.
     Moment(Moment),
     List(Seq<Json>),
     Json(Json),
 }
 
 impl<'a> Value<'a> {
-    /// The value that is made.
+    /// The JSON value, or `AllocError` if memory runs out.
     pub fn into_json(self, alloc: Global) -> Result<Json, AllocError>
         ensures { IfOk result (λ json. json ≡ value_json self.entry) }
     {
@@ -46,7 +46,7 @@ impl<'a> Value<'a> {
     }
 }
 
-/// What a member of a dictionary is made from: a key that stands in the program, and a `Value`.
+/// What a member of a dictionary is made of: a key that is in the program, and a `Value`.
 pub trait IntoMember {
     ghost use Rattle.std.specs.Prelude.{ℕ, List};
     ghost use Rattle.portal_base.specs.declared.json_value.Json.{Json};
@@ -54,7 +54,7 @@ pub trait IntoMember {
     /// The key and the value.
     ghost member: { Self → List ℕ × Json };
 
-    /// The member, or `AllocError` for want of memory.
+    /// The member, or `AllocError` if memory runs out.
     fn into_member(self, alloc: Global) -> Result<(Text, Json), AllocError>
         ensures { IfOk result (λ made. made ≡ member self) };
 }
@@ -70,8 +70,8 @@ impl<'a> IntoMember for (&'static str, Value<'a>) {
 }
 
 impl Json {
-    /// The dictionary of these members, whose keys strictly ascend by bytes. `AllocError` comes for want of memory
-    /// alone.
+    /// The dictionary of these members. Their keys must strictly ascend by bytes. The only error is `AllocError`, if
+    /// memory runs out.
     pub fn dictionary<M: IntoMember + Drop, const N: usize>(
         alloc: Global,
         members: [M; N],
@@ -82,13 +82,13 @@ impl Json {
         ensures orderly { ValuesAreOrderly (members_data (map M.member members)) →
             IfOk result (λ json. IsOrderly (data_of json)) }
     {
-        let made = all_made(alloc, members)?;
+        let made = made_members(alloc, members)?;
         Ok(Json::Map(made))
     }
 }
 
 /// Each member, in order.
-fn all_made<M: IntoMember + Drop, const N: usize>(
+fn made_members<M: IntoMember + Drop, const N: usize>(
     alloc: Global,
     members: [M; N],
 ) -> Result<Seq<(Text, Json)>, AllocError>

@@ -13,7 +13,7 @@ use serde_json::Value;
 use std::alloc::{AllocError, Global};
 use thiserror::Error;
 
-/// A JSON value (RFC 8259) without fractions.
+/// A JSON value (RFC 8259) whose numbers are whole.
 #[derive(Drop)]
 pub enum Json {
     Null,
@@ -24,10 +24,10 @@ pub enum Json {
     Map(Seq<(Text, Json)>),
 }
 
-/// Why bytes are read as no `Json`.
+/// Why bytes cannot be read as a `Json`.
 #[derive(Debug, Drop, Error, Clone, Copy, PartialEq, Eq)]
 pub enum JsonFault {
-    /// They are not the UTF-8 text of one JSON value that nests at most 127 levels.
+    /// The bytes are not the UTF-8 text of one JSON value of at most 127 levels.
     #[error("not JSON")]
     NotJson,
     /// A number is neither an `i64` nor a `u64`.
@@ -49,8 +49,8 @@ impl From<AllocError> for JsonFault {
 }
 
 impl Json {
-    /// Reads a JSON text (RFC 8259) in UTF-8. Of equal keys of an object the last value alone counts, and the keys
-    /// come out ascending by bytes.
+    /// Reads a JSON text (RFC 8259) in UTF-8. If an object repeats a key, its last value counts. The keys of the result
+    /// ascend by bytes.
     pub fn read(alloc: Global, bytes: &[u8]) -> Result<Json, JsonFault>
         ensures value { IfOk result (λ j. json_reading bytes.now ≡ Ok j) }
         ensures fault { IfErr result (λ fault. (fault ≡ JsonFault.OutOfMemory)
@@ -64,8 +64,8 @@ impl Json {
         }
     }
 
-    /// The text with no space (RFC 8259, section 2). A map is written in the order of its list, and a whole number
-    /// as its decimal digits.
+    /// The JSON text without white space (RFC 8259, section 2). A map keeps the order of its entries, and a number is
+    /// its decimal digits. The only error is `AllocError`, if memory runs out.
     pub fn text(&self, alloc: Global) -> Result<Text, AllocError>
         ensures text { IfOk result (λ t. t ≡ json_text self.now) }
         ensures reads_back { IfOk result
@@ -77,7 +77,7 @@ impl Json {
         }
     }
 
-    /// Takes out what `get` gives, and lets the rest go.
+    /// Moves out the value that `get` returns, and drops the rest.
     pub fn take(self, key: &str) -> Option<Json>
         ensures { result ≡ member_of key.now self }
     {
@@ -87,7 +87,7 @@ impl Json {
         }
     }
 
-    /// The value of a map's first entry with that key. What is no map has none.
+    /// The value of the first entry with that key, if this is a map that has one.
     pub fn get(&self, key: &str) -> Option<&Json>
         ensures { option_copied result ≡ member_of key.now self.now }
     {

@@ -1,16 +1,16 @@
 //! The values of a body's keys, read by their kinds.
 //!
-//! What reads a value (`text_in`) gives what it is as that kind, or nothing. What reads a key (`text_at`) gives
-//! nothing where the key is absent, and tells the first fault in the order kind, bound. `required` tells that a
-//! key is missing.
+//! A function that reads a value (`text_in`) returns it as that kind, or `None`. A function that reads a key
+//! (`text_at`) returns `None` if the key is absent, and otherwise the value or its first fault: the kind is checked
+//! before the bound. `required` refuses an absent key.
 ghost use Rattle.std.specs.Prelude.{◌≡◌, ◌<◌, ◌∷◌, ◌++◌, [], IfOk, OnOk, IfNone, IfSome, filter, length};
 ghost use Rattle.std.specs.Char.{is_ascii_digit};
 ghost use Rattle.std.specs.List.{list_all};
 ghost use Rattle.std.specs.Option.{option_copied};
 ghost use Rattle.std.specs.Result.{result_map_both};
 ghost use Rattle.portal_base.specs.Kinds.{present, text_in, list_in, dictionary_in, is_digits, digits_spelled};
-ghost use Rattle.portal_base.specs.Kinds.{whole_spelled, whole_in, count_in, truth_spelled, truth_in, past_blanks};
-ghost use Rattle.portal_base.specs.Kinds.{before_blanks, trimmed, has_byte, texts_spelled, all_of, texts_in, text_at};
+ghost use Rattle.portal_base.specs.Kinds.{whole_spelled, whole_in, count_in, truth_spelled, truth_in, trimmed_start};
+ghost use Rattle.portal_base.specs.Kinds.{trimmed_end, trimmed, is_nonempty, texts_spelled, all_of, texts_in, text_at};
 ghost use Rattle.portal_base.specs.Kinds.{whole_at, count_at, truth_at, texts_at, list_at, dictionary_at};
 ghost use Rattle.portal_base.specs.Kinds.{short_text_at, required, message_of};
 
@@ -22,22 +22,22 @@ use std::alloc::{AllocError, Global};
 /// Why a key of a body is refused.
 #[derive(Clone, Copy, Debug, PartialEq, Eq)]
 pub enum KindFault {
-    /// It is absent, or its value is null.
+    /// The key is absent, or its value is null.
     Missing,
     NotText,
-    /// It is no whole number, or one below 0.
+    /// The value is not a whole number, or it is below 0.
     NotWholeFromZero,
     NotWhole,
     NotTruth,
     NotTexts,
     NotList,
     NotDictionary,
-    /// Its text has more bytes of UTF-8 than this.
+    /// The text has more bytes of UTF-8 than this.
     Longer(usize),
 }
 
 impl KindFault {
-    /// What a caller is told of it. Only the text of a bound takes memory.
+    /// The message for the caller. Only that of `Longer` takes memory.
     pub fn message(&self, alloc: Global) -> Result<Text, AllocError>
         ensures { IfOk result (λ text. text ≡ message_of self.now) }
     {
@@ -65,7 +65,7 @@ fn longer_than(alloc: Global, longest: usize) -> Result<Text, AllocError>
 
 // ---- values
 
-/// The value of a dictionary's key. One that is null counts as absent.
+/// The value of a dictionary's key. A null value counts as absent.
 pub fn present<'a>(body: &'a Json, key: &str) -> Option<&'a Json>
     ensures { option_copied result ≡ present key.now body.now }
 {
@@ -75,7 +75,7 @@ pub fn present<'a>(body: &'a Json, key: &str) -> Option<&'a Json>
     }
 }
 
-/// A text.
+/// The value as a text.
 pub fn text_in(value: &Json) -> Option<&Text>
     ensures { option_copied result ≡ text_in value.now }
 {
@@ -116,7 +116,7 @@ pub fn whole_in(value: &Json) -> Option<i128>
     }
 }
 
-/// As `whole_in`, if it isn't negative.
+/// The value as `whole_in` reads it, if it is not negative.
 pub fn count_in(value: &Json) -> Option<u128>
     ensures { result ≡ count_in value.now }
 {
@@ -137,8 +137,8 @@ pub fn truth_in(value: &Json) -> Option<bool>
     }
 }
 
-/// A list of texts as it is; or the parts of one text between its commas, without the spaces and tabs at their
-/// ends, of which the empty ones are dropped.
+/// A list of texts, unchanged; or the parts of one text between its commas. Spaces and tabs around a part are dropped,
+/// and so are empty parts.
 pub fn texts_in(alloc: Global, value: &Json) -> Result<Option<Seq<Text>>, AllocError>
     ensures { IfOk result (λ texts. texts ≡ texts_in value.now) }
 {
@@ -149,7 +149,7 @@ pub fn texts_in(alloc: Global, value: &Json) -> Result<Option<Seq<Text>>, AllocE
     }
 }
 
-// The whole number that a text spells.
+// Parses a whole number.
 fn whole_spelled(text: &str) -> Option<i128>
     ensures { result ≡ whole_spelled text.now }
 {
@@ -159,7 +159,7 @@ fn whole_spelled(text: &str) -> Option<i128>
     }
 }
 
-// The number that 1 to 18 digits spell.
+// Parses 1 to 18 digits.
 fn digits_spelled(text: &str) -> Option<u64>
     ensures { result ≡ digits_spelled text.now }
 {
@@ -182,7 +182,7 @@ fn has_digits_alone(bytes: &[u8]) -> bool
     bytes.iter().all(|byte| byte.is_ascii_digit())
 }
 
-// The truth value that a text spells.
+// Parses a truth value.
 fn truth_spelled(text: &str) -> Option<bool>
     ensures { result ≡ truth_spelled text.now }
 {
@@ -193,7 +193,7 @@ fn truth_spelled(text: &str) -> Option<bool>
     }
 }
 
-// The items, if each is a text.
+// The items, if all are texts.
 fn all_texts(alloc: Global, items: &[Json]) -> Result<Option<Seq<Text>>, AllocError>
     ensures { IfOk result (λ texts. texts ≡ all_of text_in items.now) }
 {
@@ -207,7 +207,7 @@ fn all_texts(alloc: Global, items: &[Json]) -> Result<Option<Seq<Text>>, AllocEr
     Ok(Some(Seq::from(texts)))
 }
 
-// The texts between the commas.
+// Splits a text at its commas, trims the parts and drops the empty ones.
 fn texts_spelled(alloc: Global, text: &str) -> Result<Seq<Text>, AllocError>
     ensures { IfOk result (λ texts. texts ≡ texts_spelled text.now) }
 {
@@ -218,9 +218,9 @@ fn texts_spelled(alloc: Global, text: &str) -> Result<Seq<Text>, AllocError>
     Ok(Seq::from(texts))
 }
 
-// Adds the part, unless it is empty.
+// Adds the part if it is not empty.
 fn push_part(alloc: Global, texts: &mut Vec<Text>, part: &str) -> Result<(), AllocError>
-    ensures { OnOk result (texts.new.items ≡ texts.old.items ++ filter has_byte (part.now ∷ [])) }
+    ensures { OnOk result (texts.new.items ≡ texts.old.items ++ filter is_nonempty (part.now ∷ [])) }
 {
     if !part.is_empty() {
         texts.push(Text::from_str(alloc, part)?)?;
@@ -228,32 +228,32 @@ fn push_part(alloc: Global, texts: &mut Vec<Text>, part: &str) -> Result<(), All
     Ok(())
 }
 
-// The text without the spaces and tabs at its ends.
+// The text without the spaces and tabs at both ends.
 fn trimmed(text: &str) -> &str
     ensures { result.now ≡ trimmed text.now }
 {
-    let mut rest = past_blanks(text);
-    while let Some(before) = before_blank(rest) {
+    let mut rest = trimmed_start(text);
+    while let Some(before) = strip_trailing_blank(rest) {
         rest = before;
     }
     rest
 }
 
-// The text without the spaces and tabs in front.
-fn past_blanks(text: &str) -> &str
-    ensures { result.now ≡ past_blanks text.now }
+// The text without the spaces and tabs at its start.
+fn trimmed_start(text: &str) -> &str
+    ensures { result.now ≡ trimmed_start text.now }
 {
     let mut rest = text;
-    while let Some(behind) = after_blank(rest) {
-        rest = behind;
+    while let Some(after) = strip_leading_blank(rest) {
+        rest = after;
     }
     rest
 }
 
-// The text behind a space or a tab in front.
-fn after_blank(text: &str) -> Option<&str>
-    ensures none { IfNone result (past_blanks text.now ≡ text.now) }
-    ensures some { IfSome result (λ rest. past_blanks text.now ≡ past_blanks rest.now) }
+// The text after one leading space or tab.
+fn strip_leading_blank(text: &str) -> Option<&str>
+    ensures none { IfNone result (trimmed_start text.now ≡ text.now) }
+    ensures some { IfSome result (λ rest. trimmed_start text.now ≡ trimmed_start rest.now) }
     ensures shorter { IfSome result (λ rest. length rest.now < length text.now) }
 {
     match text.strip_prefix(' ') {
@@ -262,10 +262,10 @@ fn after_blank(text: &str) -> Option<&str>
     }
 }
 
-// The text before a space or a tab at the end.
-fn before_blank(text: &str) -> Option<&str>
-    ensures none { IfNone result (before_blanks text.now ≡ text.now) }
-    ensures some { IfSome result (λ rest. before_blanks text.now ≡ before_blanks rest.now) }
+// The text before one trailing space or tab.
+fn strip_trailing_blank(text: &str) -> Option<&str>
+    ensures none { IfNone result (trimmed_end text.now ≡ text.now) }
+    ensures some { IfSome result (λ rest. trimmed_end text.now ≡ trimmed_end rest.now) }
     ensures shorter { IfSome result (λ rest. length rest.now < length text.now) }
 {
     match text.strip_suffix(' ') {
@@ -276,7 +276,7 @@ fn before_blank(text: &str) -> Option<&str>
 
 // ---- keys of a body
 
-/// The text of a key, where it is there.
+/// The text of a key, if the key is present.
 pub fn text_at<'a>(body: &'a Json, key: &str) -> Result<Option<&'a Text>, KindFault>
     ensures { result_map_both option_copied (λ fault. fault) result ≡ text_at key.now body.now }
 {
@@ -289,7 +289,7 @@ pub fn text_at<'a>(body: &'a Json, key: &str) -> Result<Option<&'a Text>, KindFa
     }
 }
 
-/// The text of a key, which has no more than `longest` bytes, where it is there.
+/// The text of a key, of at most `longest` bytes of UTF-8, if the key is present.
 pub fn short_text_at<'a>(
     body: &'a Json,
     key: &str,
@@ -303,7 +303,7 @@ pub fn short_text_at<'a>(
     }
 }
 
-/// The whole number of a key, where it is there.
+/// The whole number of a key, if the key is present.
 pub fn whole_at(body: &Json, key: &str) -> Result<Option<i128>, KindFault>
     ensures { result ≡ whole_at key.now body.now }
 {
@@ -316,7 +316,7 @@ pub fn whole_at(body: &Json, key: &str) -> Result<Option<i128>, KindFault>
     }
 }
 
-/// The whole number of a key, which isn't negative, where it is there.
+/// The whole number of a key, which is not negative, if the key is present.
 pub fn count_at(body: &Json, key: &str) -> Result<Option<u128>, KindFault>
     ensures { result ≡ count_at key.now body.now }
 {
@@ -329,7 +329,7 @@ pub fn count_at(body: &Json, key: &str) -> Result<Option<u128>, KindFault>
     }
 }
 
-/// The truth value of a key, where it is there.
+/// The truth value of a key, if the key is present.
 pub fn truth_at(body: &Json, key: &str) -> Result<Option<bool>, KindFault>
     ensures { result ≡ truth_at key.now body.now }
 {
@@ -342,7 +342,7 @@ pub fn truth_at(body: &Json, key: &str) -> Result<Option<bool>, KindFault>
     }
 }
 
-/// The texts of a key, where it is there. Want of memory says nothing of the body.
+/// The texts of a key, if the key is present. The outer error is `AllocError`, if memory runs out.
 pub fn texts_at(
     alloc: Global,
     body: &Json,
@@ -359,7 +359,7 @@ pub fn texts_at(
     }
 }
 
-/// The list of a key, where it is there.
+/// The list of a key, if the key is present.
 pub fn list_at<'a>(body: &'a Json, key: &str) -> Result<Option<&'a Seq<Json>>, KindFault>
     ensures { result_map_both option_copied (λ fault. fault) result ≡ list_at key.now body.now }
 {
@@ -372,7 +372,7 @@ pub fn list_at<'a>(body: &'a Json, key: &str) -> Result<Option<&'a Seq<Json>>, K
     }
 }
 
-/// The entries of the dictionary of a key, where it is there.
+/// The entries of the dictionary of a key, if the key is present.
 pub fn dictionary_at<'a>(
     body: &'a Json,
     key: &str,
@@ -388,7 +388,7 @@ pub fn dictionary_at<'a>(
     }
 }
 
-/// What a key has, which has to be there.
+/// The value of a key, or `Missing` if it is absent.
 pub fn required<T>(found: Option<T>) -> Result<T, KindFault>
     ensures { result ≡ required found }
 {

@@ -1,10 +1,10 @@
-//! A source that is lent.
+//! A source over a borrowed source.
 ghost use Rattle.std.specs.Prelude.{◌≡◌};
 
 use crate::outside::{Failed, Source};
 
-/// A source that belongs to somebody else, with its bytes and its count of faults. Reads keep the loan, so when this
-/// is dropped the lender is as they left it.
+/// A source that borrows another one and has its bytes and its count of faults. Reads keep the loan, so after a drop
+/// the lender is as the last read left it.
 #[derive(Drop)]
 pub struct Lent<'a, S: Source> {
     source: &'a mut S,

@@ -1,4 +1,4 @@
-//! What every layer of the portal stands on: texts, lists, names, moments, JSON, and the outside as traits.
+//! The base of every layer of the portal: texts, lists, names, moments, JSON, and traits for the outside devices.
 #![tactic(auto)]
 
 pub mod calendar;
@@ -7,8 +7,8 @@ pub mod characters;
 pub mod copy;
 pub mod counted;
 pub mod dictionary;
-pub mod faults;
 pub mod json_value;
+pub mod key_errors;
 pub mod kind_laws;
 pub mod kinds;
 pub mod lent;

@@ -1,12 +1,12 @@
-//! Devices in memory, which fail at planned calls. Each says exactly what each call does.
+//! Devices in memory, which fail at planned calls. The contracts fix what each call does.
 
+mod buffers;
 mod fetcher;
 mod link;
 mod listener;
 mod plan;
 mod sink;
 mod source;
-mod stores;
 
 pub use fetcher::{MemoryFetcher, are_distinct};
 pub use link::MemoryLink;

@@ -40,7 +40,7 @@ impl Model for Moment {
 }
 
 impl Moment {
-    /// The moment that many seconds after 1970-01-01T00:00:00, if it is in a year from 0000 to 9999.
+    /// The moment `seconds` seconds after 1970-01-01T00:00:00, if its year is 0000 to 9999.
     pub fn from_seconds(seconds: i64) -> Option<Moment>
         ensures within { IsSome result ↔ IsMoment seconds }
         ensures same { IfSome result (λ moment. moment ≡ seconds) }
@@ -52,8 +52,8 @@ impl Moment {
         }
     }
 
-    /// The moment of a date `YYYY-MM-DD` and a time `hh:mm:ss` (ISO 8601, sections 5.2.1.1 and 5.3.1.1), if the
-    /// calendar has the one and the clock the other.
+    /// The moment of a date `YYYY-MM-DD` and a time `hh:mm:ss` (ISO 8601, sections 5.2.1.1 and 5.3.1.1). The result is
+    /// `None` if either cannot be read.
     pub fn at(date: &[u8], time: &[u8]) -> Option<Moment>
         ensures { result ≡ moment_at date.now time.now }
     {
@@ -62,8 +62,8 @@ impl Moment {
         Moment::from_seconds(i64::from(day) * 86_400 + i64::from(second))
     }
 
-    /// The moment that a text `YYYY-MM-DDThh:mm:ss` (ISO 8601, section 5.4.2.1) names, if the text has just that form
-    /// and the calendar has the day. It is the one text of its moment.
+    /// Reads a moment `YYYY-MM-DDThh:mm:ss` (ISO 8601, section 5.4.2.1). Other forms, and dates and times that do not
+    /// exist, are refused. Each moment has exactly one text.
     pub fn read(text: &str) -> Option<Moment>
         ensures { result ≡ moment_reading text.now }
     {
@@ -81,7 +81,7 @@ impl Moment {
         self.seconds
     }
 
-    /// The moment as `YYYY-MM-DDThh:mm:ss` (ISO 8601, section 5.4.2.1), in UTC without a sign for it.
+    /// The moment as `YYYY-MM-DDThh:mm:ss` (ISO 8601, section 5.4.2.1), in UTC without a zone designator.
     pub fn text(&self, alloc: Global) -> Result<Text, AllocError>
         ensures text { IfOk result (λ text. text ≡ moment_text self.now) }
         ensures civil { IfOk result (λ text. IsMomentText self.now text) }
@@ -97,7 +97,7 @@ impl Moment {
 fn civil_of(moment: Moment) -> DateTime
     ensures within { IsMoment moment }
     ensures second { civil_seconds result ≡ moment }
-    ensures whole { result.time.subsec_nanosecond ≡ 0 }
+    ensures no_fraction { result.time.subsec_nanosecond ≡ 0 }
 {
     let start = date(1970, 1, 1).to_datetime(Time::midnight());
     start

@@ -1,4 +1,4 @@
-//! Numbers drawn for ids, and the ids that they give.
+//! Nonces, and the ids made of them.
 ghost use Rattle.std.specs.Prelude.{◌≡◌, IfOk};
 ghost use Rattle.portal_base.specs.Id.{id_text};
 
@@ -6,11 +6,11 @@ use crate::text::Text;
 use std::alloc::{AllocError, Global};
 use uuid::Uuid;
 
-/// A number of 128 bits that is drawn for one call.
+/// A random number of 128 bits, drawn for one call.
 #[derive(Clone, Copy, Debug, PartialEq, Eq)]
 pub struct Nonce(pub u128);
 
-/// The id of that number: its bits as the text of a UUID (RFC 9562, section 4), in lower case.
+/// The id of a nonce: its bits as the text of a UUID (RFC 9562, section 4), in lower case.
 pub fn id_of(alloc: Global, nonce: Nonce) -> Result<Text, AllocError>
     ensures { IfOk result (λ id. id ≡ id_text nonce.0) }
 {

@@ -1,13 +1,12 @@
-//! Laws of lists in ascending order: functions with an empty body, whose contracts are the laws.
+//! Laws of ordered lists. Each law is the contract of a function with an empty body.
 ghost use Rattle.std.specs.Prelude.{◌≡◌, Bool, false, List, Some, None, filter, if◌then◌else◌};
 ghost use Rattle.std.specs.declared.cmp.Ordering.TheVariants.{Equal};
 ghost use Rattle.std.specs.Ordering.{is_eq};
-ghost use Rattle.portal_base.specs.Ordered.{IsAscending, inserted, found, removed, dropped, placed};
+ghost use Rattle.portal_base.specs.Ordered.{IsAscending, inserted, found, removed, dropped, upserted};
 
 use crate::ordered::{Key, Ordered};
 
-/// What is inserted where nothing was at its key is found there, and the list still ascends. At other keys all is
-/// found as before.
+/// An item inserted under a new key is found at it, and the list still ascends. Look-ups of other keys do not change.
 pub fn what_is_inserted_is_found<T: Ordered, K: Key<T>>()
     ensures found { (key : K) (item : T) (items : List T) → K.at key item ≡ Equal → found (K.at key) items ≡ None →
         found (K.at key) (inserted T.order item items) ≡ Some item }
@@ -17,7 +16,7 @@ pub fn what_is_inserted_is_found<T: Ordered, K: Key<T>>()
         IsAscending T.order items → IsAscending T.order (inserted T.order item items) }
 {}
 
-/// What is removed isn't found, and the list still ascends. At other keys all is found as before.
+/// After a removal nothing is found at the key, and the list still ascends. Look-ups of other keys do not change.
 pub fn what_is_removed_is_not_found<T: Ordered, K: Key<T>>()
     ensures found { (key : K) (items : List T) → IsAscending T.order items →
         found (K.at key) (removed (K.at key) items) ≡ None }
@@ -28,7 +27,7 @@ pub fn what_is_removed_is_not_found<T: Ordered, K: Key<T>>()
         IsAscending T.order (removed (K.at key) items) }
 {}
 
-/// A removal undoes an insertion, and an insertion a removal.
+/// A removal undoes an insertion, and an insertion undoes a removal.
 pub fn insertion_and_removal_undo_each_other<T: Ordered, K: Key<T>>()
     ensures inserted { (key : K) (item : T) (items : List T) → K.at key item ≡ Equal →
         found (K.at key) items ≡ None → removed (K.at key) (inserted T.order item items) ≡ items }
@@ -36,19 +35,18 @@ pub fn insertion_and_removal_undo_each_other<T: Ordered, K: Key<T>>()
         found (K.at key) items ≡ Some item → inserted T.order item (removed (K.at key) items) ≡ items }
 {}
 
-/// What is placed is found at its key, whatever was there before, and the list still ascends. At other keys all is
-/// found as before.
-pub fn what_is_placed_is_found<T: Ordered, K: Key<T>>()
+/// An upserted item is found at its key, and the list still ascends. Look-ups of other keys do not change.
+pub fn what_is_upserted_is_found<T: Ordered, K: Key<T>>()
     ensures found { (key : K) (item : T) (items : List T) → K.at key item ≡ Equal →
-        found (K.at key) (placed T.order item items) ≡ Some item }
+        found (K.at key) (upserted T.order item items) ≡ Some item }
     ensures others { (key : K) (item : T) (items : List T) → is_eq (K.at key item) ≡ false →
-        found (K.at key) (placed T.order item items) ≡ found (K.at key) items }
+        found (K.at key) (upserted T.order item items) ≡ found (K.at key) items }
     ensures ascends { (item : T) (items : List T) → IsAscending T.order items →
-        IsAscending T.order (placed T.order item items) }
+        IsAscending T.order (upserted T.order item items) }
 {}
 
-/// What is dropped isn't found, and the list still ascends. At keys that no dropped item shares all is found as
-/// before. Of a list that ascends no more than the first item at the key is dropped.
+/// After the items at a key are dropped nothing is found at it, and the list still ascends. Look-ups of keys that no
+/// dropped item has do not change. In an ascending list only the first item at the key is dropped.
 pub fn what_is_dropped_is_not_found<T: Ordered, K: Key<T>>()
     ensures found { (key : K) (items : List T) → found (K.at key) (dropped (K.at key) items) ≡ None }
     ensures others { (key other : K) (items : List T) →
@@ -60,12 +58,12 @@ pub fn what_is_dropped_is_not_found<T: Ordered, K: Key<T>>()
         dropped (K.at key) items ≡ removed (K.at key) items }
 {}
 
-/// What a test keeps of a changed list is the list that it kept, changed alike. Where it doesn't keep the item that
-/// is placed, what is like that item is dropped.
+/// To filter a changed list is to change the filtered list in the same way. If the filter drops the upserted item, the
+/// filtered list loses the item with its key.
 pub fn what_is_kept_changes_alike<T: Ordered, K: Key<T>>()
-    ensures placed { (keeps : T → Bool) (item : T) (items : List T) → IsAscending T.order items →
-        filter keeps (placed T.order item items) ≡
-        (if keeps item then placed T.order item (filter keeps items)
+    ensures upserted { (keeps : T → Bool) (item : T) (items : List T) → IsAscending T.order items →
+        filter keeps (upserted T.order item items) ≡
+        (if keeps item then upserted T.order item (filter keeps items)
         else dropped (λ other. T.order other item) (filter keeps items)) }
     ensures dropped { (keeps : T → Bool) (key : K) (items : List T) →
         filter keeps (dropped (K.at key) items) ≡ dropped (K.at key) (filter keeps items) }

@@ -1,7 +1,7 @@
-//! The outside: what gives bytes, takes bytes, fetches, listens, ticks, tells the time and draws numbers, as traits.
+//! Traits for the devices outside the portal: sources, sinks, links, fetchers, listeners, tickers, clocks and nonces.
 //!
-//! Each says by its ghost members what it tells of itself. Content is claimed only where it tells; a count
-//! of faults always is.
+//! The ghost members of a trait are what is observable of a device. Content is an `Option`: it is none for a device
+//! whose content is not observable, and then no clause claims anything of it. The count of faults is always observable.
 ghost use Rattle.std.specs.Prelude.{◌≡◌, ◌↔◌, ◌<◌, ◌≤◌, ℕ, ℤ, Bool, true, false, not, if◌then◌else◌, List, [], Option};
 ghost use Rattle.std.specs.Prelude.{None, Ok, length, take, IsTrue, IsNone, IfSome, IfOk, OnErr, IsErrOf};
 ghost use Rattle.portal_base.specs.Counted.{next_count};
@@ -13,22 +13,22 @@ use crate::nonce::Nonce;
 use std::alloc::Global;
 use thiserror::Error;
 
-/// A device failed. Its count of faults rose.
+/// A device failed. Its count of faults rose, or is at the maximum of a `u64`.
 #[derive(Clone, Copy, Debug, PartialEq, Eq)]
 pub struct Failed;
 
-/// What bytes are read from.
+/// A source of bytes.
 pub trait Source {
-    /// The bytes still to come, where the source tells.
+    /// The bytes still to come, where they are observable.
     ghost to_come: { Self → Option (List ℕ) };
 
-    /// How many faults there were so far.
+    /// The number of faults so far, up to the maximum of a `u64`.
     ghost faults: { Self → ℕ };
 
-    /// The name of the loan, where the source is lent. Reads keep it, so that the lender is as they left it.
+    /// The name of the loan, if the source is borrowed. Reads keep it, so the lender is as the last read left it.
     ghost loan: { Self → Option ℕ } = { λ _. None };
 
-    /// Reads the next bytes into the front of `into`, and says how many. A read into a nonempty slice gives 0
+    /// Reads the next bytes into the start of `into`, and returns their number. A read into a nonempty slice returns 0
     /// only at the end.
     fn read(&mut self, into: &mut [u8]) -> Result<usize, Failed>
         ensures within { IfOk result (λ count. count ≤ length into.new) }
@@ -41,15 +41,15 @@ pub trait Source {
         ensures counts { faults self.old ≤ faults self.new };
 }
 
-/// What bytes are written to.
+/// A sink of bytes.
 pub trait Sink {
-    /// The bytes taken so far, where the sink tells.
+    /// The bytes taken so far, where they are observable.
     ghost taken: { Self → Option (List ℕ) };
 
-    /// How many faults there were so far.
+    /// The number of faults so far, up to the maximum of a `u64`.
     ghost faults: { Self → ℕ };
 
-    /// Takes bytes from the front of `piece`, and says how many: at least one, unless the piece is empty.
+    /// Takes bytes from the start of `piece`, and returns their number: at least 1, unless the piece is empty.
     fn write(&mut self, piece: &[u8]) -> Result<usize, Failed>
         ensures within { IfOk result (λ count. count ≤ length piece.now) }
         ensures some { 0 < length piece.now → IfOk result (λ count. 0 < count) }
@@ -60,18 +60,18 @@ pub trait Sink {
         ensures counts { faults self.old ≤ faults self.new };
 }
 
-/// What bytes are read from and written to, as a connection is. Reads and writes leave each other's bytes alone.
+/// A connection: a source and a sink of bytes. Reads do not change the bytes taken, nor writes the bytes to come.
 pub trait Link {
-    /// The bytes still to come, where the link tells.
+    /// The bytes still to come, where they are observable.
     ghost to_come: { Self → Option (List ℕ) };
 
-    /// The bytes taken so far, where the link tells.
+    /// The bytes taken so far, where they are observable.
     ghost taken: { Self → Option (List ℕ) };
 
-    /// How many faults there were so far.
+    /// The number of faults so far, up to the maximum of a `u64`.
     ghost faults: { Self → ℕ };
 
-    /// Reads the next bytes into the front of `into`, and says how many. A read into a nonempty slice gives 0
+    /// Reads the next bytes into the start of `into`, and returns their number. A read into a nonempty slice returns 0
     /// only at the end.
     fn read(&mut self, into: &mut [u8]) -> Result<usize, Failed>
         ensures within { IfOk result (λ count. count ≤ length into.new) }
@@ -83,7 +83,7 @@ pub trait Link {
         ensures failed { OnErr result (Rose (faults self.old) (faults self.new)) }
         ensures counts { faults self.old ≤ faults self.new };
 
-    /// Takes bytes from the front of `piece`, and says how many: at least one, unless the piece is empty.
+    /// Takes bytes from the start of `piece`, and returns their number: at least 1, unless the piece is empty.
     fn write(&mut self, piece: &[u8]) -> Result<usize, Failed>
         ensures within { IfOk result (λ count. count ≤ length piece.now) }
         ensures some { 0 < length piece.now → IfOk result (λ count. 0 < count) }
@@ -98,29 +98,29 @@ pub trait Link {
 /// Why nothing was fetched.
 #[derive(Debug, Drop, Error)]
 pub enum FetchFault {
-    /// The fetcher's count of faults rose.
+    /// The fetcher failed. Its count of faults rose, or is at the maximum of a `u64`.
     #[error("the fetch failed")]
     Failed,
-    /// Nothing is held at the location.
+    /// The fetcher has no bytes at the location.
     #[error("nothing is held there")]
     Missing,
-    /// More bytes are held at the location than were to be fetched.
+    /// The bytes at the location are more than the limit.
     #[error("it is too long")]
     TooLong,
     #[error("out of memory")]
     OutOfMemory,
 }
 
-/// What fetches the bytes that are held at a location.
+/// A fetcher of the bytes at a location.
 pub trait Fetcher {
-    /// The bytes that are held at each location, where the fetcher tells.
+    /// The bytes at each location, where they are observable.
     ghost held: { Self → Option (List ℕ → Option (List ℕ)) };
 
-    /// How many faults there were so far.
+    /// The number of faults so far, up to the maximum of a `u64`.
     ghost faults: { Self → ℕ };
 
-    /// The bytes at the location, where they are at most `limit`. Where the fetcher tells, `Missing` says that nothing
-    /// is held there, and `TooLong` that more bytes are. What is held stays the same.
+    /// The bytes at the location, if they are at most `limit`. Otherwise the error is `TooLong`, or `Missing` if there
+    /// are none; both are claimed where the contents are observable. The contents do not change.
     fn fetch(&mut self, alloc: Global, location: &str, limit: usize) -> Result<Vec<u8>, FetchFault>
         ensures bytes { IfOk result (λ bytes. HoldsAt (held self.old) location.now bytes.items) }
         ensures within { IfOk result (λ bytes. length bytes.items ≤ limit) }
@@ -131,30 +131,30 @@ pub trait Fetcher {
         ensures held { held self.new ≡ held self.old };
 }
 
-/// What links come from, one at a time: the link that is out is given back before the next is accepted. It is then
-/// neither still to come nor taken back.
+/// A listener, which gives one link at a time: a link is given back before the next is accepted. While it is out, it is
+/// neither to come nor taken back.
 pub trait Listener {
     type Peer: Link;
 
     /// Whether a link is out.
     ghost is_out: { Self → Bool };
 
-    /// Whether it stands at its end: no link is still to come, though one may be out.
+    /// Whether no link is still to come. One may be out.
     ghost is_at_end: { Self → Bool };
 
-    /// How many links it has taken back, up to the last value of a `u64`.
+    /// The number of links taken back, up to the maximum of a `u64`.
     ghost count: { Self → ℕ };
 
-    /// The links still to come, where the listener tells.
+    /// The links still to come, where they are observable.
     ghost to_come: { Self → Option (List Self.Peer) };
 
-    /// The links taken back, in order, where the listener tells.
+    /// The links taken back, in order, where they are observable.
     ghost taken_back: { Self → Option (List Self.Peer) };
 
-    /// How many faults there were so far.
+    /// The number of faults so far, up to the maximum of a `u64`.
     ghost faults: { Self → ℕ };
 
-    /// The next link, which is out from then on, or none exactly at the end. A fault changes nothing but its count.
+    /// The next link, which is then out, or `None` exactly at the end. A failed call changes only the count of faults.
     fn accept(&mut self) -> Result<Option<Self::Peer>, Failed>
         requires { is_out self.old ≡ false }
         ensures end { IfOk result (λ peer. IsNone peer ↔ IsTrue (is_at_end self.old)) }
@@ -168,7 +168,7 @@ pub trait Listener {
         ensures failed { OnErr result (Rose (faults self.old) (faults self.new)) }
         ensures counts { faults self.old ≤ faults self.new };
 
-    /// Takes the link back. It takes no memory and can't fail.
+    /// Takes the link back. It takes no memory and cannot fail.
     fn finish(&mut self, peer: Self::Peer)
         requires { is_out self.old ≡ true }
         ensures out { is_out self.new ≡ false }
@@ -178,46 +178,46 @@ pub trait Listener {
         ensures end { is_at_end self.new ≡ is_at_end self.old }
         ensures faults { faults self.new ≡ faults self.old };
 
-    /// Where it tells the links still to come, it stands at its end exactly where there is none.
+    /// Where the links still to come are observable, the listener is at its end exactly if there is none.
     ghost ends: { (listener : Self) → IfSome (to_come listener)
         (λ links. IsTrue (is_at_end listener) ↔ (links ≡ [])) };
 }
 
-/// What says when a round of work is due.
+/// A ticker, which says when a round of work is due.
 pub trait Ticker {
-    /// How often it has answered true, up to the last value of a `u64`.
+    /// How often `tick` returned true, up to the maximum of a `u64`.
     ghost count: { Self → ℕ };
 
-    /// Whether it has answered false.
+    /// Whether `tick` returned false.
     ghost has_ended: { Self → Bool };
 
-    /// Waits until a round is due, and answers true; or answers false, at the end and from then on.
+    /// Waits until a round is due, and returns true. At the end, and from then on, it returns false.
     fn tick(&mut self) -> bool
         ensures count { count self.new ≡ (if result then next_count (count self.old) else count self.old) }
         ensures end { has_ended self.new ≡ not result }
         ensures ended { has_ended self.old ≡ true → result ≡ false };
 }
 
-/// What tells the time.
+/// A clock.
 pub trait Clock {
-    /// The moments given so far, where the clock tells, as seconds since 1970-01-01T00:00:00.
+    /// The moments given so far, in seconds since 1970-01-01T00:00:00, where they are observable.
     ghost given: { Self → Option (List ℤ) };
 
     fn now(&mut self) -> Moment
         ensures { Draws (given self.old) result (given self.new) };
 }
 
-/// What draws numbers, of which two may be equal.
+/// A source of nonces. Two nonces may be equal.
 pub trait Nonces {
-    /// The numbers drawn so far, where they are told.
+    /// The nonces given so far, where they are observable.
     ghost given: { Self → Option (List ℕ) };
 
     fn next(&mut self) -> Nonce
         ensures { Draws (given self.old) result.0 (given self.new) };
 }
 
-/// What serves one caller after another: where their links come from, and what tells the time and draws numbers for
-/// them.
+/// What serves one caller after another: the listener that gives their links, and the clock and the nonces for their
+/// calls.
 #[derive(Drop)]
 pub struct Desk<L, C, N> {
     pub listener: L,

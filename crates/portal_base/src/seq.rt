@@ -1,4 +1,4 @@
-//! A list that owns its items, which contracts see as the list of them.
+//! A vector that contracts see as the list of its items.
 ghost use Rattle.std.specs.Prelude.{◌≡◌, ◌↔◌, [], ◌∷◌, ◌++◌, ◌<◌, length, slice_get, IfOk, OnOk, OnErr, IfErr};
 ghost use Rattle.std.specs.Prelude.{IsTrue, Some};
 ghost use Rattle.std.specs.Option.{option_copied};
@@ -25,7 +25,7 @@ impl<T> Model for Seq<T> {
 }
 
 impl<T> Seq<T> {
-    /// The empty list, which takes no memory until an item is pushed.
+    /// The empty list. It takes no memory before the first push.
     pub fn new(alloc: Global) -> Seq<T>
         ensures { result ≡ [] }
     {
@@ -34,7 +34,7 @@ impl<T> Seq<T> {
         }
     }
 
-    /// Adds an item at the end. For want of memory it is handed back.
+    /// Adds an item at the end. If memory runs out the item is returned, and nothing changes.
     pub fn push(&mut self, item: T) -> Result<(), T>
         ensures ok { OnOk result (self.new ≡ self.old ++ item ∷ []) }
         ensures err { IfErr result (λ back. back ≡ item) }
@@ -58,11 +58,11 @@ impl<T> Seq<T> {
         self.items.is_empty()
     }
 
-    pub fn at(&self, place: usize) -> &T
-        requires { place < length self.now }
-        ensures { slice_get self.now place ≡ Some result.now }
+    pub fn at(&self, index: usize) -> &T
+        requires { index < length self.now }
+        ensures { slice_get self.now index ≡ Some result.now }
     {
-        &self.items[place]
+        &self.items[index]
     }
 
     pub fn as_slice(&self) -> &[T]
@@ -71,7 +71,7 @@ impl<T> Seq<T> {
         self.items.as_slice()
     }
 
-    /// The items as a vector, which takes no memory.
+    /// The items as a vector. It takes no memory.
     pub fn into_vec(self) -> Vec<T>
         ensures { result.items ≡ self }
     {

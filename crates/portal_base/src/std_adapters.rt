@@ -1,4 +1,4 @@
-//! Sources and sinks over std's readers and writers. They tell nothing of the bytes.
+//! Sources and sinks over std's readers and writers. Their bytes are not observable.
 ghost use Rattle.std.specs.Prelude.{◌≡◌, ◌<◌, ◌≤◌, length, IfSome};
 
 use crate::outside::{Failed, Sink, Source};
@@ -6,7 +6,7 @@ use std::io::{Read, Write};
 use std::marker::Model;
 
 /// A source over a reader. Every error of the reader is a fault, also an interrupted read. A contract sees it as the
-/// number of faults so far, which stays at the last number of a `u64`.
+/// number of faults so far, up to the maximum of a `u64`.
 #[derive(Drop)]
 pub struct StdSource<R: Read> {
     reader: R,
@@ -47,9 +47,9 @@ impl<R: Read> Source for StdSource<R> {
     }
 }
 
-/// A sink over a writer. Bytes that the writer keeps back are flushed at each write, so that no later loss of them goes
-/// uncounted. Every error of the writer is a fault, and so is a write that takes nothing of a piece. A contract sees it
-/// as the number of faults so far, which stays at the last number of a `u64`.
+/// A sink over a writer. Each write flushes the writer, so that buffered bytes are not lost without a fault. Every
+/// error of the writer is a fault, and so is a write that takes no byte of a nonempty piece. A contract sees it as the
+/// number of faults so far, up to the maximum of a `u64`.
 #[derive(Drop)]
 pub struct StdSink<W: Write> {
     writer: W,
@@ -71,7 +71,7 @@ impl<W: Write> StdSink<W> {
         StdSink { writer, faults: 0 }
     }
 
-    // Writes and flushes. `None` is a failure.
+    // Writes and flushes. The result is `None` if either fails.
     fn write_through(&mut self, piece: &[u8]) -> Option<usize>
         ensures within { IfSome result (λ count. count ≤ length piece.now) }
         ensures some { 0 < length piece.now → IfSome result (λ count. 0 < count) }

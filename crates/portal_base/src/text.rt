@@ -1,4 +1,4 @@
-//! Texts, which contracts see as the lists of their bytes.
+//! Strings that contracts see as the lists of their bytes.
 ghost use Rattle.std.specs.Prelude.{◌≡◌, ◌↔◌, [], IsTrue, IfOk, length, Some, nat_eq, refl};
 ghost use Rattle.std.specs.Ordering.{nat_cmp};
 ghost use Rattle.std.specs.Cmp.{partial_equiv_from_equiv};
@@ -10,16 +10,16 @@ use std::alloc::{AllocError, Global};
 use std::cmp::Ordering;
 use std::marker::Model;
 
-/// A string whose bytes, which are UTF-8, it owns or stand in the program. A contract sees it as the list of them.
+/// A UTF-8 string. It owns its bytes, or they are in the program. A contract sees it as the list of its bytes.
 #[derive(Debug)]
 pub struct Text {
     bytes: Bytes,
 }
 
-/// Where the bytes of a text stand.
+/// The bytes of a text.
 #[derive(Debug, Drop)]
 enum Bytes {
-    /// In memory of their own.
+    /// On the heap.
     Owned(String),
     /// In the program.
     Static(&'static str),
@@ -30,12 +30,12 @@ impl Model for Text {
 
     ghost Value = { List ℕ };
 
-    ghost use Rattle.portal_base.specs.Text.{bytes_at};
+    ghost use Rattle.portal_base.specs.Text.{text_bytes};
 
-    ghost view = { λ t. bytes_at t.bytes };
+    ghost view = { λ t. text_bytes t.bytes };
 }
 
-// Written out, so that whoever lets go of a text has one step to prove, and no case for each place of its bytes.
+// Written by hand, so that the proof of a function that drops a text has one step and not a case for each variant.
 impl Drop for Text {
     fn drop(self) {
         let Self { bytes: _bytes } = self;
@@ -43,14 +43,14 @@ impl Drop for Text {
 }
 
 impl Text {
-    /// The empty text, which takes no memory.
+    /// The empty text. It takes no memory.
     pub fn new(_alloc: Global) -> Text
         ensures { result ≡ [] }
     {
         Text::from_static("")
     }
 
-    /// A text that stands in the program. Neither it nor a copy of it takes memory.
+    /// A text whose bytes are in the program. Neither it nor a copy of it takes memory.
     pub fn from_static(text: &'static str) -> Text
         ensures { result ≡ text.now }
     {
@@ -59,7 +59,7 @@ impl Text {
         }
     }
 
-    /// A copy of `text`.
+    /// A copy of `text`, or `AllocError` if memory runs out.
     pub fn from_str(alloc: Global, text: &str) -> Result<Text, AllocError>
         ensures { IfOk result (λ t. t ≡ text.now) }
     {
@@ -84,7 +84,7 @@ impl Text {
         self.as_str().as_bytes()
     }
 
-    /// How many bytes it has.
+    /// The number of bytes.
     pub fn len(&self) -> usize
         ensures { result ≡ length self.now }
     {

@@ -9,8 +9,8 @@ use crate::text::Text;
 use caseless::default_case_fold_str;
 use std::alloc::{AllocError, Global};
 
-/// The tokens of a text, in its order: the longest runs of letters, marks and numbers (Unicode, section 4.5), each in
-/// full default case folding (section 3.13). Nothing is normalized.
+/// The tokens of a text, in order: the longest runs of letters, marks and numbers (Unicode, section 4.5), each in full
+/// default case folding (section 3.13). Nothing is normalized.
 pub fn tokens(alloc: Global, text: &str) -> Result<Seq<Text>, AllocError>
     ensures { IfOk result (λ found. found ≡ tokens text.now) }
 {
@@ -27,7 +27,7 @@ pub fn tokens(alloc: Global, text: &str) -> Result<Seq<Text>, AllocError>
     Ok(Seq::from(found))
 }
 
-/// Adds the token of a word that has come to its end, unless it is empty, and begins another.
+/// Adds the token of a finished word, unless the word is empty, and clears the word.
 #[tactic(auto, using(crate::proofs::Words::a_word_has_a_token, crate::proofs::Words::no_word_adds_none))]
 fn end_word(alloc: Global, found: &mut Vec<Text>, word: &mut String) -> Result<(), AllocError>
     ensures found { OnOk result (found.new.items ≡ found.old.items ++ token_of_word (chars (string_bytes word.old))) }

@@ -1,4 +1,4 @@
--- What holds of each file that breaks no rule, as a portal that is opened with it asks.
+-- What holds of each file that breaks no rule, as opening a portal requires.
 use Rattle.std.proofs.Common.{◌≡◌, ℕ, Bool, true, false, not, ◌&&◌, List, [], ◌∷◌, ◌++◌, Option}
 use Rattle.std.proofs.Common.{Some, None, IfSome, IfOk}
 use Rattle.std.proofs.Common.{arith, refl, sym, ap, ◌∙◌, length, nat_le, nat_lt, codes, option_map}
@@ -21,10 +21,10 @@ use Rattle.portal_file.specs.declared.file.PortalFile.{PortalFile}
 use Rattle.portal_file.specs.declared.rule.FileRule.{FileRule}
 use Rattle.portal_file.specs.declared.rule.FileRule.TheVariants as rule
 use Rattle.portal_file.specs.File.{file_if, file_with_users, file_of_tables, membership_for, memberships_of}
-use Rattle.portal_file.specs.Opening.{ArePaired, are_named, are_housed}
+use Rattle.portal_file.specs.Opening.{AreConsistent, are_named, are_in_orgs}
 use Rattle.portal_file.specs.Rules.{broken_rule, role_named, is_file_name, have_file_names, have_org_file_names}
 use Rattle.portal_file.specs.Rules.{have_digests, have_distinct_digests}
-use Rattle.portal_file.specs.Tables.{items_say, joined_orgs, no_orgs, named_role, roles_of}
+use Rattle.portal_file.specs.Tables.{read_items, joined_orgs, no_orgs, named_role, roles_of}
 use Rattle.portal_file.specs.Tables.{roles_for, roles_in, one_org}
 use Rattle.portal_file.specs.Tables.{org_in, org_of, orgs_of, orgs_for, orgs_in, users_in}
 use Rattle.toml.specs.Data.{Data, Items, no_items, item, Members, no_members, member, as_str, as_table, as_array}
@@ -32,10 +32,10 @@ use Rattle.toml.specs.Data.{get_member}
 
 -- ---- users and organizations that break no rule
 
-passed : (kept : Bool) (told : FileRule) (rest : Option FileRule) → (if not kept then Some told else rest) ≡ None
+passed : (kept : Bool) (broken : FileRule) (rest : Option FileRule) → (if not kept then Some broken else rest) ≡ None
     → (kept ≡ true) × (rest ≡ None)
-passed true told rest e = (refl, e)
-passed false told rest e = absurd (none-some told (sym e))
+passed true broken rest e = (refl, e)
+passed false broken rest e = absurd (none-some broken (sym e))
 
 orgs_texts : (users : Users) (orgs : Orgs) → broken_rule users orgs ≡ None → have_org_file_names orgs.orgs ≡ true
 orgs_texts users orgs e =
@@ -45,7 +45,7 @@ orgs_texts users orgs e =
     let (_, e4) = passed (have_distinct_digests users.tokens) rule.RepeatedToken _ e3 in
     (passed (have_org_file_names orgs.orgs) rule.OrganizationName _ e4).0
 
--- what users and organizations say that break no rule
+-- the file of users and organizations that break no rule
 abbrev file_from : Users → Orgs → PortalFile
 file_from users orgs = record {
   users = users.users;
@@ -54,13 +54,13 @@ file_from users orgs = record {
   tokens = users.tokens;
 }
 
--- What holds of a file wherever its users and its organizations break no rule holds of each file.
+-- What follows for a file when its users and organizations break no rule holds of each file.
 module _ (P : PortalFile → Type 0) (Q : Orgs → Type 0)
     (from : (users : Users) (orgs : Orgs) → broken_rule users orgs ≡ None → Q orgs → P (file_from users orgs)) where
   if_unbroken : (broken : Option FileRule) (users : Users) (orgs : Orgs) → broken_rule users orgs ≡ broken → Q orgs
       → IfOk (file_if broken users orgs) P
   if_unbroken None users orgs e q = from users orgs e q
-  if_unbroken (Some told) users orgs e q = tt
+  if_unbroken (Some broken) users orgs e q = tt
 
   if_told : (users : Option Users) (orgs : Option Orgs) → IfSome orgs Q → IfOk (file_with_users users orgs) P
   if_told (Some users) (Some orgs) q = if_unbroken (broken_rule users orgs) users orgs refl q
@@ -107,17 +107,17 @@ module _ {A : Type 0} (join : A → A → A) (nothing : A) (read : Data → Opti
   one_more both (Some a) (Some b) p q = both a b p q
 
   pub items_keep : P nothing → ((a b : A) → P a → P b → P (join a b)) → ((d : Data) → IfSome (read d) P)
-      → (items : Items) → IfSome (items_say join nothing read items) P
+      → (items : Items) → IfSome (read_items join nothing read items) P
   items_keep none both each no_items = none
   items_keep none both each (item d ds) =
-      one_more both (read d) (items_say join nothing read ds) (each d) (items_keep none both each ds)
+      one_more both (read d) (read_items join nothing read ds) (each d) (items_keep none both each ds)
 
--- each role is one in an organization that stands beside it
-abbrev is_housed : List Org → NamedRole → Bool
-is_housed orgs r = is_org_name_among orgs r.org
+-- each role is in an organization of the same list
+abbrev is_in_orgs : List Org → NamedRole → Bool
+is_in_orgs orgs r = is_org_name_among orgs r.org
 
-abbrev AreHoused : Orgs → Type 0
-AreHoused o = list_all (is_housed o.orgs) o.roles ≡ true
+abbrev HaveRolesInOrgs : Orgs → Type 0
+HaveRolesInOrgs o = list_all (is_in_orgs o.orgs) o.roles ≡ true
 
 -- What holds of each role in the organization holds of all the roles of a table.
 module _ (org : List ℕ) (test : NamedRole → Bool)
@@ -144,49 +144,51 @@ module _ (org : List ℕ) (test : NamedRole → Bool)
   all_roles (Some value) = some_table (as_table value)
 
 own_roles : (org : Org) (table : Members)
-    → IfSome (roles_in org.name table) (λ rs. list_all (is_housed (org ∷ [])) rs ≡ true)
+    → IfSome (roles_in org.name table) (λ rs. list_all (is_in_orgs (org ∷ [])) rs ≡ true)
 own_roles org table =
-    all_roles org.name (is_housed (org ∷ [])) (λ user role. or_left (bytes_eq org.name org.name) false (equal org.name))
+    all_roles org.name (is_in_orgs (org ∷ [])) (λ user role. or_left (bytes_eq org.name org.name) false
+    (equal org.name))
     (get_member (codes "roles") table)
 
 with_roles : (org : Org) (roles : Option (List NamedRole))
-    → IfSome roles (λ rs. list_all (is_housed (org ∷ [])) rs ≡ true)
-    → IfSome (option_map (λ rs. record { orgs = org ∷ []; roles = rs }) roles) AreHoused
+    → IfSome roles (λ rs. list_all (is_in_orgs (org ∷ [])) rs ≡ true)
+    → IfSome (option_map (λ rs. record { orgs = org ∷ []; roles = rs }) roles) HaveRolesInOrgs
 with_roles org None q = tt
 with_roles org (Some rs) q = q
 
-one_housed : (table : Members) (org : Option Org) → IfSome (option_and_then
-    (λ org. option_map (λ roles. record { orgs = org ∷ []; roles = roles }) (roles_in org.name table)) org) AreHoused
-one_housed table None = tt
-one_housed table (Some org) = with_roles org (roles_in org.name table) (own_roles org table)
+one_in_orgs : (table : Members) (org : Option Org) → IfSome (option_and_then
+    (λ org. option_map (λ roles. record { orgs = org ∷ []; roles = roles })
+    (roles_in org.name table)) org) HaveRolesInOrgs
+one_in_orgs table None = tt
+one_in_orgs table (Some org) = with_roles org (roles_in org.name table) (own_roles org table)
 
-org_housed : (table : Option Members) → IfSome (option_and_then one_org table) AreHoused
-org_housed None = tt
-org_housed (Some table) = one_housed table (org_in table)
+org_in_orgs : (table : Option Members) → IfSome (option_and_then one_org table) HaveRolesInOrgs
+org_in_orgs None = tt
+org_in_orgs (Some table) = one_in_orgs table (org_in table)
 
 -- Things that are in organizations are in them where both are joined with others.
-pub housed-append : {X : Type 0} (place : X → List ℕ) (os ps : List Org) (xs ys : List X)
-    → list_all (λ x. is_org_name_among os (place x)) xs ≡ true
-    → list_all (λ y. is_org_name_among ps (place y)) ys ≡ true
-    → list_all (λ x. is_org_name_among (os ++ ps) (place x)) (xs ++ ys) ≡ true
-housed-append place os ps xs ys p q =
-    list_all-append (λ x. is_org_name_among (os ++ ps) (place x)) xs ys ∙ and_from _ _
-    (all_weaker (λ x. is_org_name_among os (place x)) (λ x. is_org_name_among (os ++ ps) (place x))
-    (λ x e. list_any-append (λ o. bytes_eq o.name (place x)) os ps ∙ or_left _ _ e) xs p)
-    (all_weaker (λ y. is_org_name_among ps (place y)) (λ y. is_org_name_among (os ++ ps) (place y))
-    (λ y e. list_any-append (λ o. bytes_eq o.name (place y)) os ps ∙ or_right _ _ e) ys q)
+pub in_orgs-append : {X : Type 0} (org_of_item : X → List ℕ) (os ps : List Org) (xs ys : List X)
+    → list_all (λ x. is_org_name_among os (org_of_item x)) xs ≡ true
+    → list_all (λ y. is_org_name_among ps (org_of_item y)) ys ≡ true
+    → list_all (λ x. is_org_name_among (os ++ ps) (org_of_item x)) (xs ++ ys) ≡ true
+in_orgs-append org_of_item os ps xs ys p q =
+    list_all-append (λ x. is_org_name_among (os ++ ps) (org_of_item x)) xs ys ∙ and_from _ _
+    (all_weaker (λ x. is_org_name_among os (org_of_item x)) (λ x. is_org_name_among (os ++ ps) (org_of_item x))
+    (λ x e. list_any-append (λ o. bytes_eq o.name (org_of_item x)) os ps ∙ or_left _ _ e) xs p)
+    (all_weaker (λ y. is_org_name_among ps (org_of_item y)) (λ y. is_org_name_among (os ++ ps) (org_of_item y))
+    (λ y e. list_any-append (λ o. bytes_eq o.name (org_of_item y)) os ps ∙ or_right _ _ e) ys q)
 
-joined_housed : (a b : Orgs) → AreHoused a → AreHoused b → AreHoused (joined_orgs a b)
-joined_housed a b = housed-append (λ r. r.org) a.orgs b.orgs a.roles b.roles
+joined_in_orgs : (a b : Orgs) → HaveRolesInOrgs a → HaveRolesInOrgs b → HaveRolesInOrgs (joined_orgs a b)
+joined_in_orgs a b = in_orgs-append (λ r. r.org) a.orgs b.orgs a.roles b.roles
 
-list_housed : (list : Option Items) → IfSome (option_and_then orgs_of list) AreHoused
-list_housed None = tt
-list_housed (Some items) =
-    items_keep joined_orgs no_orgs org_of AreHoused refl joined_housed (λ d. org_housed (as_table d)) items
+list_in_orgs : (list : Option Items) → IfSome (option_and_then orgs_of list) HaveRolesInOrgs
+list_in_orgs None = tt
+list_in_orgs (Some items) =
+    items_keep joined_orgs no_orgs org_of HaveRolesInOrgs refl joined_in_orgs (λ d. org_in_orgs (as_table d)) items
 
-for_housed : (value : Option Data) → IfSome (orgs_for value) AreHoused
-for_housed None = refl
-for_housed (Some value) = list_housed (as_array value)
+value_in_orgs : (value : Option Data) → IfSome (orgs_for value) HaveRolesInOrgs
+value_in_orgs None = refl
+value_in_orgs (Some value) = list_in_orgs (as_array value)
 
 -- The memberships of roles are in the organizations of the roles.
 memberships_keep : (test : List ℕ → Bool) (rs : List NamedRole) → list_all (λ r. test r.org) rs ≡ true
@@ -201,19 +203,19 @@ memberships_keep test (r ∷ rs) e =
     one None here more = more
     one (Some role) here more = and_from _ _ here more
 
-pub roles_housed : (tables : Members)
-    → IfOk (file_of_tables (Some tables)) (λ file. IsTrue (are_housed file.orgs file.roles))
-roles_housed tables =
-    each_file (λ file. IsTrue (are_housed file.orgs file.roles)) AreHoused
-    (λ users orgs _ housed. memberships_keep (λ name. is_org_name_among orgs.orgs name) orgs.roles housed)
-    tables (for_housed (get_member (codes "organization") tables))
+pub roles_in_orgs : (tables : Members)
+    → IfOk (file_of_tables (Some tables)) (λ file. IsTrue (are_in_orgs file.orgs file.roles))
+roles_in_orgs tables =
+    each_file (λ file. IsTrue (are_in_orgs file.orgs file.roles)) HaveRolesInOrgs
+    (λ users orgs _ in_orgs. memberships_keep (λ name. is_org_name_among orgs.orgs name) orgs.roles in_orgs)
+    tables (value_in_orgs (get_member (codes "organization") tables))
 
--- An organization stands alone with its roles, which are of a user each.
+-- The list of one organization with its roles, of which no two have the same user.
 pub roles_paired : (org : Org) (table : Members) (roles : List NamedRole) → roles_in org.name table ≡ Some roles
     → have_distinct_pairs (memberships_of roles) ≡ true
-    → ArePaired (record { orgs = org ∷ []; roles = roles })
+    → AreConsistent (record { orgs = org ∷ []; roles = roles })
 roles_paired org table roles e pairs = (
   memberships_keep (λ name. is_org_name_among (org ∷ []) name) roles
-      (MatchOption-at_some _ (λ rs. list_all (is_housed (org ∷ [])) rs ≡ true) roles e (own_roles org table)),
+      (MatchOption-at_some _ (λ rs. list_all (is_in_orgs (org ∷ [])) rs ≡ true) roles e (own_roles org table)),
   λ _. pairs,
 )

@@ -1,4 +1,4 @@
--- No pair of organization and user stands twice among the roles of a file.
+-- No pair of organization and user occurs twice among the roles of a file.
 use Rattle.std.proofs.Common.{◌≡◌, ℕ, Bool, true, false, not, ◌&&◌, ◌||◌, List, [], ◌∷◌, ◌++◌}
 use Rattle.std.proofs.Common.{Option, Some, None, IfSome}
 use Rattle.std.proofs.Common.{refl, sym, ap, ◌∙◌, option_map, string_bytes, String, Global, Less, is_eq}
@@ -22,10 +22,10 @@ use Rattle.org_roles.specs.declared.role.Role.{Role}
 use Rattle.portal_file.specs.declared.entries.NamedRole.{NamedRole}
 use Rattle.portal_file.specs.declared.entries.Orgs.{Orgs}
 use Rattle.portal_file.specs.File.{membership_for, memberships_of}
-use Rattle.portal_file.specs.Opening.{ArePaired}
+use Rattle.portal_file.specs.Opening.{AreConsistent}
 use Rattle.portal_file.specs.Rules.{role_named}
 use Rattle.portal_file.specs.Tables.{joined_orgs, named_role, roles_of}
-use Rattle.portal_file.proofs.OpeningLemmas.{housed-append}
+use Rattle.portal_file.proofs.OpeningLemmas.{in_orgs-append}
 use Rattle.toml.proofs.Views.{Entry}
 use Rattle.toml.specs.Data.{as_str}
 use Rattle.toml.specs.View.{view, members_view}
@@ -42,7 +42,7 @@ unlike k l less = unequal (string_bytes l) (string_bytes k) (λ same. false≢tr
     ∙ is_eq-slice_cmp (string_bytes k) (string_bytes l)
     ∙ (bytes_eq-Decides (string_bytes k) (string_bytes l)).1 (sym same)))
 
--- What holds of the memberships of the further roles, and of these behind one more, holds of those of all.
+-- What holds of the memberships of the remaining roles, and of these after one more, holds of the memberships of all.
 module _ (org user : List ℕ) (P Q : List Membership → Type 0) where
   with_one : (rs : List NamedRole) (text : List ℕ) (role : Option Role) → P (memberships_of rs)
       → ((role : Role) → Q (record { org = org; user = user; role = role } ∷ memberships_of rs))
@@ -140,17 +140,17 @@ pairs-append : (os ps : List Org) (ms ns : List Membership) → AreApart os ps
     → have_distinct_pairs ms ≡ true → have_distinct_pairs ns ≡ true → have_distinct_pairs (ms ++ ns) ≡ true
 pairs-append os ps [] ns apart here there p q = q
 pairs-append os ps (m ∷ ms) ns apart here there p q =
-    let (housed, others) = and_parts (is_org_name_among os m.org) (list_all _ ms) here in
+    let (in_orgs, others) = and_parts (is_org_name_among os m.org) (list_all _ ms) here in
     let (first, more) = and_parts (not (is_pair_among ms m.org m.user)) (have_distinct_pairs ms) p in
     and_from _ _ (not_from_false _ (list_any-append (λ n. bytes_eq n.org m.org && bytes_eq n.user m.user) ms ns
-    ∙ or_from _ _ (not_true _ first) (no_pair ps ns m.org m.user (not_among os ps m.org apart housed) there)))
+    ∙ or_from _ _ (not_true _ first) (no_pair ps ns m.org m.user (not_among os ps m.org apart in_orgs) there)))
     (pairs-append os ps ms ns apart others there more q)
 
-pub joined_paired : (a b : Orgs) → ArePaired a → ArePaired b → ArePaired (joined_orgs a b)
+pub joined_paired : (a b : Orgs) → AreConsistent a → AreConsistent b → AreConsistent (joined_orgs a b)
 joined_paired a b p q =
     let same = memberships-append a.roles b.roles in (
       ap (list_all (λ m. is_org_name_among (a.orgs ++ b.orgs) m.org)) same
-          ∙ housed-append (λ m. m.org) a.orgs b.orgs (memberships_of a.roles) (memberships_of b.roles) p.0 q.0,
+          ∙ in_orgs-append (λ m. m.org) a.orgs b.orgs (memberships_of a.roles) (memberships_of b.roles) p.0 q.0,
       λ names. let (fronts, backs, apart) = org_names-parts a.orgs b.orgs names in
           ap have_distinct_pairs same
           ∙ pairs-append a.orgs b.orgs (memberships_of a.roles) (memberships_of b.roles) apart p.0 q.0

@@ -5,7 +5,7 @@ use Rattle.std.proofs.Common.{ap₂, ◌∙◌, option_map, String, Global, stri
 use Rattle.std.specs.Prelude.{option_and_then}
 use Rattle.std.proofs.lemmas.List.{append-nil, append_assoc, drop_all}
 use Rattle.portal_file.specs.declared.entries.NamedRole.{NamedRole}
-use Rattle.portal_file.specs.Tables.{items_say, joined_users, no_users, joined_orgs, no_orgs, roles_of, named_role}
+use Rattle.portal_file.specs.Tables.{read_items, joined_users, no_users, joined_orgs, no_orgs, roles_of, named_role}
 use Rattle.toml.specs.Data.{Data, item, as_str}
 use Rattle.toml.specs.View.{view, items_view, members_view}
 use Rattle.toml.specs.declared.value.Value.{Value}
@@ -34,15 +34,15 @@ Joins-orgs = record {
 }
 
 module _ {A : Type 0} (join : A → A → A) (nothing : A) (read : Data → Option A) (laws : Joins join nothing) where
-  -- what was read, and what the items from a place on say
+  -- what was read so far, joined with the reading of the remaining items
   abbrev pub so_far : A → List Value → Option A
-  so_far front values = option_map (join front) (items_say join nothing read (items_view values))
+  so_far front values = option_map (join front) (read_items join nothing read (items_view values))
 
   from_nothing : (more : Option A) → option_map (join nothing) more ≡ more
   from_nothing None = refl
   from_nothing (Some a) = ap Some (laws.left a)
 
-  pub items-begin : (values : List Value) → so_far nothing values ≡ items_say join nothing read (items_view values)
+  pub items-begin : (values : List Value) → so_far nothing values ≡ read_items join nothing read (items_view values)
   items-begin values = from_nothing _
 
   regrouped : (a b : A) (more : Option A) → option_map (join (join a b)) more
@@ -52,15 +52,15 @@ module _ {A : Type 0} (join : A → A → A) (nothing : A) (read : Data → Opti
 
   said : (front : A) (vs : List Value) (i : ℕ) (v : Value) → i < length vs → get_or vs i v ≡ v
       → so_far front (drop i vs) ≡ option_map (join front) (option_and_then
-      (λ first. option_map (join first) (items_say join nothing read (items_view (drop (i + 1) vs)))) (read (view v)))
+      (λ first. option_map (join first) (read_items join nothing read (items_view (drop (i + 1) vs)))) (read (view v)))
   said front vs i v within here =
-      ap (λ ds. option_map (join front) (items_say join nothing read ds))
+      ap (λ ds. option_map (join front) (read_items join nothing read ds))
       (items_view-drop vs i v within ∙ ap (λ w. item (view w) (items_view (drop (i + 1) vs))) here)
 
   pub items-turn : (front : A) (vs : List Value) (i : ℕ) (v : Value) (first : A) → i < length vs → get_or vs i v ≡ v
       → read (view v) ≡ Some first → so_far (join front first) (drop (i + 1) vs) ≡ so_far front (drop i vs)
   items-turn front vs i v first within here e =
-      let more = items_say join nothing read (items_view (drop (i + 1) vs)) in
+      let more = read_items join nothing read (items_view (drop (i + 1) vs)) in
       regrouped front first more
       ∙ sym (said front vs i v within here ∙ ap (λ o. option_map (join front) (option_and_then
       (λ first. option_map (join first) more) o)) e)
@@ -68,7 +68,7 @@ module _ {A : Type 0} (join : A → A → A) (nothing : A) (read : Data → Opti
   pub items-stop : (front : A) (vs : List Value) (i : ℕ) (v : Value) → i < length vs → get_or vs i v ≡ v
       → read (view v) ≡ None → so_far front (drop i vs) ≡ None
   items-stop front vs i v within here e =
-      let more = items_say join nothing read (items_view (drop (i + 1) vs)) in
+      let more = read_items join nothing read (items_view (drop (i + 1) vs)) in
       said front vs i v within here ∙ ap (λ o. option_map (join front) (option_and_then
       (λ first. option_map (join first) more) o)) e
 

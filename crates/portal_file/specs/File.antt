@@ -1,4 +1,4 @@
--- What a portal file says, or the first rule that it breaks.
+-- The contents of a portal file (TOML 1.1), or the first rule that it breaks.
 use Rattle.std.specs.Prelude.{ℕ, if◌then◌else◌, List, [], ◌∷◌, ◌++◌, Option, Some, None, Result, Ok, Err}
 use Rattle.std.specs.Str.{is_utf8}
 use Rattle.org_roles.specs.declared.role.Role.{Role}
@@ -18,7 +18,7 @@ use Rattle.portal_file.specs.Tables.{users_in, orgs_in}
 use Rattle.toml.specs.Data.{Members}
 use Rattle.toml.specs.Parse.{parse_document}
 
--- the membership of a role that there is
+-- the membership of a role whose name is known
 abbrev pub membership_for : NamedRole → Option Role → List Membership
 membership_for r None = []
 membership_for r (Some role) = record { org = r.org; user = r.user; role = role } ∷ []
@@ -27,7 +27,7 @@ abbrev pub memberships_of : List NamedRole → List Membership
 memberships_of [] = []
 memberships_of (r ∷ rs) = membership_for r (role_named r.role) ++ memberships_of rs
 
--- what the users and the organizations say, or the rule that they break
+-- the file of these users and organizations, or the rule that they break
 abbrev pub file_if : Option FileRule → Users → Orgs → Result PortalFile FileRule
 file_if (Some rule) users orgs = Err rule
 file_if None users orgs = Ok (record {
@@ -53,7 +53,7 @@ file_of_tables (Some file) = file_with_users (users_in file) (orgs_in file)
 abbrev pub file_of : List ℕ → Result PortalFile FileRule
 file_of bytes = if is_utf8 bytes then file_of_tables (parse_document bytes) else Err Toml
 
--- the fault that tables of another kind are told by
-abbrev pub told : TableFault → FileFault
-told fault.Kind = Rule Toml
-told fault.OutOfMemory = OutOfMemory
+-- the fault of a file whose tables have this fault
+abbrev pub file_fault_of : TableFault → FileFault
+file_fault_of fault.Kind = Rule Toml
+file_fault_of fault.OutOfMemory = OutOfMemory

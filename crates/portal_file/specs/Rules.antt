@@ -1,4 +1,4 @@
--- The rules of a portal file behind the first one, each over the whole file.
+-- The rules of a portal file after the first one. Each one is about the whole file.
 use Rattle.std.specs.Prelude.{ℕ, ◌==◌, nat_le, Bool, true, not, ◌&&◌, ◌||◌, if◌then◌else◌, List, [], ◌∷◌, length, codes}
 use Rattle.std.specs.Prelude.{Option, Some, None, is_some}
 use Rattle.std.specs.List.{list_all, list_any}
@@ -15,7 +15,7 @@ use Rattle.portal_file.specs.declared.entries.Users.{Users}
 use Rattle.portal_file.specs.declared.rule.FileRule.{FileRule}
 use Rattle.portal_file.specs.declared.rule.FileRule.TheVariants as rule
 
--- Names have 2 to 100 characters of names; reserved ones may stand in a file.
+-- Names have 2 to 100 of the characters of names. Reserved names are allowed in a file.
 abbrev pub is_file_name : List ℕ → Bool
 is_file_name text = has_name_length text 100 && has_name_characters text
 
@@ -36,7 +36,7 @@ is_digest text = (length text == 64) && list_all is_digest_digit text
 abbrev pub have_digests : List (List ℕ × List ℕ) → Bool
 have_digests tokens = list_all (λ token. is_digest token.1) tokens
 
--- one of the tokens has that digest
+-- one of the tokens has this digest
 abbrev pub is_digest_among : List (List ℕ × List ℕ) → List ℕ → Bool
 is_digest_among tokens digest = list_any (λ token. bytes_eq token.1 digest) tokens
 
@@ -53,14 +53,14 @@ role_named text =
     else if bytes_eq text (codes "admin") then Some role.Admin
     else None
 
--- a role that there is, of a user of the file
+-- the role has a known name, and its user is in the file
 abbrev pub is_role_among : List User → NamedRole → Bool
 is_role_among users r = is_some (role_named r.role) && is_name_among users r.user
 
 abbrev pub are_roles_among : List User → List NamedRole → Bool
 are_roles_among users roles = list_all (is_role_among users) roles
 
--- The first rule that is broken, of those behind `toml`.
+-- the first broken rule, of those after `toml`
 abbrev pub broken_rule : Users → Orgs → Option FileRule
 broken_rule users orgs =
     if not (have_file_names users.users) then Some rule.UserName
@@ -72,7 +72,7 @@ broken_rule users orgs =
     else if not (are_roles_among users.users orgs.roles) then Some rule.Role
     else None
 
--- the name by which a rule is told
+-- the name of a rule in messages
 abbrev pub rule_name : FileRule → List ℕ
 rule_name rule.Toml = codes "toml"
 rule_name rule.UserName = codes "user name"

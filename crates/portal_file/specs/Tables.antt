@@ -1,6 +1,5 @@
--- What the tables of a portal file say (TOML 1.1), read as users with their tokens and as organizations with their
--- roles. Each is none where a key has a value of another kind, or where a name is absent; keys that aren't named here
--- say nothing.
+-- The users with their tokens and the organizations with their roles, read from the tables of a portal file (TOML 1.1).
+-- A reading is none if a key has a value of another kind or a name is absent. Keys that aren't named here are ignored.
 use Rattle.std.specs.Prelude.{ℕ, pos, Bool, false, List, [], ◌∷◌, ◌++◌, codes, Option, Some, None, option_map}
 use Rattle.std.specs.Prelude.{option_and_then}
 use Rattle.org_roles.specs.declared.entry.Org.{Org}
@@ -12,7 +11,7 @@ use Rattle.toml.specs.Data.{as_array, as_table}
 
 -- ---- the values of keys
 
--- a text that has to be there
+-- the text at a required key
 abbrev pub text_at : List ℕ → Members → Option (List ℕ)
 text_at key table = option_and_then as_str (get_member key table)
 
@@ -20,7 +19,7 @@ abbrev pub text_for : List ℕ → Option Data → Option (List ℕ)
 text_for default None = Some default
 text_for default (Some value) = as_str value
 
--- a text, or the default where it is absent
+-- the text at a key, or the default if the key is absent
 abbrev pub text_or : List ℕ → List ℕ → Members → Option (List ℕ)
 text_or key default table = text_for default (get_member key table)
 
@@ -28,7 +27,7 @@ abbrev pub text_if : Option Data → Option (Option (List ℕ))
 text_if None = Some None
 text_if (Some value) = option_map (λ text. Some text) (as_str value)
 
--- a text that may be absent
+-- the text at an optional key
 abbrev pub optional_text : List ℕ → Members → Option (Option (List ℕ))
 optional_text key table = text_if (get_member key table)
 
@@ -36,15 +35,15 @@ abbrev pub truth_for : Option Data → Option Bool
 truth_for None = Some false
 truth_for (Some value) = as_bool value
 
--- a truth value, false where it is absent
+-- the truth value at a key, or false if the key is absent
 abbrev pub truth_at : List ℕ → Members → Option Bool
 truth_at key table = truth_for (get_member key table)
 
--- what the items of a list say one after the other, joined
-abbrev pub items_say : {A : Type 0} → (A → A → A) → A → (Data → Option A) → Items → Option A
-items_say join nothing read no_items = Some nothing
-items_say join nothing read (item value rest) =
-    option_and_then (λ first. option_map (join first) (items_say join nothing read rest)) (read value)
+-- the readings of the items of a list, joined in order
+abbrev pub read_items : {A : Type 0} → (A → A → A) → A → (Data → Option A) → Items → Option A
+read_items join nothing read no_items = Some nothing
+read_items join nothing read (item value rest) =
+    option_and_then (λ first. option_map (join first) (read_items join nothing read rest)) (read value)
 
 -- ---- users
 
@@ -77,7 +76,7 @@ user_of value = option_and_then user_in (as_table value)
 
 -- the users of a list of tables, in order
 abbrev pub users_of : Items → Option Users
-users_of items = items_say joined_users no_users user_of items
+users_of items = read_items joined_users no_users user_of items
 
 abbrev pub users_for : Option Data → Option Users
 users_for None = Some no_users
@@ -106,8 +105,8 @@ roles_for org (Some value) = option_and_then (roles_of org) (as_table value)
 abbrev pub roles_in : List ℕ → Members → Option (List NamedRole)
 roles_in org table = roles_for org (get_member (codes "roles") table)
 
--- the organization of a table: `name`, `title` (the name where it is absent), `description` (empty where it is absent);
--- it is created at 1970-01-01T00:00:00
+-- the organization of a table: `name`, `title` (by default the name), `description` (by default empty); it is created
+-- at 1970-01-01T00:00:00
 abbrev pub org_in : Members → Option Org
 org_in table = option_and_then
     (λ name. option_and_then
@@ -132,7 +131,7 @@ org_of value = option_and_then one_org (as_table value)
 
 -- the organizations of a list of tables, in order
 abbrev pub orgs_of : Items → Option Orgs
-orgs_of items = items_say joined_orgs no_orgs org_of items
+orgs_of items = read_items joined_orgs no_orgs org_of items
 
 abbrev pub orgs_for : Option Data → Option Orgs
 orgs_for None = Some no_orgs

@@ -1,4 +1,4 @@
-//! What the tables of a portal file hold.
+//! The entries of a portal file's tables.
 ghost use Rattle.std.specs.Prelude.{◌≡◌, ◌++◌, ◌∷◌, [], IfOk, OnOk};
 ghost use Rattle.portal_file.specs.Tables.{joined_users, joined_orgs};
 
@@ -7,7 +7,7 @@ use portal_base::seq::Seq;
 use portal_base::text::Text;
 use std::alloc::AllocError;
 
-/// Users, and tokens: a user's name each, and the SHA-256 digest of the token in hexadecimal digits.
+/// Users, and tokens. A token is a user's name and the SHA-256 digest of the token in hexadecimal digits.
 #[derive(Drop)]
 pub struct Users {
     pub users: Seq<User>,

@@ -1,10 +1,10 @@
-//! A portal file as a whole.
+//! The whole portal file.
 ghost use Rattle.std.specs.Prelude.{◌≡◌, ◌++◌, [], ◌∷◌, Some, None, Ok, Err, IfOk, IsErrOf, IfSome};
 ghost use Rattle.std.specs.Prelude.{IfNone, IsTrue, true, false};
 ghost use Rattle.std.specs.Str.{is_utf8};
 ghost use Rattle.org_roles.specs.Distinct.{have_distinct_names, have_distinct_org_names, have_distinct_pairs};
 ghost use Rattle.portal_file.specs.File.{file_of, file_of_tables, file_with, memberships_of};
-ghost use Rattle.portal_file.specs.Opening.{ArePaired, are_housed, are_named};
+ghost use Rattle.portal_file.specs.Opening.{AreConsistent, are_in_orgs, are_named};
 ghost use Rattle.portal_file.specs.declared.rule.FileRule.{FileRule};
 ghost use Rattle.toml.specs.Parse.{parse_document};
 ghost use Rattle.toml.specs.View.{table_view};
@@ -21,8 +21,8 @@ use portal_base::text::Text;
 use std::alloc::{AllocError, Global};
 use toml::Table;
 
-/// What a portal file says: the users, the organizations with the roles in them, and the tokens, of a user each and as
-/// the SHA-256 digest in 64 hexadecimal digits in lower case.
+/// The contents of a portal file: the users, the organizations with the roles in them, and the tokens. A token is a
+/// user's name and a SHA-256 digest (FIPS 180-4) in 64 lower-case hexadecimal digits.
 #[derive(Drop)]
 pub struct PortalFile {
     pub users: Seq<User>,
@@ -32,9 +32,9 @@ pub struct PortalFile {
 }
 
 impl From<TableFault> for FileFault {
-    ghost use Rattle.portal_file.specs.File.{told};
+    ghost use Rattle.portal_file.specs.File.{file_fault_of};
 
-    ghost from_gives = { λ fault told_fault. told_fault ≡ told fault };
+    ghost from_gives = { λ fault file_fault. file_fault ≡ file_fault_of fault };
 
     fn from(fault: TableFault) -> FileFault {
         match fault {
@@ -44,7 +44,7 @@ impl From<TableFault> for FileFault {
     }
 }
 
-/// The memberships of the roles that there are.
+/// The memberships of those roles whose names are known.
 fn memberships_of(alloc: Global, roles: &[NamedRole]) -> Result<Seq<Membership>, AllocError>
     ensures { IfOk result (λ memberships. memberships ≡ memberships_of roles.now) }
 {
@@ -59,11 +59,11 @@ fn memberships_of(alloc: Global, roles: &[NamedRole]) -> Result<Seq<Membership>,
     Ok(memberships)
 }
 
-/// What the users and the organizations say, or the first rule that they break.
+/// The file of these users and organizations, or the first rule that they break.
 fn file_with(alloc: Global, users: Users, orgs: Orgs) -> Result<PortalFile, FileFault>
     ensures ok { IfOk result (λ file. file_with users orgs ≡ Ok file) }
     ensures rule { (rule : FileRule) → IsErrOf result (FileFault.Rule rule) → file_with users orgs ≡ Err rule }
-    ensures pairs { ArePaired orgs → IfOk result (λ file. IsTrue (have_distinct_pairs file.roles)) }
+    ensures pairs { AreConsistent orgs → IfOk result (λ file. IsTrue (have_distinct_pairs file.roles)) }
 {
     if let Some(rule) = broken_rule(&users, &orgs) {
         return Err(FileFault::Rule(rule));
@@ -77,7 +77,7 @@ fn file_with(alloc: Global, users: Users, orgs: Orgs) -> Result<PortalFile, File
     })
 }
 
-/// What the tables say, or the first rule that they break.
+/// The file of the tables, or the first rule that they break.
 fn file_of_table(alloc: Global, table: &Table) -> Result<PortalFile, FileFault>
     ensures ok { IfOk result (λ file. file_of_tables (Some (table_view table.now)) ≡ Ok file) }
     ensures rule { (rule : FileRule) → IsErrOf result (FileFault.Rule rule) →
@@ -116,9 +116,10 @@ fn table_of(alloc: Global, text: &str) -> Result<Table, TableFault>
 }
 
 impl PortalFile {
-    /// The file that the bytes are. A rule is told exactly where they break it and none before it, but for want of
-    /// memory. A portal can be opened with the file: no two users and no two organizations have one name, no user has
-    /// two roles in an organization, no organization's name is empty, and each role is in one of the organizations.
+    /// Reads the portal file (TOML 1.1). If the bytes break a rule, the fault names the first one that they break,
+    /// unless memory runs out. A portal can be opened with the file: no two users and no two organizations have the
+    /// same name, no user has two roles in an organization, no organization's name is empty, and each role is in one of
+    /// the organizations.
     pub fn read(alloc: Global, bytes: &[u8]) -> Result<PortalFile, FileFault>
         ensures ok { IfOk result (λ file. file_of bytes.now ≡ Ok file) }
         ensures rule { (rule : FileRule) → IsErrOf result (FileFault.Rule rule) → file_of bytes.now ≡ Err rule }
@@ -126,7 +127,7 @@ impl PortalFile {
         ensures orgs { IfOk result (λ file. IsTrue (have_distinct_org_names file.orgs)) }
         ensures pairs { IfOk result (λ file. IsTrue (have_distinct_pairs file.roles)) }
         ensures named { IfOk result (λ file. IsTrue (are_named file.orgs)) }
-        ensures housed { IfOk result (λ file. IsTrue (are_housed file.orgs file.roles)) }
+        ensures in_orgs { IfOk result (λ file. IsTrue (are_in_orgs file.orgs file.roles)) }
     {
         let Some(text) = text_in(bytes) else {
             return Err(FileFault::Rule(FileRule::Toml));

@@ -2,7 +2,7 @@
 ghost use Rattle.std.specs.Prelude.{◌≡◌, pos, Some, None, IfOk, IsErrOf, IsTrue};
 ghost use Rattle.org_roles.specs.Distinct.{have_distinct_pairs};
 ghost use Rattle.portal_file.specs.File.{memberships_of};
-ghost use Rattle.portal_file.specs.Opening.{ArePaired};
+ghost use Rattle.portal_file.specs.Opening.{AreConsistent};
 ghost use Rattle.portal_file.specs.Tables.{named_role, no_orgs, one_org, org_in, org_of, orgs_in, orgs_of};
 ghost use Rattle.portal_file.specs.Tables.{roles_in, roles_of};
 ghost use Rattle.toml.specs.View.{items_view, table_view, view};
@@ -101,7 +101,7 @@ fn roles_in(alloc: Global, org: &str, table: &Table) -> Result<Seq<NamedRole>, T
 fn one_org(alloc: Global, table: &Table) -> Result<Orgs, TableFault>
     ensures ok { IfOk result (λ org. one_org (table_view table.now) ≡ Some org) }
     ensures kind { IsErrOf result TableFault.Kind → one_org (table_view table.now) ≡ None }
-    ensures pairs { IfOk result ArePaired }
+    ensures pairs { IfOk result AreConsistent }
 {
     let org = org_in(alloc, table)?;
     let roles = roles_in(alloc, org.name.as_str(), table)?;
@@ -113,7 +113,7 @@ fn one_org(alloc: Global, table: &Table) -> Result<Orgs, TableFault>
 fn org_of(alloc: Global, value: &Value) -> Result<Orgs, TableFault>
     ensures ok { IfOk result (λ org. org_of (view value.now) ≡ Some org) }
     ensures kind { IsErrOf result TableFault.Kind → org_of (view value.now) ≡ None }
-    ensures pairs { IfOk result ArePaired }
+    ensures pairs { IfOk result AreConsistent }
 {
     match value.as_table() {
         Some(table) => one_org(alloc, table),
@@ -134,7 +134,7 @@ fn no_orgs(alloc: Global) -> Orgs
 fn orgs_of(alloc: Global, items: &[Value]) -> Result<Orgs, TableFault>
     ensures ok { IfOk result (λ orgs. orgs_of (items_view items.now) ≡ Some orgs) }
     ensures kind { IsErrOf result TableFault.Kind → orgs_of (items_view items.now) ≡ None }
-    ensures pairs { IfOk result ArePaired }
+    ensures pairs { IfOk result AreConsistent }
 {
     let mut orgs = no_orgs(alloc);
     for value in items {
@@ -148,7 +148,7 @@ fn orgs_of(alloc: Global, items: &[Value]) -> Result<Orgs, TableFault>
 pub fn orgs_in(alloc: Global, file: &Table) -> Result<Orgs, TableFault>
     ensures ok { IfOk result (λ orgs. orgs_in (table_view file.now) ≡ Some orgs) }
     ensures kind { IsErrOf result TableFault.Kind → orgs_in (table_view file.now) ≡ None }
-    ensures pairs { IfOk result ArePaired }
+    ensures pairs { IfOk result AreConsistent }
 {
     let Some(value) = value_at(file, "organization") else {
         return Ok(no_orgs(alloc));

@@ -6,29 +6,29 @@ use std::alloc::AllocError;
 use std::fmt;
 use thiserror::Error;
 
-/// What holds of a portal file, each rule over the whole of it.
+/// The rules for portal files. Each one is about the whole file.
 #[derive(Clone, Copy, Debug, PartialEq, Eq)]
 pub enum FileRule {
     /// It is TOML; `user` and `organization` are lists of tables, and their keys have values of their kinds.
     Toml,
     /// Each user has a name.
     UserName,
-    /// No two users have one name.
+    /// No two users have the same name.
     RepeatedUser,
     /// Each token is 64 hexadecimal digits in lower case.
     Token,
-    /// No two users have one token.
+    /// No two users have the same token.
     RepeatedToken,
     /// Each organization has a name.
     OrganizationName,
-    /// No two organizations have one name.
+    /// No two organizations have the same name.
     RepeatedOrganization,
     /// Each role is `member`, `editor` or `admin`, and that of a user of the file.
     Role,
 }
 
 impl FileRule {
-    /// The name by which the rule is told.
+    /// The name of the rule in messages.
     pub fn name(self) -> &'static str
         ensures { result.now ≡ rule_name self }
     {
@@ -51,7 +51,7 @@ impl fmt::Display for FileRule {
     }
 }
 
-/// Why bytes are no portal file. `OutOfMemory` says nothing of them.
+/// Why bytes are no portal file. `OutOfMemory` says nothing about the bytes.
 #[derive(Clone, Copy, Debug, PartialEq, Eq, Error)]
 pub enum FileFault {
     /// They break this rule, and none before it.
@@ -72,7 +72,7 @@ impl From<AllocError> for FileFault {
     }
 }
 
-/// Why tables weren't read. `OutOfMemory` says nothing of them.
+/// Why tables weren't read. `OutOfMemory` says nothing about the tables.
 #[derive(Clone, Copy, Debug, PartialEq, Eq, Error)]
 pub(crate) enum TableFault {
     /// A key has a value of another kind, or a name is absent.

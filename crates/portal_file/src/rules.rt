@@ -1,4 +1,4 @@
-//! The rules behind the first one, each over the whole file.
+//! The rules after the first one. Each one is about the whole file.
 ghost use Rattle.std.specs.Prelude.{◌≡◌};
 ghost use Rattle.std.specs.List.{list_all};
 ghost use Rattle.portal_file.specs.Rules.{are_roles_among, broken_rule, have_digests, have_distinct_digests};
@@ -11,14 +11,14 @@ use crate::rule::FileRule;
 use org_roles::entry::{Org, User};
 use org_roles::people::{names_are_distinct, org_names_are_distinct};
 use org_roles::role::Role;
-use portal_base::name::{NameFault, fault_of};
+use portal_base::name::{NameFault, name_fault};
 use portal_base::text::Text;
 
-/// Whether the text is a name of 2 to 100 characters; it may be a reserved one.
+/// Whether the text is a name of 2 to 100 characters. A reserved name is allowed.
 fn is_file_name(text: &str) -> bool
     ensures { result ≡ is_file_name text.now }
 {
-    match fault_of(text, 100) {
+    match name_fault(text, 100) {
         Some(NameFault::Length) => false,
         Some(NameFault::Character) => false,
         _ => true,
@@ -68,7 +68,7 @@ fn is_digest_among(tokens: &[(Text, Text)], digest: &str) -> bool
     tokens.iter().any(|token| token.1.as_str() == digest)
 }
 
-/// Whether no two of the tokens have one digest.
+/// Whether no two of the tokens have the same digest.
 fn have_distinct_digests(tokens: &[(Text, Text)]) -> bool
     ensures { result ≡ have_distinct_digests tokens.now }
 {
@@ -103,7 +103,7 @@ fn is_name_among(users: &[User], name: &str) -> bool
     users.iter().any(|user| user.name.as_str() == name)
 }
 
-/// Whether it is a role that there is, of one of the users.
+/// Whether the role's name is known and its user is one of the users.
 fn is_role_among(users: &[User], role: &NamedRole) -> bool
     ensures { result ≡ is_role_among users.now role.now }
 {
@@ -116,7 +116,7 @@ fn are_roles_among(users: &[User], roles: &[NamedRole]) -> bool
     roles.iter().all(|role| is_role_among(users, role))
 }
 
-/// The first rule that is broken, of those behind the first one.
+/// The first broken rule, of those after the first one.
 pub fn broken_rule(users: &Users, orgs: &Orgs) -> Option<FileRule>
     ensures { result ≡ broken_rule users.now orgs.now }
 {

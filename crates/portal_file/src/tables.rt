@@ -14,7 +14,7 @@ pub fn value_at<'a>(table: &'a Table, key: &str) -> Option<&'a Value>
     table.get(key)
 }
 
-/// A text that has to be there.
+/// The text at a required key.
 pub fn text_at<'a>(table: &'a Table, key: &str) -> Option<&'a str>
     ensures { option_copied result ≡ text_at key.now (table_view table.now) }
 {
@@ -24,7 +24,7 @@ pub fn text_at<'a>(table: &'a Table, key: &str) -> Option<&'a str>
     }
 }
 
-/// A text, or the default where it is absent.
+/// The text at a key, or the default if the key is absent.
 pub fn text_or<'a>(table: &'a Table, key: &str, default: &'a str) -> Option<&'a str>
     ensures { option_copied result ≡ text_or key.now default.now (table_view table.now) }
 {
@@ -34,7 +34,7 @@ pub fn text_or<'a>(table: &'a Table, key: &str, default: &'a str) -> Option<&'a 
     }
 }
 
-/// A text that may be absent.
+/// The text at an optional key.
 pub fn optional_text<'a>(table: &'a Table, key: &str) -> Option<Option<&'a str>>
     ensures { option_map option_copied result ≡ optional_text key.now (table_view table.now) }
 {
@@ -47,7 +47,7 @@ pub fn optional_text<'a>(table: &'a Table, key: &str) -> Option<Option<&'a str>>
     }
 }
 
-/// A truth value, false where it is absent.
+/// The truth value at a key, or false if the key is absent.
 pub fn truth_at(table: &Table, key: &str) -> Option<bool>
     ensures { result ≡ truth_at key.now (table_view table.now) }
 {

@@ -8,13 +8,13 @@ use Rattle.std.proofs.lemmas.List.{append-nil}
 use Rattle.portal_base.specs.Outside.{Rose}
 use Rattle.atomic_table.specs.declared.shared.Seat.{Seat}
 use Rattle.portal_hall.specs.History.{Step, Begins, replay, IsLegal, Accepts, Refuses}
-use Rattle.portal_hall.specs.declared.board.Held.{Held}
+use Rattle.portal_hall.specs.declared.board.HeldMachine.{HeldMachine}
 use Rattle.portal_hall.specs.declared.board.View.{View}
 use Rattle.portal_hall.specs.declared.board.Stage.TheVariants.{Resting, Waiting, Acting}
 use Rattle.portal_hall.specs.declared.acted.Acted.{Acted}
 use Rattle.portal_hall.specs.declared.acted.Acted.TheVariants.{Done, OutOfMemory}
 use Rattle.portal_hall.specs.declared.hall.Hall.{Hall}
-use Rattle.portal_hall.specs.Turns.{Slot, Me, Stands, HasTurn, own_after}
+use Rattle.portal_hall.specs.Turns.{Slot, Me, IsReplayed, HasTurn, own_after}
 use Rattle.portal_hall.specs.Passes.{opening, Rests, IsEntry, IsRefusal, events_of, IfEntry, IfNoEntry}
 use Rattle.portal_hall.specs.Passes.{IfOutOfMemory, Begun, Ended, MayEnd}
 use Rattle.portal_hall.proofs.Ends.{same_held}
@@ -39,19 +39,19 @@ module _ {M E C R : Type 0} (core : M → C) (faults : M → ℕ) (works : C →
   abbrev At : Type 0
   At = Seat (Slot M E) (View M E)
 
-  pub begun : (hall : Hall M E R) (a b c d : At) (held : Held M E) → Rests hall a
+  pub begun : (hall : Hall M E R) (a b c d : At) (held : HeldMachine M E) → Rests hall a
       → (b.table_id ≡ a.table_id) × (b.id ≡ a.id) → (t : ℕ) → b.me ≡ (record a.me.0 { stage = Waiting t }, [])
       → (c.table_id ≡ b.table_id) × (c.id ≡ b.id) → (u : ℕ) → HasTurn core faults works b.me u c.me
       → (d.table_id ≡ c.table_id) × (d.id ≡ c.id) → c.me.1 ≡ (0, Some held) ∷ [] → d.me ≡ (c.me.0, (0, None) ∷ [])
       → Begun core faults works hall a d held
   begun hall a b c d held rests ab t waits bc u turn cd full out =
-      let h : Held M E = turn.0 in
+      let h : HeldMachine M E = turn.0 in
       let same : h ≡ held = same_held c.me.1 h held turn.1 full in
       let view = ap (λ (m : Me M E). m.0) waits in
-      let P : Held M E → Type 0 =
+      let P : HeldMachine M E → Type 0 =
       λ h. (c.me.0 ≡ record b.me.0 { stage = Acting u; seen = h.history.items; mark = faults h.machine })
       × Begins b.me.0.seen h.history.items × (b.me.0.mark ≤ faults h.machine)
-      × IfSome b.me.0.opening (λ o. Stands core faults works o h) in
+      × IfSome b.me.0.opening (λ o. IsReplayed core faults works o h) in
       let p = subst P same (turn.2, turn.3, turn.4, turn.5) in record {
         same = (cd.0 ∙ (bc.0 ∙ ab.0), cd.1 ∙ (bc.1 ∙ ab.1));
         ticket = (
@@ -62,18 +62,18 @@ module _ {M E C R : Type 0} (core : M → C) (faults : M → ℕ) (works : C →
         );
         seen = subst (λ (v : View M E). Begins v.seen held.history.items) view p.1;
         mark = subst (λ (v : View M E). v.mark ≤ faults held.machine) view p.2;
-        stands = subst (λ (o : Option M). IfSome o (λ m. Stands core faults works m held))
+        replayed = subst (λ (o : Option M). IfSome o (λ m. IsReplayed core faults works m held))
             (ap (λ (v : View M E). v.opening) view ∙ rests.named) p.3;
       }
 
   -- what was done with the machine and its history
-  pub record Worked (IsWant IsFault : R → Type 0) (old new : Held M E) (event : E) (acted : Acted M E R) : Type 0 where
+  pub record Worked (IsOutOfMemory IsFault : R → Type 0) (old new : HeldMachine M E) (event : E) (acted : Acted M E R) : Type 0 where
     pub entry : IfEntry acted (λ reply front k. Accepts works (core old.machine) event reply
         × (core new.machine ≡ (works (core old.machine) event).core)
         × (new.history.items ≡ old.history.items ++ event ∷ [])
         × (k ≡ length old.history.items) × (front ≡ k + 1))
     pub no_entry : IfNoEntry acted (λ reply front.
-        IsRefusal works IsWant IsFault (core old.machine) event reply (faults old.machine) (faults new.machine)
+        IsRefusal works IsOutOfMemory IsFault (core old.machine) event reply (faults old.machine) (faults new.machine)
         × (core new.machine ≡ core old.machine)
         × (new.history.items ≡ old.history.items) × (front ≡ length old.history.items))
     pub back : IfOutOfMemory acted (λ back. (back ≡ event) × (new.machine ≡ old.machine)
@@ -81,8 +81,8 @@ module _ {M E C R : Type 0} (core : M → C) (faults : M → ℕ) (works : C →
     pub short : length new.history.items < 2 ^ 64
     pub counts : faults old.machine ≤ faults new.machine
 
-  module _ (IsWant IsFault : R → Type 0) where
-    more_of : (old new : Held M E) (event : E) (acted : Acted M E R) → Worked IsWant IsFault old new event acted
+  module _ (IsOutOfMemory IsFault : R → Type 0) where
+    more_of : (old new : HeldMachine M E) (event : E) (acted : Acted M E R) → Worked IsOutOfMemory IsFault old new event acted
         → (more : List E) × (new.history.items ≡ old.history.items ++ more) × (length more ≡ events_of acted)
     more_of old new event (Done reply front (Some k)) w = (event ∷ [], w.entry.2, refl)
     more_of old new event (Done reply front None) w = ([], w.no_entry.2 ∙ sym (append-nil old.history.items), refl)
@@ -93,9 +93,9 @@ module _ {M E C R : Type 0} (core : M → C) (faults : M → ℕ) (works : C →
     one_at_most (Done reply front None) = omega arith
     one_at_most (OutOfMemory e) = omega arith
 
-    stands_after : (o : M) (old new : Held M E) (event : E) (acted : Acted M E R)
-        → Worked IsWant IsFault old new event acted → Stands core faults works o old → Stands core faults works o new
-    stands_after o old new event (Done reply front (Some k)) w h =
+    replayed_after : (o : M) (old new : HeldMachine M E) (event : E) (acted : Acted M E R)
+        → Worked IsOutOfMemory IsFault old new event acted → IsReplayed core faults works o old → IsReplayed core faults works o new
+    replayed_after o old new event (Done reply front (Some k)) w h =
         let items = w.entry.2 in (
           subst (IsLegal works (core o)) (sym items)
               (legal-push works (core o) old.history.items event h.0
@@ -103,20 +103,20 @@ module _ {M E C R : Type 0} (core : M → C) (faults : M → ℕ) (works : C →
           w.entry.1 ∙ (ap (λ (c : C). (works c event).core) h.1
               ∙ (sym (replay-push works (core o) old.history.items event) ∙ ap (replay works (core o)) (sym items))),
         )
-    stands_after o old new event (Done reply front None) w h = (
+    replayed_after o old new event (Done reply front None) w h = (
       subst (IsLegal works (core o)) (sym w.no_entry.2) h.0,
       w.no_entry.1
           ∙ (h.1 ∙ ap (replay works (core o)) (sym w.no_entry.2)),
     )
-    stands_after o old new event (OutOfMemory e) w h = (
+    replayed_after o old new event (OutOfMemory e) w h = (
       subst (IsLegal works (core o)) (sym w.back.2) h.0,
       ap core w.back.1
           ∙ (h.1 ∙ ap (replay works (core o)) (sym w.back.2)),
     )
 
-    pub may_end : (hall : Hall M E R) (a b : At) (old new : Held M E) (event : E) (acted : Acted M E R)
+    pub may_end : (hall : Hall M E R) (a b : At) (old new : HeldMachine M E) (event : E) (acted : Acted M E R)
         → Rests hall a → Begun core faults works hall a b old
-        → Worked IsWant IsFault old new event acted → MayEnd core faults works hall (events_of acted) b new
+        → Worked IsOutOfMemory IsFault old new event acted → MayEnd core faults works hall (events_of acted) b new
     may_end hall a b old new event acted rests begins w =
         let m = begins.ticket.1 in
         let more = more_of old new event acted w in
@@ -132,11 +132,11 @@ module _ {M E C R : Type 0} (core : M → C) (faults : M → ℕ) (works : C →
           longer_by = (more.0, more.1 ∙ ap (λ l. l ++ more.0) (sym seen), more.2);
           short = w.short;
           mark = omega arith;
-          stands = stands_after (opening hall) old new event acted w begins.stands;
+          replayed = replayed_after (opening hall) old new event acted w begins.replayed;
         }
 
     -- the view after the turn
-    after_view : (hall : Hall M E R) (k : ℕ) (a b c : At) (old new : Held M E) → Begun core faults works hall a b old
+    after_view : (hall : Hall M E R) (k : ℕ) (a b c : At) (old new : HeldMachine M E) → Begun core faults works hall a b old
         → Ended core faults works k b c new
         → c.me ≡ (
           record a.me.0 {
@@ -158,7 +158,7 @@ module _ {M E C R : Type 0} (core : M → C) (faults : M → ℕ) (works : C →
           [],
         ) in p) begins.ticket.1
 
-    pub rests_after : (hall : Hall M E R) (k : ℕ) (a b c : At) (old new : Held M E) → Rests hall a
+    pub rests_after : (hall : Hall M E R) (k : ℕ) (a b c : At) (old new : HeldMachine M E) → Rests hall a
         → Begun core faults works hall a b old → Ended core faults works k b c new
         → Rests hall c
     rests_after hall k a b c old new rests begins ends = let m = after_view hall k a b c old new begins ends in
@@ -171,14 +171,14 @@ module _ {M E C R : Type 0} (core : M → C) (faults : M → ℕ) (works : C →
           some_room = subst (λ (m : Me M E). 0 < m.0.room) (sym m) rests.some_room;
         }
 
-    pub room_after : (hall : Hall M E R) (k : ℕ) (a b c : At) (old new : Held M E)
+    pub room_after : (hall : Hall M E R) (k : ℕ) (a b c : At) (old new : HeldMachine M E)
         → Begun core faults works hall a b old → Ended core faults works k b c new → c.me.0.room ≡ a.me.0.room
     room_after hall k a b c old new begins ends =
         ap (λ (m : Me M E). m.0.room) (after_view hall k a b c old new begins ends)
 
-    pub seen_after : (hall : Hall M E R) (a b c : At) (old new : Held M E) (event : E) (acted : Acted M E R)
+    pub seen_after : (hall : Hall M E R) (a b c : At) (old new : HeldMachine M E) (event : E) (acted : Acted M E R)
         → Begun core faults works hall a b old
-        → Worked IsWant IsFault old new event acted → Ended core faults works (events_of acted) b c new
+        → Worked IsOutOfMemory IsFault old new event acted → Ended core faults works (events_of acted) b c new
         → Begins a.me.0.seen c.me.0.seen
     seen_after hall a b c old new event acted begins w ends =
         let m = after_view hall (events_of acted) a b c old new begins ends in
@@ -186,53 +186,53 @@ module _ {M E C R : Type 0} (core : M → C) (faults : M → ℕ) (works : C →
         subst (Begins a.me.0.seen) (sym (ap (λ (m : Me M E). m.0.seen) m))
         (begins_trans a.me.0.seen old.history.items new.history.items begins.seen (more.0, more.1))
 
-    pub mark_after : (hall : Hall M E R) (a b c : At) (old new : Held M E) (event : E) (acted : Acted M E R)
+    pub mark_after : (hall : Hall M E R) (a b c : At) (old new : HeldMachine M E) (event : E) (acted : Acted M E R)
         → Begun core faults works hall a b old
-        → Worked IsWant IsFault old new event acted → Ended core faults works (events_of acted) b c new
+        → Worked IsOutOfMemory IsFault old new event acted → Ended core faults works (events_of acted) b c new
         → a.me.0.mark ≤ c.me.0.mark
     mark_after hall a b c old new event acted begins w ends =
         let m = ap (λ (m : Me M E). m.0.mark) (after_view hall (events_of acted) a b c old new begins ends) in
         let x = begins.mark in let y = w.counts in omega arith
 
-    pub entry_after : (hall : Hall M E R) (a b c : At) (old new : Held M E) (event : E) (acted : Acted M E R)
+    pub entry_after : (hall : Hall M E R) (a b c : At) (old new : HeldMachine M E) (event : E) (acted : Acted M E R)
         → Begun core faults works hall a b old
-        → Worked IsWant IsFault old new event acted → Ended core faults works (events_of acted) b c new
+        → Worked IsOutOfMemory IsFault old new event acted → Ended core faults works (events_of acted) b c new
         → IfEntry acted (λ reply front k. (front ≡ length c.me.0.seen) × (c.me.0.own ≡ a.me.0.own ++ k ∷ [])
         × IsEntry works (core (opening hall)) a.me.0.seen c.me.0.seen event reply front k)
     entry_after hall a b c old new event (Done reply front (Some k)) begins w ends =
         let m = after_view hall 1 a b c old new begins ends in
         let seen : c.me.0.seen ≡ old.history.items ++ event ∷ [] = ap (λ (m : Me M E). m.0.seen) m ∙ w.entry.2 in
-        let place = w.entry.3 in
+        let index = w.entry.3 in
         let front_is = w.entry.4 in
         let len : length c.me.0.seen ≡ k + 1 = ap length seen
         ∙ omega (arith, length-append old.history.items (event ∷ [])) in
         let le = begins_length a.me.0.seen old.history.items begins.seen in
-        let before : take k c.me.0.seen ≡ old.history.items = (λ i. take (place i) (seen i))
+        let before : take k c.me.0.seen ≡ old.history.items = (λ i. take (index i) (seen i))
         ∙ take-append_seam old.history.items (event ∷ []) in
-        let there : core old.machine ≡ replay works (core (opening hall)) (take k c.me.0.seen) = begins.stands.1
+        let there : core old.machine ≡ replay works (core (opening hall)) (take k c.me.0.seen) = begins.replayed.1
         ∙ ap (replay works (core (opening hall))) (sym before) in (
           omega arith,
-          ap (λ (m : Me M E). m.0.own) m ∙ ap (λ (n : ℕ). a.me.0.own ++ n ∷ []) (sym place),
+          ap (λ (m : Me M E). m.0.own) m ∙ ap (λ (n : ℕ). a.me.0.own ++ n ∷ []) (sym index),
           record {
-            place = front_is;
+            index = front_is;
             later = omega arith;
-            stands = (λ i. slice_get (seen i) (place i)) ∙ slice_get_last old.history.items event;
+            recorded = (λ i. slice_get (seen i) (index i)) ∙ slice_get_last old.history.items event;
             answer = subst (λ (x : C). Accepts works x event reply) there w.entry.0;
           },
         )
     entry_after hall a b c old new event (Done reply front None) begins w ends = tt
     entry_after hall a b c old new event (OutOfMemory e) begins w ends = tt
 
-    pub no_entry_after : (hall : Hall M E R) (a b c : At) (old new : Held M E) (event : E) (acted : Acted M E R)
+    pub no_entry_after : (hall : Hall M E R) (a b c : At) (old new : HeldMachine M E) (event : E) (acted : Acted M E R)
         → Begun core faults works hall a b old
-        → Worked IsWant IsFault old new event acted → Ended core faults works (events_of acted) b c new
+        → Worked IsOutOfMemory IsFault old new event acted → Ended core faults works (events_of acted) b c new
         → IfNoEntry acted (λ reply front. (front ≡ length c.me.0.seen) × (c.me.0.own ≡ a.me.0.own)
-        × IsRefusal works IsWant IsFault (replay works (core (opening hall)) c.me.0.seen) event reply a.me.0.mark
+        × IsRefusal works IsOutOfMemory IsFault (replay works (core (opening hall)) c.me.0.seen) event reply a.me.0.mark
         c.me.0.mark)
     no_entry_after hall a b c old new event (Done reply front None) begins w ends =
         let m = after_view hall 0 a b c old new begins ends in
         let seen : c.me.0.seen ≡ old.history.items = ap (λ (m : Me M E). m.0.seen) m ∙ w.no_entry.2 in
-        let there : core old.machine ≡ replay works (core (opening hall)) c.me.0.seen = begins.stands.1
+        let there : core old.machine ≡ replay works (core (opening hall)) c.me.0.seen = begins.replayed.1
         ∙ ap (replay works (core (opening hall))) (sym seen) in
         let mark : c.me.0.mark ≡ faults new.machine = ap (λ (m : Me M E). m.0.mark) m in
         let low = begins.mark in (
@@ -240,8 +240,8 @@ module _ {M E C R : Type 0} (core : M → C) (faults : M → ℕ) (works : C →
           ap (λ (m : Me M E). m.0.own) m,
           ⊎_elim (λ (h : Refuses works (core old.machine) event reply). inl
               (subst (λ (x : C). Refuses works x event reply) there h))
-              (λ (h : IsWant reply ⊎ (IsFault reply × Rose (faults old.machine) (faults new.machine))). inr
-              (⊎_elim (λ (i : IsWant reply). inl i)
+              (λ (h : IsOutOfMemory reply ⊎ (IsFault reply × Rose (faults old.machine) (faults new.machine))). inr
+              (⊎_elim (λ (i : IsOutOfMemory reply). inl i)
               (λ (i : IsFault reply × Rose (faults old.machine) (faults new.machine)). inr
               (i.0, rose_more (faults old.machine) (faults new.machine) a.me.0.mark c.me.0.mark low mark i.1))
               h)) w.no_entry.0,
@@ -253,9 +253,9 @@ module _ {M E C R : Type 0} (core : M → C) (faults : M → ℕ) (works : C →
     no_entry_after hall a b c old new event (Done reply front (Some k)) begins w ends = tt
     no_entry_after hall a b c old new event (OutOfMemory e) begins w ends = tt
 
-    pub back_after : (hall : Hall M E R) (a b c : At) (old new : Held M E) (event : E) (acted : Acted M E R)
+    pub back_after : (hall : Hall M E R) (a b c : At) (old new : HeldMachine M E) (event : E) (acted : Acted M E R)
         → Begun core faults works hall a b old
-        → Worked IsWant IsFault old new event acted → Ended core faults works (events_of acted) b c new
+        → Worked IsOutOfMemory IsFault old new event acted → Ended core faults works (events_of acted) b c new
         → IfOutOfMemory acted (λ back. (back ≡ event) × (c.me.0.own ≡ a.me.0.own))
     back_after hall a b c old new event (OutOfMemory e) begins w ends =
         (w.back.0, ap (λ (m : Me M E). m.0.own) (after_view hall 0 a b c old new begins ends))

@@ -13,13 +13,13 @@ use Rattle.atomic_table.specs.Table as table
 use Rattle.atomic_table.specs.Table.{step, keeps, takes, gives, Allows}
 use Rattle.atomic_table.proofs.Lists.{set_here}
 use Rattle.portal_hall.specs.History.{Step, Begins, times, once_below}
-use Rattle.portal_hall.specs.declared.board.Held.{Held}
+use Rattle.portal_hall.specs.declared.board.HeldMachine.{HeldMachine}
 use Rattle.portal_hall.specs.declared.board.View.{View}
 use Rattle.portal_hall.specs.declared.board.Stage.{Stage}
 use Rattle.portal_hall.specs.declared.board.Stage.TheVariants.{Resting, Acting}
-use Rattle.portal_hall.specs.Turns.{Apart, tickets_of, Slot, Me, tickets_out, StageFits, Fits, Stands}
+use Rattle.portal_hall.specs.Turns.{Apart, tickets_of, Slot, Me, tickets_out, StageFits, Fits, IsReplayed}
 use Rattle.portal_hall.specs.Turns.{SlotFits, Kept}
-use Rattle.portal_hall.specs.Turns.{lengthened, passed, checked, HasEachPlace, own_after, moved}
+use Rattle.portal_hall.specs.Turns.{lengthened, passed, checked, OwnsEachIndex, own_after, moved}
 use Rattle.portal_hall.proofs.Sums.{sum-set, at_most, both_at_most, one_counts}
 use Rattle.portal_hall.proofs.Prefixes.{begins_self, begins_trans, begins_length}
 use Rattle.portal_hall.proofs.Keeps.{resting_apart, is_below, each_set, apart_set, stage_else, stage_passed}
@@ -46,36 +46,36 @@ once_few : (x n : ℕ) → once_below x n ≤ 1
 once_few x n = grind (arith, nat_tests)
 
 module _ {M E : Type 0} where
-  abbrev pub held_of : Slot M E → Held M E → Held M E
+  abbrev pub held_of : Slot M E → HeldMachine M E → HeldMachine M E
   held_of (Some h) d = h
   held_of None d = d
 
-  abbrev pub first_held : List (ℕ × Slot M E) → Held M E → Held M E
+  abbrev pub first_held : List (ℕ × Slot M E) → HeldMachine M E → HeldMachine M E
   first_held [] d = d
   first_held (x ∷ xs) d = held_of x.1 d
 
   -- a seat that holds one slot holds one thing in it
-  pub same_held : (c : List (ℕ × Slot M E)) (h k : Held M E) → c ≡ (0, Some h) ∷ [] → c ≡ (0, Some k) ∷ [] → h ≡ k
+  pub same_held : (c : List (ℕ × Slot M E)) (h k : HeldMachine M E) → c ≡ (0, Some h) ∷ [] → c ≡ (0, Some k) ∷ [] → h ≡ k
   same_held c h k a b = ap (λ (l : List (ℕ × Slot M E)). first_held l h) (sym a ∙ b)
 
 module _ {M E : Type 0} where
   -- a seat that held nothing in its slot holds what was put there
-  pub put_back : (me me' : Me M E) (held : Held M E) (x : Slot M E) → me.1 ≡ (0, x) ∷ []
+  pub put_back : (me me' : Me M E) (held : HeldMachine M E) (x : Slot M E) → me.1 ≡ (0, x) ∷ []
       → me' ≡ (me.0, (0, Some held) ∷ table.rest me.1)
       → me' ≡ (me.0, (0, Some held) ∷ [])
   put_back me me' held x hand is = is
       ∙ ap (λ (l : List (ℕ × Slot M E)). let p : Me M E = (me.0, (0, Some held) ∷ table.rest l) in p) hand
 
-  -- what the step that lengthens tells of a view
+  -- the effect of the step `lengthened` on a view
   pub lengthened_to : (faults : M → ℕ) (k : ℕ) (me me' : Me M E)
-      (v : View M E) (held : Held M E) → me ≡ (v, (0, Some held) ∷ [])
-      → ((h : Held M E) → me.1 ≡ (0, Some h) ∷ [] → me' ≡ (moved faults k me.0 h, me.1))
+      (v : View M E) (held : HeldMachine M E) → me ≡ (v, (0, Some held) ∷ [])
+      → ((h : HeldMachine M E) → me.1 ≡ (0, Some h) ∷ [] → me' ≡ (moved faults k me.0 h, me.1))
       → me' ≡ (moved faults k v held, (0, Some held) ∷ [])
   lengthened_to faults k me me' v held is tells = tells held (ap (λ (m : Me M E). m.1) is)
       ∙ ap (λ (m : Me M E). let p : Me M E = (moved faults k m.0 held, m.1) in p) is
 
-  -- what the step that passes on tells of a view
-  pub passed_to : (faults : M → ℕ) (k : ℕ) (me me' : Me M E) (v : View M E) (held : Held M E)
+  -- the effect of the step `passed` on a view
+  pub passed_to : (faults : M → ℕ) (k : ℕ) (me me' : Me M E) (v : View M E) (held : HeldMachine M E)
       → me ≡ (moved faults k v held, (0, Some held) ∷ [])
       → me' ≡ (record me.0 { stage = Resting }, []) → me' ≡ (record (moved faults k v held) { stage = Resting }, [])
   passed_to faults k me me' v held is tells = tells
@@ -101,15 +101,15 @@ module _ {M E C R : Type 0} (core : M → C) (faults : M → ℕ) (works : C →
       let both = both_at_most (λ (v : V). v.room) s.views id j v u (λ e. ne (sym e)) at b in
       let rooms = r.rooms in omega arith
 
-  -- with all the room, the places of its own are those of the history
+  -- with all the seats, its own indexes are those of the history
   pub own_places : (s : St) (r : Rule s) (id : ℕ) (v : V) → get_elem? s.views id ≡ some v → v.room ≡ seats → (x : ℕ)
       → times x v.own ≡ once_below x (length r.log)
   own_places s r id v at all x =
       sym (one_counts (λ (u : V). times x u.own) s.views id v at
-      (λ j u ne b. ap (times x) ((r.each j u b).spent (others_none s r id v at all j u ne b)).2))
-      ∙ r.places x
+      (λ j u ne b. ap (times x) ((r.each j u b).without_room (others_none s r id v at all j u ne b)).2))
+      ∙ r.indexes x
 
-  -- with all the room, the whole history is seen
+  -- with all the seats, all of the history is seen
   pub sees_all : (s : St) (r : Rule s) (id : ℕ) (v : V) → get_elem? s.views id ≡ some v → v.room ≡ seats
       → length r.log ≡ length v.seen
   sees_all s r id v at all =
@@ -123,7 +123,7 @@ module _ {M E C R : Type 0} (core : M → C) (faults : M → ℕ) (works : C →
       let lt = f.own (length v.seen) (omega arith) in
       absurd (omega arith))
 
-  pub owns_all : (s : St) (r : Rule s) (id : ℕ) (v : V) → get_elem? s.views id ≡ some v → 0 < v.room → HasEachPlace v
+  pub owns_all : (s : St) (r : Rule s) (id : ℕ) (v : V) → get_elem? s.views id ≡ some v → 0 < v.room → OwnsEachIndex v
   owns_all s r id v at room whole x =
       let all : v.room ≡ seats = whole ∙ ((r.each id v at).named room).1 in
       own_places s r id v at all x ∙ ap (once_below x) (sees_all s r id v at all)
@@ -143,7 +143,7 @@ module _ {M E C R : Type 0} (core : M → C) (faults : M → ℕ) (works : C →
           owns_all s r id me.0 at room,
           λ x.
               let here = at_most (λ (v : V). times x v.own) s.views id me.0 at in
-              let all = r.places x in
+              let all = r.indexes x in
               let few = once_few x (length r.log) in omega arith,
           let mine = at_most (λ (v : V). v.room) s.views id me.0 at in let rooms = r.rooms in let few = r.few in
               omega arith,
@@ -155,7 +155,7 @@ module _ {M E C R : Type 0} (core : M → C) (faults : M → ℕ) (works : C →
   acting_at s r id v t at is = subst (StageFits r.served (Out s.views) r.log r.top r.turn id v) is
       (r.each id v at).stage
 
-  -- the places of its own, before and after
+  -- its own indexes, before and after
   own_times : (k : ℕ) (v : V) (x : ℕ) → k ≤ 1 → times x (own_after k v) + once_below x (length v.seen) ≡ times x
       v.own + once_below x (length v.seen + k)
   own_times zero v x le = let same : length v.seen ≡ length v.seen + 0 = omega arith in
@@ -164,7 +164,7 @@ module _ {M E C R : Type 0} (core : M → C) (faults : M → ℕ) (works : C →
       omega arith
   own_times (suc (suc k)) v x le = absurd (omega arith)
 
-  pub lengthens : (slots id : ℕ) (me : Me M E) (t : ℕ) (held : Held M E) (k : ℕ) (more : List E)
+  pub lengthens : (slots id : ℕ) (me : Me M E) (t : ℕ) (held : HeldMachine M E) (k : ℕ) (more : List E)
       → me.0.stage ≡ Acting t → me.1 ≡ (0, Some held) ∷ [] → 0 < me.0.room
       → k ≤ 1 → held.history.items ≡ me.0.seen ++ more → length more ≡ k → length held.history.items < 2 ^ 64
       → me.0.mark ≤ faults held.machine
@@ -210,7 +210,7 @@ module _ {M E C R : Type 0} (core : M → C) (faults : M → ℕ) (works : C →
                 left = begins_trans me.0.left_seen me.0.seen log f.left (more, grown);
                 right = begins_trans me.0.right_seen me.0.seen log f.right (more, grown);
                 named = f.named;
-                spent = λ z. absurd (omega arith);
+                without_room = λ z. absurd (omega arith);
               }
               (λ j u ne b. let h = r.each j u b in let m = h.mark in record {
                 seen = begins_trans u.seen r.log log h.seen longer;
@@ -221,14 +221,14 @@ module _ {M E C R : Type 0} (core : M → C) (faults : M → ℕ) (works : C →
                 left = h.left;
                 right = h.right;
                 named = h.named;
-                spent = h.spent;
+                without_room = h.without_room;
               }));
           apart = apart_set s.views id w r.apart (λ j u ne b. r.apart id j me.0 u (λ e. ne (sym e)) at b);
           rooms = same_sum core faults works opening seats (λ v. v.room) s.views id me.0 w at refl ∙ r.rooms;
           few = r.few;
-          places = λ x. let was = own_times k me.0 x one in
+          indexes = λ x. let was = own_times k me.0 x one in
               let changed = sum-set (λ (v : V). times x v.own) s.views id me.0 w at in
-              let all = r.places x in
+              let all = r.indexes x in
               let p : once_below x (length me.0.seen) ≡ once_below x (length r.log) = ap (once_below x) seen_len in
               let q : once_below x (length me.0.seen + k) ≡ once_below x (length log) =
               ap (once_below x) (omega arith) in
@@ -240,15 +240,15 @@ module _ {M E C R : Type 0} (core : M → C) (faults : M → ℕ) (works : C →
               );
         },
         λ h is. let e = same_held me.1 h held is hand in
-            ap (λ (z : Held M E). let p : Me M E = (moved faults k me.0 z, me.1) in p) (sym e),
+            ap (λ (z : HeldMachine M E). let p : Me M E = (moved faults k me.0 z, me.1) in p) (sym e),
       )
 
-  pub passes : (slots id : ℕ) (me : Me M E) (t : ℕ) (held : Held M E) → me.0.stage ≡ Acting t
+  pub passes : (slots id : ℕ) (me : Me M E) (t : ℕ) (held : HeldMachine M E) → me.0.stage ≡ Acting t
       → me.1 ≡ (0, Some held) ∷ [] → 0 < me.0.room
       → held.history.items ≡ me.0.seen → me.0.mark ≤ faults held.machine
-      → IfSome me.0.opening (λ o. Stands core faults works o held)
+      → IfSome me.0.opening (λ o. IsReplayed core faults works o held)
       → Allows Rule slots id me 1 (λ n. (n + 1) % 2 ^ 64) (passed (step slots 1 1 0 none) me)
-  passes slots id me t held acts hand room seen mark stands s r _ at _ =
+  passes slots id me t held acts hand room seen mark replayed s r _ at _ =
       let a = acting_at s r id me.0 t at acts in
       let f = r.each id me.0 at in
       let w : V = record me.0 { stage = Resting } in
@@ -278,7 +278,7 @@ module _ {M E C R : Type 0} (core : M → C) (faults : M → ℕ) (works : C →
               left = f.left;
               right = f.right;
               named = f.named;
-              spent = λ z. absurd (omega arith);
+              without_room = λ z. absurd (omega arith);
             }
             (λ j u ne b. let h = r.each j u b in record {
               seen = h.seen;
@@ -290,19 +290,19 @@ module _ {M E C R : Type 0} (core : M → C) (faults : M → ℕ) (works : C →
               left = h.left;
               right = h.right;
               named = h.named;
-              spent = h.spent;
+              without_room = h.without_room;
             });
         apart = apart_set s.views id w r.apart (λ j u ne b. resting_apart Resting u.stage refl);
         rooms = same_sum core faults works opening seats (λ v. v.room) s.views id me.0 w at refl ∙ r.rooms;
         few = r.few;
-        places = λ x. same_sum core faults works opening seats (λ v. times x v.own) s.views id me.0 w at refl
-            ∙ r.places x;
+        indexes = λ x. same_sum core faults works opening seats (λ v. times x v.own) s.views id me.0 w at refl
+            ∙ r.indexes x;
         slot = (
           held,
           (λ i. table.put_back (out i) (hand i)),
           seen ∙ a.3,
           (let m = a.4 in omega arith),
-          subst (λ (o : Option M). IfSome o (λ m. Stands core faults works m held)) (f.named room).0 stands,
+          subst (λ (o : Option M). IfSome o (λ m. IsReplayed core faults works m held)) (f.named room).0 replayed,
         );
       } in (
         w,
@@ -316,7 +316,7 @@ module _ {M E C R : Type 0} (core : M → C) (faults : M → ℕ) (works : C →
         ),
       )
 
-  pub lengthens_as : (slots id : ℕ) (me : Me M E) (v : View M E) (t : ℕ) (held : Held M E) (k : ℕ) (more : List E)
+  pub lengthens_as : (slots id : ℕ) (me : Me M E) (v : View M E) (t : ℕ) (held : HeldMachine M E) (k : ℕ) (more : List E)
       → me ≡ (v, (0, Some held) ∷ []) → v.stage ≡ Acting t
       → 0 < v.room → k ≤ 1 → held.history.items ≡ v.seen ++ more → length more ≡ k
       → length held.history.items < 2 ^ 64 → v.mark ≤ faults held.machine
@@ -326,12 +326,12 @@ module _ {M E C R : Type 0} (core : M → C) (faults : M → ℕ) (works : C →
       (lengthened core faults works (step slots 2 k 0 none) m)) (sym is)
       (lengthens slots id (v, (0, Some held) ∷ []) t held k more acts refl room one grown grown_by short mark)
 
-  pub passes_as : (slots id : ℕ) (me : Me M E) (v : View M E) (t : ℕ) (held : Held M E) (k : ℕ)
+  pub passes_as : (slots id : ℕ) (me : Me M E) (v : View M E) (t : ℕ) (held : HeldMachine M E) (k : ℕ)
       → me ≡ (moved faults k v held, (0, Some held) ∷ []) → v.stage ≡ Acting t
-      → 0 < v.room → v.opening ≡ Some opening → Stands core faults works opening held
+      → 0 < v.room → v.opening ≡ Some opening → IsReplayed core faults works opening held
       → Allows Rule slots id me 1 (λ n. (n + 1) % 2 ^ 64) (passed (step slots 1 1 0 none) me)
-  passes_as slots id me v t held k is acts room named stands =
+  passes_as slots id me v t held k is acts room named replayed =
       subst (λ (m : Me M E). Allows Rule slots id m 1 (λ n. (n + 1) % 2 ^ 64) (passed (step slots 1 1 0 none) m))
       (sym is)
       (passes slots id (moved faults k v held, (0, Some held) ∷ []) t held acts refl room refl (omega arith)
-      (subst (λ (o : Option M). IfSome o (λ m. Stands core faults works m held)) (sym named) stands))
+      (subst (λ (o : Option M). IfSome o (λ m. IsReplayed core faults works m held)) (sym named) replayed))

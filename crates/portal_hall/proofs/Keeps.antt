@@ -13,12 +13,12 @@ use Rattle.atomic_table.specs.Table as table
 use Rattle.atomic_table.specs.Table.{step, keeps, takes, gives, Allows, Splits, Joins}
 use Rattle.atomic_table.proofs.Lists.{at_set, set_again, set_here, set_else, one_turn}
 use Rattle.portal_hall.specs.History.{Step, Begins, times}
-use Rattle.portal_hall.specs.declared.board.Held.{Held}
+use Rattle.portal_hall.specs.declared.board.HeldMachine.{HeldMachine}
 use Rattle.portal_hall.specs.declared.board.View.{View}
 use Rattle.portal_hall.specs.declared.board.Stage.{Stage}
 use Rattle.portal_hall.specs.declared.board.Stage.TheVariants.{Resting, Waiting, Acting}
 use Rattle.portal_hall.specs.Turns.{HasTicket, Apart, tickets_of, Slot, Me, tickets_out, StageFits, Fits}
-use Rattle.portal_hall.specs.Turns.{Stands, SlotFits, Kept, HasTurn}
+use Rattle.portal_hall.specs.Turns.{IsReplayed, SlotFits, Kept, HasTurn}
 use Rattle.portal_hall.specs.Turns.{looked, drew}
 use Rattle.portal_hall.proofs.Sums.{sum-set, at_most, sum-below}
 use Rattle.portal_hall.proofs.Prefixes.{begins_self, begins_trans, begins_length}
@@ -129,7 +129,7 @@ module _ {M E C R : Type 0} (core : M → C) (faults : M → ℕ) (works : C →
   few_out s r =
       let below = sum-below (λ (v : V). tickets_of v.stage) (λ v. v.room) s.views
       (λ j v at. dite (ℕ_discrete v.room 0)
-      (λ z. let rest : tickets_of v.stage ≡ 0 = ap tickets_of ((r.each j v at).spent z).0 in omega arith)
+      (λ z. let rest : tickets_of v.stage ≡ 0 = ap tickets_of ((r.each j v at).without_room z).0 in omega arith)
       (λ some_room. let one = tickets_below v.stage in omega arith)) in
       let all = r.rooms in let few = r.few in omega arith
 
@@ -195,7 +195,7 @@ module _ {M E C R : Type 0} (core : M → C) (faults : M → ℕ) (works : C →
                 left = f.left;
                 right = f.right;
                 named = f.named;
-                spent = λ z. absurd (omega arith);
+                without_room = λ z. absurd (omega arith);
               }
               (λ j u ne b. let h = r.each j u b in record {
                 seen = h.seen;
@@ -205,14 +205,14 @@ module _ {M E C R : Type 0} (core : M → C) (faults : M → ℕ) (works : C →
                 left = h.left;
                 right = h.right;
                 named = h.named;
-                spent = h.spent;
+                without_room = h.without_room;
               });
           apart = apart_set s.views id w r.apart (λ j u ne b x p q.
               let below = ticket_below r.served out r.log r.top r.turn j u u.stage (r.each j u b).stage x q in
               let mine : t ≡ x = p in let lt = below.1 in absurd (omega arith));
           rooms = same_sum (λ v. v.room) s.views id me.0 w at refl ∙ r.rooms;
           few = r.few;
-          places = λ x. same_sum (λ v. times x v.own) s.views id me.0 w at refl ∙ r.places x;
+          indexes = λ x. same_sum (λ v. times x v.own) s.views id me.0 w at refl ∙ r.indexes x;
           slot = slot_stays r.served r.log r.top s.views s.homes r.turn id me.0 w at
               (resting_not me.0.stage r.served rest) r.slot;
         },
@@ -242,7 +242,7 @@ module _ {M E C R : Type 0} (core : M → C) (faults : M → ℕ) (works : C →
       × (me.1 ≡ [] → HasTurn core faults works me r.served (w, table.carried_after me.1 a))
   takes_turn slots id me s r at waits room =
       let home = at_home s r r.turn r.slot id me.0 at waits in
-      let held : Held M E = home.1.0 in
+      let held : HeldMachine M E = home.1.0 in
       let w : V = record me.0 { stage = Acting r.served; seen = held.history.items; mark = faults held.machine } in
       let f = r.each id me.0 at in
       let views' : List V = set s.views id w in
@@ -276,7 +276,7 @@ module _ {M E C R : Type 0} (core : M → C) (faults : M → ℕ) (works : C →
                 right = begins_trans me.0.right_seen me.0.seen held.history.items f.right
                     (subst (Begins me.0.seen) (sym home.1.2) f.seen);
                 named = f.named;
-                spent = λ z. absurd (omega arith);
+                without_room = λ z. absurd (omega arith);
               }
               (λ j u ne b. let h = r.each j u b in let m = h.mark in record {
                 seen = h.seen;
@@ -289,13 +289,13 @@ module _ {M E C R : Type 0} (core : M → C) (faults : M → ℕ) (works : C →
                 left = h.left;
                 right = h.right;
                 named = h.named;
-                spent = h.spent;
+                without_room = h.without_room;
               });
           apart = apart_set s.views id w r.apart (λ j u ne b x p q.
               r.apart id j me.0 u (λ e. ne (sym e)) at b x (subst (λ (z : Stage). HasTicket z x) (sym waits) p) q);
           rooms = same_sum (λ v. v.room) s.views id me.0 w at refl ∙ r.rooms;
           few = r.few;
-          places = λ x. same_sum (λ v. times x v.own) s.views id me.0 w at refl ∙ r.places x;
+          indexes = λ x. same_sum (λ v. times x v.own) s.views id me.0 w at refl ∙ r.indexes x;
           slot = (
             ap (λ (hs : List (maybe.Option (Slot M E))). set hs 0 none) home.1.1,
             (w, set_here s.views id w (is_below s.views id me.0 at), refl),
@@ -307,7 +307,7 @@ module _ {M E C R : Type 0} (core : M → C) (faults : M → ℕ) (works : C →
           refl,
           subst (Begins me.0.seen) (sym home.1.2) f.seen,
           omega arith,
-          subst (λ (o : Option M). IfSome o (λ m. Stands core faults works m held)) (sym (f.named room).0) home.1.4,
+          subst (λ (o : Option M). IfSome o (λ m. IsReplayed core faults works m held)) (sym (f.named room).0) home.1.4,
         ),
       )
 

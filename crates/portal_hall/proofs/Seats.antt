@@ -14,11 +14,11 @@ use Rattle.atomic_table.specs.Table as table
 use Rattle.atomic_table.specs.Table.{Splits, Joins, Final, Seen}
 use Rattle.atomic_table.proofs.Lists.{set_else, at_snoc, at_longer}
 use Rattle.portal_hall.specs.History.{Step, Begins, times, once_below, replay, IsLegal}
-use Rattle.portal_hall.specs.declared.board.Held.{Held}
+use Rattle.portal_hall.specs.declared.board.HeldMachine.{HeldMachine}
 use Rattle.portal_hall.specs.declared.board.View.{View}
 use Rattle.portal_hall.specs.declared.board.Stage.TheVariants.{Resting}
-use Rattle.portal_hall.specs.Turns.{tickets_of, Slot, tickets_out, StageFits, Fits, Stands, SlotFits, Kept}
-use Rattle.portal_hall.specs.Turns.{longer, joined, spent, starting, kept_of, given_of}
+use Rattle.portal_hall.specs.Turns.{tickets_of, Slot, tickets_out, StageFits, Fits, IsReplayed, SlotFits, Kept}
+use Rattle.portal_hall.specs.Turns.{longer, joined, empty_view, starting, kept_of, given_of}
 use Rattle.portal_hall.proofs.Sums.{sum-set}
 use Rattle.portal_hall.proofs.Prefixes.{begins_self, begins_nil, begins_length, begins_shorter}
 use Rattle.portal_hall.proofs.Keeps.{resting_apart, apart_back, each_set, apart_set, resting_not, same_sum}
@@ -68,7 +68,7 @@ module _ {M E C R : Type 0} (core : M → C) (faults : M → ℕ) (works : C →
   abbrev Out : List V → ℕ
   Out views = tickets_out views
 
-  pub opens : (held : Held M E) (ws : List ℕ) (slots : List (Slot M E)) → held.machine ≡ opening
+  pub opens : (held : HeldMachine M E) (ws : List ℕ) (slots : List (Slot M E)) → held.machine ≡ opening
       → held.history.items ≡ [] → 0 < seats → seats ≤ 64
       → ws ≡ 0 ∷ 0 ∷ 0 ∷ [] → slots ≡ Some held ∷ [] → Rule (table.opening ws slots (starting faults opening seats))
   opens held ws slots machine empty some_seats few words_are slots_are =
@@ -87,12 +87,12 @@ module _ {M E C R : Type 0} (core : M → C) (faults : M → ℕ) (works : C →
               left = ([], refl);
               right = ([], refl);
               named = λ _. (refl, refl);
-              spent = λ z. absurd (omega arith);
+              without_room = λ z. absurd (omega arith);
             };
         apart = λ j k u w ne a b. absurd (ne ((only v u j a).0 ∙ sym (only v w k b).0));
         rooms = omega arith;
         few = few;
-        places = λ x. sym (once_nothing x);
+        indexes = λ x. sym (once_nothing x);
         slot = (
           held,
           ap (λ (l : List (Slot M E)). map some l) slots_are,
@@ -128,7 +128,7 @@ module _ {M E C R : Type 0} (core : M → C) (faults : M → ℕ) (works : C →
         left = f.left;
         right = f.right;
         named = λ _. f.named (omega arith);
-        spent = λ z. absurd (omega arith);
+        without_room = λ z. absurd (omega arith);
       }
       (λ j x ne b. r.each j x b) in
       let new : (j : ℕ) → Fits r.served (Out s.views) r.log r.top r.turn opening seats j u = λ j. record {
@@ -139,7 +139,7 @@ module _ {M E C R : Type 0} (core : M → C) (faults : M → ℕ) (works : C →
         left = begins_nil v.seen;
         right = begins_nil v.seen;
         named = λ _. f.named (omega arith);
-        spent = λ z. absurd (omega arith);
+        without_room = λ z. absurd (omega arith);
       } in
       let set_apart = apart_set s.views id w r.apart (λ j x ne b. resting_apart w.stage x.stage rest) in record {
         served = r.served;
@@ -160,8 +160,8 @@ module _ {M E C R : Type 0} (core : M → C) (faults : M → ℕ) (works : C →
             (at_snoc views' u x j a);
         rooms = omega (arith, sum_by-append (λ (v : V). v.room) views' (u ∷ []));
         few = r.few;
-        places = λ x. let p = same_sum core faults works opening seats (λ v. times x v.own) s.views id v w at refl in
-            let q = r.places x in
+        indexes = λ x. let p = same_sum core faults works opening seats (λ v. times x v.own) s.views id v w at refl in
+            let q = r.indexes x in
             omega (arith, sum_by-append (λ (v : V). times x v.own) views' (u ∷ []));
         slot = slot_grows r.served r.log r.top views' u s.homes r.turn
             (slot_stays core faults works opening seats r.served r.log r.top s.views s.homes r.turn id v w at
@@ -177,11 +177,11 @@ module _ {M E C R : Type 0} (core : M → C) (faults : M → ℕ) (works : C →
           (h.0, (h.1.0, at_longer views (u ∷ []) j h.1.0 h.1.1, h.1.2))
 
   pub joins : (id : ℕ) (v : V) (other : ℕ) (u : V) → v.stage ≡ Resting → u.stage ≡ Resting → 0 < v.room
-      → Joins Rule id v other u (joined v u) spent
+      → Joins Rule id v other u (joined v u) empty_view
   joins id v other u rest rest' room s r at apart there =
       let f = r.each id v at in
       let w : V = joined v u in
-      let o : V = spent in
+      let o : V = empty_view in
       let views' : List V = set s.views id w in
       let views'' : List V = set views' other o in
       let there' : get_elem? s.views other ≡ some u = sym (set_else s.views id other w apart) ∙ there in
@@ -209,7 +209,7 @@ module _ {M E C R : Type 0} (core : M → C) (faults : M → ℕ) (works : C →
               left = ([], refl);
               right = ([], refl);
               named = λ z. absurd (omega arith);
-              spent = λ _. (refl, refl, refl, refl);
+              without_room = λ _. (refl, refl, refl, refl);
             }
             (λ j x ne. each_set (Fits r.served (Out s.views) r.log r.top r.turn opening seats) s.views id w
             record {
@@ -228,7 +228,7 @@ module _ {M E C R : Type 0} (core : M → C) (faults : M → ℕ) (works : C →
               left = longer_left v.seen u.seen r.log f.seen h.seen;
               right = longer_right v.seen u.seen r.log f.seen h.seen;
               named = λ _. f.named room;
-              spent = λ z. absurd (omega arith);
+              without_room = λ z. absurd (omega arith);
             }
             (λ k y ne' b'. r.each k y b') j x));
         apart = apart_set views' other o
@@ -237,7 +237,7 @@ module _ {M E C R : Type 0} (core : M → C) (faults : M → ℕ) (works : C →
         rooms = let all = r.rooms in let p = sum-set (λ (v : V). v.room) s.views id v w at in
             let q = sum-set (λ (v : V). v.room) views' other u o there in omega arith;
         few = r.few;
-        places = λ x. let all = r.places x in
+        indexes = λ x. let all = r.indexes x in
             let p = sum-set (λ (v : V). times x v.own) s.views id v w at in
             let q = sum-set (λ (v : V). times x v.own) views' other u o there in
             let both : times x (v.own ++ u.own) ≡ times x v.own + times x u.own = sum_by-append _ v.own u.own in
@@ -258,14 +258,14 @@ module _ {M E C R : Type 0} (core : M → C) (faults : M → ℕ) (works : C →
       (λ e. resting_not core faults works opening seats v.stage r.served rest
       (ap (λ (z : V). z.stage) (some-injective v h.1.0 (sym at ∙ (ap (get_elem? s.views) (sym e) ∙ h.1.1))) ∙ h.1.2))
       (λ ne. resting_not core faults works opening seats h.1.0.stage r.served
-      ((r.each j h.1.0 h.1.1).spent (others_none core faults works opening seats s r id v at all j h.1.0 ne h.1.1)).0
+      ((r.each j h.1.0 h.1.1).without_room (others_none core faults works opening seats s r id v at all j h.1.0 ne h.1.1)).0
       h.1.2))
 
   -- the machine and the history of a hall that is closed by a pass with all the room
   pub closes : (id : ℕ) (v : V) (ws : List ℕ) (slots : List (Slot M E)) → v.room ≡ seats → v.stage ≡ Resting
       → Final (Seen Rule id v) ws slots
-      → (held : Held M E) × (get_elem? slots 0 ≡ some (Some held)) × Begins v.seen held.history.items
-      × ((x : ℕ) → times x v.own ≡ once_below x (length held.history.items)) × Stands core faults works opening held
+      → (held : HeldMachine M E) × (get_elem? slots 0 ≡ some (Some held)) × Begins v.seen held.history.items
+      × ((x : ℕ) → times x v.own ≡ once_below x (length held.history.items)) × IsReplayed core faults works opening held
       × (v.mark ≤ faults held.machine)
   closes id v ws slots all rest final =
       let s = final.0 in
@@ -284,26 +284,26 @@ module _ {M E C R : Type 0} (core : M → C) (faults : M → ℕ) (works : C →
         omega arith,
       )
 
-  same_slot : (h k : Held M E) (x : Slot M E) → x ≡ Some h → x ≡ Some k → h ≡ k
+  same_slot : (h k : HeldMachine M E) (x : Slot M E) → x ≡ Some h → x ≡ Some k → h ≡ k
   same_slot h k x a b = ap (λ (s : Slot M E). held_of s h) (sym a ∙ b)
 
   -- the slot is full
   pub slot_full : (id : ℕ) (v : V) (ws : List ℕ) (slots : List (Slot M E)) (x : Slot M E) → v.room ≡ seats
       → v.stage ≡ Resting → Final (Seen Rule id v) ws slots
-      → get_elem? slots 0 ≡ some x → (held : Held M E) × (x ≡ Some held)
+      → get_elem? slots 0 ≡ some x → (held : HeldMachine M E) × (x ≡ Some held)
   slot_full id v ws slots x all rest final taken =
       let c = closes id v ws slots all rest final in (c.0, some-injective x (Some c.0) (sym taken ∙ c.1))
 
   -- what was taken out of the slot
-  pub closes_with : (id : ℕ) (v : V) (ws : List ℕ) (slots : List (Slot M E)) (x : Slot M E) (held : Held M E)
+  pub closes_with : (id : ℕ) (v : V) (ws : List ℕ) (slots : List (Slot M E)) (x : Slot M E) (held : HeldMachine M E)
       → v.room ≡ seats → v.stage ≡ Resting → Final (Seen Rule id v) ws slots
       → get_elem? slots 0 ≡ some x → x ≡ Some held
       → Begins v.seen held.history.items × ((x : ℕ) → times x v.own ≡ once_below x (length held.history.items))
-      × Stands core faults works opening held × (v.mark ≤ faults held.machine)
+      × IsReplayed core faults works opening held × (v.mark ≤ faults held.machine)
   closes_with id v ws slots x held all rest final taken is =
       let c = closes id v ws slots all rest final in
       let same : c.0 ≡ held = same_slot c.0 held x (some-injective x (Some c.0) (sym taken ∙ c.1)) is in
-      let P : Held M E → Type 0 = λ h. Begins v.seen h.history.items
-      × ((x : ℕ) → times x v.own ≡ once_below x (length h.history.items)) × Stands core faults works opening h
+      let P : HeldMachine M E → Type 0 = λ h. Begins v.seen h.history.items
+      × ((x : ℕ) → times x v.own ≡ once_below x (length h.history.items)) × IsReplayed core faults works opening h
       × (v.mark ≤ faults h.machine) in
       subst P same (c.2, c.3, c.4, c.5)

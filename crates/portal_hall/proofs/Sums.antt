@@ -19,7 +19,7 @@ module _ {A : Type 0} (f : A → ℕ) where
   at_most (x ∷ xs) zero v at = let e : f x ≡ f v = ap f (some-injective x v at) in omega (arith, sum_by-cons f x xs)
   at_most (x ∷ xs) (suc i) v at = let h = at_most xs i v at in omega (arith, sum_by-cons f x xs)
 
-  -- two elements at two places
+  -- two elements at two indexes
   pub both_at_most : (xs : List A) (i j : ℕ) (v w : A) → i ≢ j → get_elem? xs i ≡ some v → get_elem? xs j ≡ some w
       → f v + f w ≤ sum_by f xs
   both_at_most [] i j v w ne a b = absurd (some-ne-none v (sym a))

@@ -1,6 +1,6 @@
--- The rule of the hall's table, and what each step on it tells.
+-- The rule of the hall's table, and the effect of each step on it.
 -- Word 0 is the next ticket to be drawn, word 1 the ticket whose turn it is, both modulo 2^64, and word 2 the length
--- of the history. The slot has the machine and the history. It is out while a seat has the turn, and with that seat.
+-- of the history. The slot has the machine and the history. While a seat has the turn, that seat holds them.
 use Rattle.std.specs.Prelude.{◌≡◌, ◌≢◌, ℕ, ◌+◌, ◌-◌, ◌%◌, ◌^◌, ◌<◌, ◌≤◌, max, nat_lt, if◌then◌else◌}
 use Rattle.std.specs.Prelude.{List, [], ◌∷◌, ◌++◌, length, sum_by, Option, Some, None, IfSome}
 use mathlib.Core.Option.{none, some}
@@ -8,7 +8,7 @@ use mathlib.Core.Option as maybe
 use lib.ListN.{get_elem?}
 use Rattle.atomic_table.specs.Table as table
 use Rattle.portal_hall.specs.History.{Step, Begins, times, once_below, replay, IsLegal}
-use Rattle.portal_hall.specs.declared.board.Held.{Held}
+use Rattle.portal_hall.specs.declared.board.HeldMachine.{HeldMachine}
 use Rattle.portal_hall.specs.declared.board.View.{View}
 use Rattle.portal_hall.specs.declared.board.Stage.{Stage}
 use Rattle.portal_hall.specs.declared.board.Stage.TheVariants.{Resting, Waiting, Acting}
@@ -19,32 +19,32 @@ HasTicket Resting t = ⊥
 HasTicket (Waiting x) t = x ≡ t
 HasTicket (Acting x) t = x ≡ t
 
--- no ticket is that of both
+-- the two have no ticket in common
 abbrev pub Apart : Stage → Stage → Type 0
 Apart a b = (t : ℕ) → HasTicket a t → HasTicket b t → ⊥
 
--- how many tickets the seat has
+-- the count of tickets of the seat: 1 or 0
 abbrev pub tickets_of : Stage → ℕ
 tickets_of Resting = 0
 tickets_of (Waiting _) = 1
 tickets_of (Acting _) = 1
 
 abbrev pub Slot : Type 0 → Type 0 → Type 0
-Slot M E = Option (Held M E)
+Slot M E = Option (HeldMachine M E)
 
 abbrev pub Me : Type 0 → Type 0 → Type 0
 Me M E = table.Me (Slot M E) (View M E)
 
--- how many tickets are out
+-- the count of tickets that are drawn and not yet served
 abbrev pub tickets_out : {M E : Type 0} → List (View M E) → ℕ
 tickets_out views = sum_by (λ v. tickets_of v.stage) views
 
--- the places of its own after so many more events
+-- the pass's own indexes after k more events
 abbrev pub own_after : {M E : Type 0} → ℕ → View M E → List ℕ
 own_after k v = if nat_lt 0 k then v.own ++ length v.seen ∷ [] else v.own
 
--- the view that has seen what is held, after so many more events
-abbrev pub moved : {M E : Type 0} → (M → ℕ) → ℕ → View M E → Held M E → View M E
+-- the view that has seen all of the held history, after k more events
+abbrev pub moved : {M E : Type 0} → (M → ℕ) → ℕ → View M E → HeldMachine M E → View M E
 moved faults k v held = record v { seen = held.history.items; own = own_after k v; mark = faults held.machine }
 
 -- the longer of two lists
@@ -52,13 +52,14 @@ abbrev pub longer : {E : Type 0} → List E → List E → List E
 longer xs ys = if nat_lt (length xs) (length ys) then ys else xs
 
 module _ {M E : Type 0} (served out : ℕ) (log : List E) (top : ℕ) (turn : maybe.Option ℕ) (seat : ℕ) where
-  -- A ticket is one of those from the one that is served on. Who has the turn has seen the whole history.
+  -- A ticket is at least the one that is served, and below the next one to be drawn. The seat that has the turn has seen
+  -- all of the history.
   abbrev pub StageFits : View M E → Stage → Type 0
   StageFits v Resting = Unit {0}
   StageFits v (Waiting t) = (served ≤ t) × (t < served + out)
   StageFits v (Acting t) = (t ≡ served) × (0 < out) × (turn ≡ some seat) × (v.seen ≡ log) × (v.mark ≡ top)
 
--- what the rule says of one view
+-- what the rule requires of one view
 pub record Fits {M E : Type 0} (served out : ℕ) (log : List E) (top : ℕ) (turn : maybe.Option ℕ) (opening : M)
     (seats : ℕ)
     (seat : ℕ) (v : View M E) : Type 0 where
@@ -69,18 +70,18 @@ pub record Fits {M E : Type 0} (served out : ℕ) (log : List E) (top : ℕ) (tu
   pub left : Begins v.left_seen v.seen
   pub right : Begins v.right_seen v.seen
   pub named : 0 < v.room → (v.opening ≡ Some opening) × (v.seats ≡ seats)
-  pub spent : v.room ≡ 0 → (v.stage ≡ Resting) × (v.seen ≡ []) × (v.own ≡ []) × (v.mark ≡ 0)
+  pub without_room : v.room ≡ 0 → (v.stage ≡ Resting) × (v.seen ≡ []) × (v.own ≡ []) × (v.mark ≡ 0)
 
 module _ {M E C R : Type 0} (core : M → C) (faults : M → ℕ) (step : C → E → Step C R) where
-  -- the machine has come to its core by its history, which is legal
-  abbrev pub Stands : M → Held M E → Type 0
-  Stands opening held = IsLegal step (core opening) held.history.items
+  -- the history is legal, and the machine's core is its replay
+  abbrev pub IsReplayed : M → HeldMachine M E → Type 0
+  IsReplayed opening held = IsLegal step (core opening) held.history.items
       × (core held.machine ≡ replay step (core opening) held.history.items)
 
-  -- the slot is at home with the history so far, or out with the seat that has the turn
+  -- the slot has the machine with the history so far, or the seat that has the turn holds them
   abbrev pub SlotFits : ℕ → List E → ℕ → M → List (View M E) → List (maybe.Option (Slot M E)) → maybe.Option ℕ → Type 0
-  SlotFits served log top opening views homes none = (held : Held M E) × (homes ≡ some (Some held) ∷ [])
-      × (held.history.items ≡ log) × (top ≤ faults held.machine) × Stands opening held
+  SlotFits served log top opening views homes none = (held : HeldMachine M E) × (homes ≡ some (Some held) ∷ [])
+      × (held.history.items ≡ log) × (top ≤ faults held.machine) × IsReplayed opening held
   SlotFits served log top opening views homes (some seat) = (homes ≡ none ∷ [])
       × ((v : View M E) × (get_elem? views seat ≡ some v) × (v.stage ≡ Acting served))
 
@@ -96,23 +97,23 @@ module _ {M E C R : Type 0} (core : M → C) (faults : M → ℕ) (step : C → 
         → Apart v.stage w.stage
     pub rooms : sum_by (λ v. v.room) s.views ≡ seats
     pub few : seats ≤ 64
-    pub places : (x : ℕ) → sum_by (λ v. times x v.own) s.views ≡ once_below x (length log)
+    pub indexes : (x : ℕ) → sum_by (λ v. times x v.own) s.views ≡ once_below x (length log)
     pub slot : SlotFits served log top opening s.views s.homes turn
 
-  -- The turn was found, with the machine and the history: the whole history is seen.
+  -- The seat got the turn, with the machine and the history, and has seen all of the history.
   abbrev pub HasTurn : Me M E → ℕ → Me M E → Type 0
-  HasTurn m t m' = (held : Held M E) × (m'.1 ≡ (0, Some held) ∷ [])
+  HasTurn m t m' = (held : HeldMachine M E) × (m'.1 ≡ (0, Some held) ∷ [])
       × (m'.0 ≡ record m.0 { stage = Acting t; seen = held.history.items; mark = faults held.machine })
-      × Begins m.0.seen held.history.items × (m.0.mark ≤ faults held.machine) × IfSome m.0.opening (λ o. Stands o held)
+      × Begins m.0.seen held.history.items × (m.0.mark ≤ faults held.machine) × IfSome m.0.opening (λ o. IsReplayed o held)
 
-  -- whose turn it is, was read
+  -- the ticket that is served was read
   abbrev pub looked : table.Step (Slot M E) → Me M E → ℕ → Me M E → Type 0
   looked st m found m' = (t : ℕ) → m.0.stage ≡ Waiting t
       → (found ≡ t % 2 ^ 64 → HasTurn m t m') × (found ≢ t % 2 ^ 64 → m' ≡ m)
 
-  -- the history in the slot is now the one that is seen
+  -- the seat has now seen the history that it holds
   abbrev pub lengthened : table.Step (Slot M E) → Me M E → ℕ → Me M E → Type 0
-  lengthened st m found m' = (held : Held M E) → m.1 ≡ (0, Some held) ∷ []
+  lengthened st m found m' = (held : HeldMachine M E) → m.1 ≡ (0, Some held) ∷ []
       → m' ≡ (moved faults st.first m.0 held, m.1)
 
 module _ {M E : Type 0} where
@@ -120,17 +121,17 @@ module _ {M E : Type 0} where
   abbrev pub drew : table.Step (Slot M E) → Me M E → ℕ → Me M E → Type 0
   drew st m found m' = (t : ℕ) × (found ≡ t % 2 ^ 64) × (m' ≡ (record m.0 { stage = Waiting t }, m.1))
 
-  -- With all the room, each place of the history is its own, once.
-  abbrev pub HasEachPlace : View M E → Type 0
-  HasEachPlace v = v.room ≡ v.seats → (x : ℕ) → times x v.own ≡ once_below x (length v.seen)
+  -- A view with all the seats owns each index of the history, once.
+  abbrev pub OwnsEachIndex : View M E → Type 0
+  OwnsEachIndex v = v.room ≡ v.seats → (x : ℕ) → times x v.own ≡ once_below x (length v.seen)
 
-  -- the slot was given back, and the turn passed on
+  -- the slot was filled again, and the turn passed on
   abbrev pub passed : table.Step (Slot M E) → Me M E → ℕ → Me M E → Type 0
-  passed st m found m' = (m' ≡ (record m.0 { stage = Resting }, [])) × HasEachPlace m'.0
+  passed st m found m' = (m' ≡ (record m.0 { stage = Resting }, [])) × OwnsEachIndex m'.0
 
-  -- Nothing changes; what the rule says of a view that took in another is told.
+  -- Nothing changes. The rule says this of a view to which another was joined.
   abbrev pub checked : table.Step (Slot M E) → Me M E → ℕ → Me M E → Type 0
-  checked st m found m' = (m' ≡ m) × Begins m.0.left_seen m.0.seen × Begins m.0.right_seen m.0.seen × HasEachPlace m.0
+  checked st m found m' = (m' ≡ m) × Begins m.0.left_seen m.0.seen × Begins m.0.right_seen m.0.seen × OwnsEachIndex m.0
       × ((x : ℕ) → times x m.0.own ≤ 1) × (m.0.room ≤ 64)
 
   -- the view of the first seat
@@ -147,14 +148,14 @@ module _ {M E : Type 0} where
     right_seen = [];
   }
 
-  -- what is left of a view that gives so much room away, and the view that gets it
+  -- the rest of a view that gives this count of seats away, and the view that gets them
   abbrev pub kept_of : ℕ → View M E → View M E
   kept_of room v = record v { room = v.room - room }
 
   abbrev pub given_of : ℕ → View M E → View M E
   given_of room v = record v { own = []; room = room; left_seen = []; right_seen = [] }
 
-  -- two views in one
+  -- the view to which two views were joined
   abbrev pub joined : View M E → View M E → View M E
   joined v w = record v {
     seen = longer v.seen w.seen;
@@ -166,8 +167,8 @@ module _ {M E : Type 0} where
   }
 
   -- a view that knows nothing
-  abbrev pub spent : View M E
-  spent = record {
+  abbrev pub empty_view : View M E
+  empty_view = record {
     opening = None;
     seats = 0;
     stage = Resting;

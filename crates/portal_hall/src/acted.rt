@@ -1,26 +1,26 @@
-//! What an act gives.
+//! The outcome of an act.
 ghost use Rattle.std.specs.Prelude.{◌≡◌};
 
 use crate::machine::Machine;
 
-/// What became of an event.
+/// The outcome of an event.
 #[derive(Drop)]
 pub enum Acted<M: Machine> {
-    /// The machine replied. `front` is the length of the history then, and `entry` the place of the event in it, where
-    /// it was accepted.
+    /// The machine replied. `front` is the length of the history at the reply, and `entry` the event's index in it, from
+    /// 0, if it was accepted.
     Done {
         reply: M::Reply,
         front: u64,
         entry: Option<u64>,
     },
-    /// There was no memory for the history to grow. The event comes back.
+    /// Out of memory: the history couldn't grow. The event is returned, and the machine wasn't called.
     OutOfMemory(M::Event),
 }
 
 impl<M: Machine> Acted<M> {
     ghost use Rattle.portal_hall.specs.Passes.{events_of};
 
-    /// How many events it added to the history.
+    /// The count of events that it added to the history.
     pub(crate) fn events(&self) -> u64
         ensures { result ≡ events_of self.now }
     {

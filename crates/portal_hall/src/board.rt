@@ -1,5 +1,5 @@
-//! The table that the passes of a hall share, and what each step on it tells.
-ghost use Rattle.portal_hall.specs.Turns.{drew, looked, lengthened, passed, checked, joined, spent};
+//! The table that the passes of a hall share, and the effect of each step on it.
+ghost use Rattle.portal_hall.specs.Turns.{drew, looked, lengthened, passed, checked, joined, empty_view};
 
 use crate::machine::Machine;
 use atomic_table::{Join, Play, Seat, Split, Table, TableRule};
@@ -8,35 +8,35 @@ use std::collections::LinkedList;
 use std::marker::{Brand, PhantomData};
 use std::snapshot::Snapshot;
 
-/// What the slot holds.
+/// The content of the slot: a machine, and the events that it accepted, in order.
 #[derive(Drop)]
-pub struct Held<M, E> {
+pub struct HeldMachine<M, E> {
     pub machine: M,
     pub history: Vec<E>,
 }
 
-/// Whether a seat has a ticket, and whether it is its turn. Tickets are counted without an end.
+/// Whether a seat has a ticket, and whether it is its turn. Ticket numbers have no upper bound.
 pub enum Stage {
     Resting,
     Waiting(u64),
     Acting(u64),
 }
 
-/// What a seat knows. No value of it is made.
+/// What a seat knows of the hall. It stands in contracts alone, and no value of it is made.
 pub struct View<M, E> {
-    /// The machine that the hall was opened with. A view that was taken in by another has none.
+    /// The machine that the hall was opened with. A view that another view has joined has none.
     pub opening: Option<M>,
-    /// The room of the hall.
+    /// The count of the hall's seats.
     pub seats: u64,
     pub stage: Stage,
-    /// A beginning of the history.
+    /// A prefix of the history.
     pub seen: LinkedList<E>,
-    /// The places in the history of the events that its calls made.
+    /// The indexes in the history of the events that its own calls added.
     pub own: LinkedList<u64>,
-    /// A count of faults that the machine had.
+    /// A count of faults that the machine has reached.
     pub mark: u64,
     pub room: u64,
-    /// What each of two views had seen that became this one.
+    /// What each of the two views had seen that were joined to this one.
     pub left_seen: LinkedList<E>,
     pub right_seen: LinkedList<E>,
 }
@@ -46,7 +46,7 @@ pub struct InTurn<M> {
     machine: PhantomData<M>,
 }
 
-impl<M: Machine> TableRule<Option<Held<M, M::Event>>, View<M, M::Event>, (Snapshot<M>, u32)>
+impl<M: Machine> TableRule<Option<HeldMachine<M, M::Event>>, View<M, M::Event>, (Snapshot<M>, u32)>
     for InTurn<M> {
     ghost use Rattle.portal_hall.specs.Turns.{Kept, starting};
 
@@ -55,13 +55,19 @@ impl<M: Machine> TableRule<Option<Held<M, M::Event>>, View<M, M::Event>, (Snapsh
     ghost first = { λ key. starting M.faults key.0.value key.1 };
 }
 
-pub type Board<M, E> = Table<Option<Held<M, E>>, View<M, E>, (Snapshot<M>, u32), InTurn<M>, Global>;
+pub type Board<M, E> = Table<
+    Option<HeldMachine<M, E>>,
+    View<M, E>,
+    (Snapshot<M>, u32),
+    InTurn<M>,
+    Global,
+>;
 
-pub type Place<M, E> = Seat<Option<Held<M, E>>, View<M, E>>;
+pub type HallSeat<M, E> = Seat<Option<HeldMachine<M, E>>, View<M, E>>;
 
 pub struct Draw;
 
-impl<M, E> Play<Option<Held<M, E>>, View<M, E>> for Draw {
+impl<M, E> Play<Option<HeldMachine<M, E>>, View<M, E>> for Draw {
     ghost then = { drew };
 }
 
@@ -69,7 +75,7 @@ pub struct Look<M> {
     machine: PhantomData<M>,
 }
 
-impl<M: Machine> Play<Option<Held<M, M::Event>>, View<M, M::Event>> for Look<M> {
+impl<M: Machine> Play<Option<HeldMachine<M, M::Event>>, View<M, M::Event>> for Look<M> {
     ghost then = { looked M.core M.faults M.step };
 }
 
@@ -77,34 +83,34 @@ pub struct Lengthen<M> {
     machine: PhantomData<M>,
 }
 
-impl<M: Machine> Play<Option<Held<M, M::Event>>, View<M, M::Event>> for Lengthen<M> {
+impl<M: Machine> Play<Option<HeldMachine<M, M::Event>>, View<M, M::Event>> for Lengthen<M> {
     ghost then = { lengthened M.core M.faults M.step };
 }
 
 pub struct PassOn;
 
-impl<M, E> Play<Option<Held<M, E>>, View<M, E>> for PassOn {
+impl<M, E> Play<Option<HeldMachine<M, E>>, View<M, E>> for PassOn {
     ghost then = { passed };
 }
 
 pub struct Check;
 
-impl<M, E> Play<Option<Held<M, E>>, View<M, E>> for Check {
+impl<M, E> Play<Option<HeldMachine<M, E>>, View<M, E>> for Check {
     ghost then = { checked };
 }
 
-/// How much room a pass gives to another.
+/// The count of seats that a pass gives to another.
 pub trait Room {
     ghost use Rattle.std.specs.Prelude.{ℕ};
 
     ghost room: { ℕ };
 }
 
-pub struct Cut<B> {
+pub struct SplitRoom<B> {
     room: PhantomData<B>,
 }
 
-impl<M, E, B: Room> Split<View<M, E>> for Cut<B> {
+impl<M, E, B: Room> Split<View<M, E>> for SplitRoom<B> {
     ghost use Rattle.portal_hall.specs.Turns.{kept_of, given_of};
 
     ghost left = { kept_of B.room };
@@ -112,12 +118,12 @@ impl<M, E, B: Room> Split<View<M, E>> for Cut<B> {
     ghost right = { given_of B.room };
 }
 
-pub struct Glue;
+pub struct JoinSeats;
 
-impl<M, E> Join<View<M, E>> for Glue {
+impl<M, E> Join<View<M, E>> for JoinSeats {
     ghost both = { joined };
 
-    ghost spent = { spent };
+    ghost spent = { empty_view };
 }
 
 impl Room for Brand {

@@ -2,9 +2,9 @@
 ghost use Rattle.std.specs.Prelude.{◌≡◌};
 
 use crate::acted::Acted;
-use crate::board::{Board, Check, Glue, Held};
+use crate::board::{Board, Check, HeldMachine, JoinSeats};
 use crate::machine::Machine;
-use crate::parts::{cut, machine_of};
+use crate::parts::{machine_of, split_room};
 use crate::pass::Pass;
 use atomic_table::{Refused, Table};
 use portal_base::seq::Seq;
@@ -27,7 +27,7 @@ impl<M: Machine> Hall<M> {
     ghost use Rattle.portal_hall.specs.Passes.{opening, seats_of, room_of, seen, own, mark, OwnsAll, IsPassOf};
     ghost use Rattle.portal_hall.specs.Passes.{IsEntry, IsRefusal, IfEntry, IfNoEntry, IfOutOfMemory};
 
-    /// A hall over the machine, and a pass with all its room. For want of memory the machine is handed back.
+    /// Opens a hall over the machine, with a pass that has all its seats, 1 to 64. Out of memory, it returns the machine.
     pub fn open(alloc: Global, machine: M, seats: u32) -> Result<(Hall<M>, Pass<M>), M>
         requires { (1 ≤ seats) × (seats ≤ 64) }
         ensures hall { IfOk result (λ r. (opening r.0 ≡ machine) × (seats_of r.0 ≡ seats)) }
@@ -37,7 +37,7 @@ impl<M: Machine> Hall<M> {
         ensures back { IfErr result (λ back. back ≡ machine) }
     {
         let about = (Snapshot::of(&machine), seats);
-        let held = Held {
+        let held = HeldMachine {
             machine,
             history: Vec::new(alloc),
         };
@@ -56,8 +56,8 @@ impl<M: Machine> Hall<M> {
         }
     }
 
-    /// Waits for the pass's turn, and has the machine work the event. The reply is the machine's at the end of what the
-    /// pass has then seen, or, where the event is accepted, just before it.
+    /// Waits for the pass's turn, and calls the machine with the event. The reply is the machine's after all the events
+    /// that the pass has then seen, or, if the event is accepted, just before it.
     pub fn act<R: Wait>(&self, rt: &R, pass: &mut Pass<M>, event: M::Event) -> Acted<M>
         requires { IsPassOf self.now pass.old }
         ensures pass { IsPassOf self.now pass.new × (room_of pass.new ≡ room_of pass.old) }
@@ -67,20 +67,20 @@ impl<M: Machine> Hall<M> {
             × IsEntry M.step (M.core (opening self.now)) (seen pass.old) (seen pass.new) event reply front k) }
         ensures no_entry { IfNoEntry result (λ reply front. (front ≡ length (seen pass.new))
             × (own pass.new ≡ own pass.old)
-            × IsRefusal M.step M.IsWant M.IsFault (replay M.step (M.core (opening self.now)) (seen pass.new))
+            × IsRefusal M.step M.IsOutOfMemory M.IsFault (replay M.step (M.core (opening self.now)) (seen pass.new))
             event reply (mark pass.old) (mark pass.new)) }
         ensures back { IfOutOfMemory result (λ back. (back ≡ event) × (own pass.new ≡ own pass.old)) }
         ensures mark { mark pass.old ≤ mark pass.new }
         ensures all { OwnsAll self.now pass.new }
     {
         let mut held = self.begin(rt, &mut pass.seat);
-        let acted = held.work(event);
+        let acted = held.act_and_record(event);
         let more = acted.events();
         self.end(&mut pass.seat, held, more);
         acted
     }
 
-    /// Moves so much room to a new pass, which has seen as much.
+    /// Moves this count of seats to a new pass, which has seen as much of the history and owns none of its events.
     pub fn split(&self, pass: &mut Pass<M>, room: u32) -> Pass<M>
         requires pass { IsPassOf self.now pass.old }
         requires room { (1 ≤ room) × (room < room_of pass.old) }
@@ -90,12 +90,12 @@ impl<M: Machine> Hall<M> {
         ensures given { IsPassOf self.now result × (room_of result ≡ room) }
         ensures copied { (seen result ≡ seen pass.old) × (own result ≡ []) × (mark result ≡ mark pass.old) }
     {
-        let seat = cut::<M, Brand>(self, &mut pass.seat, room);
+        let seat = split_room::<M, Brand>(self, &mut pass.seat, room);
         pass.room -= room;
         Pass { seat, room }
     }
 
-    /// Takes in another pass, with its room.
+    /// Joins another pass to this one, with its seats and with what it has seen and owns.
     pub fn join(&self, pass: &mut Pass<M>, other: Pass<M>)
         requires pass { IsPassOf self.now pass.old }
         requires other { IsPassOf self.now other }
@@ -108,12 +108,14 @@ impl<M: Machine> Hall<M> {
         ensures all { OwnsAll self.now pass.new }
     {
         let Pass { seat, room } = other;
-        self.table.shared.join_seat::<Glue>(&mut pass.seat, seat);
+        self.table
+            .shared
+            .join_seat::<JoinSeats>(&mut pass.seat, seat);
         self.table.shared.load::<Check>(&mut pass.seat, 1);
         pass.room += room;
     }
 
-    /// Ends the hall by the pass that has all its room. The machine and the history come back.
+    /// Ends the hall by the pass that has all its seats. Returns the machine and the history.
     pub fn close(self, pass: Pass<M>) -> (M, Seq<M::Event>)
         requires pass { IsPassOf self pass }
         requires all { room_of pass ≡ seats_of self }
@@ -128,7 +130,7 @@ impl<M: Machine> Hall<M> {
         let mut closed = table.close_with(seat);
         let held = closed.take(0);
         closed.free();
-        let Held { machine, history } = held.unwrap();
+        let HeldMachine { machine, history } = held.unwrap();
         (machine, Seq::from(history))
     }
 }

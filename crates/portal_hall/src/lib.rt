@@ -1,10 +1,10 @@
-//! One turn at a time over any machine, and one history of what its events changed.
+//! One turn at a time over any machine, and one history of the events that it accepted.
 #![tactic(auto)]
 
 pub mod acted;
 mod board;
 pub mod hall;
-mod held;
+mod held_machine;
 pub mod machine;
 mod parts;
 pub mod pass;

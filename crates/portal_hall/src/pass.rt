@@ -1,11 +1,11 @@
 //! A pass of a hall.
-use crate::board::Place;
+use crate::board::HallSeat;
 use crate::machine::Machine;
 
-/// What a caller acts with in a hall.
+/// A caller's leave to act in a hall.
 #[derive(Drop)]
 pub struct Pass<M: Machine> {
-    pub(crate) seat: Place<M, M::Event>,
+    pub(crate) seat: HallSeat<M, M::Event>,
     pub(crate) room: u32,
 }
 
@@ -13,7 +13,7 @@ impl<M: Machine> Pass<M> {
     ghost use Rattle.std.specs.Prelude.{◌≡◌};
     ghost use Rattle.portal_hall.specs.Passes.{room_of};
 
-    /// How many seats of the hall's it has.
+    /// The count of the hall's seats that the pass has.
     pub fn room(&self) -> u32
         ensures { result ≡ room_of self.now }
     {

@@ -1,6 +1,6 @@
 //! One turn: a ticket is drawn, the turn is waited for, the machine is taken out of the slot and put back, and the
 //! turn is passed on.
-use crate::board::{Draw, Held, Lengthen, Look, PassOn, Place};
+use crate::board::{Draw, HallSeat, HeldMachine, Lengthen, Look, PassOn};
 use crate::hall::Hall;
 use crate::machine::Machine;
 use std::sync::Wait;
@@ -12,8 +12,12 @@ impl<M: Machine> Hall<M> {
     ghost use Rattle.portal_hall.specs.Turns.{HasTurn};
     ghost use Rattle.portal_hall.specs.Passes.{opening, Rests, Begun, Ended, MayEnd};
 
-    // Waits for the turn and takes what the slot holds.
-    pub(crate) fn begin<R: Wait>(&self, rt: &R, seat: &mut Place<M, M::Event>) -> Held<M, M::Event>
+    // Waits for the turn, and takes the content of the slot.
+    pub(crate) fn begin<R: Wait>(
+        &self,
+        rt: &R,
+        seat: &mut HallSeat<M, M::Event>,
+    ) -> HeldMachine<M, M::Event>
         requires { Rests self.now seat.old }
         ensures { Begun M.core M.faults M.step self.now seat.old seat.new result }
     {
@@ -23,7 +27,7 @@ impl<M: Machine> Hall<M> {
     }
 
     // Draws a ticket.
-    fn draw(&self, seat: &mut Place<M, M::Event>) -> u64
+    fn draw(&self, seat: &mut HallSeat<M, M::Event>) -> u64
         requires { Rests self.now seat.old }
         ensures same { (seat.new.table_id ≡ seat.old.table_id) × (seat.new.id ≡ seat.old.id) }
         ensures ticket { (t : ℕ) × (result ≡ t % 2 ^ 64)
@@ -33,7 +37,7 @@ impl<M: Machine> Hall<M> {
     }
 
     // Waits until the ticket is served.
-    fn wait<R: Wait>(&self, rt: &R, seat: &mut Place<M, M::Event>, ticket: u64)
+    fn wait<R: Wait>(&self, rt: &R, seat: &mut HallSeat<M, M::Event>, ticket: u64)
         requires table { seat.old.table_id ≡ self.now.table.shared.table_id }
         requires ticket { (t : ℕ) × (ticket ≡ t % 2 ^ 64) × (seat.old.me.0.stage ≡ Waiting t) }
         requires hand { (seat.old.me.1 ≡ []) × (0 < seat.old.me.0.room) }
@@ -49,18 +53,23 @@ impl<M: Machine> Hall<M> {
         unreachable!()
     }
 
-    // Takes what the slot holds.
-    fn take(&self, seat: &mut Place<M, M::Event>) -> Held<M, M::Event>
+    // Takes the content of the slot.
+    fn take(&self, seat: &mut HallSeat<M, M::Event>) -> HeldMachine<M, M::Event>
         requires table { seat.old.table_id ≡ self.now.table.shared.table_id }
-        requires full { (held : Held M M.Event) × (seat.old.me.1 ≡ (0, Some held) ∷ []) }
+        requires full { (held : HeldMachine M M.Event) × (seat.old.me.1 ≡ (0, Some held) ∷ []) }
         ensures same { (seat.new.table_id ≡ seat.old.table_id) × (seat.new.id ≡ seat.old.id) }
         ensures held { (seat.old.me.1 ≡ (0, Some result) ∷ []) × (seat.new.me ≡ (seat.old.me.0, (0, None) ∷ [])) }
     {
         self.table.shared.exchange(seat, 0, None).unwrap()
     }
 
-    // Gives the machine and its history back, which has so many events more, and passes the turn on.
-    pub(crate) fn end(&self, seat: &mut Place<M, M::Event>, held: Held<M, M::Event>, more: u64)
+    // Returns the machine and its history, which has grown by `more` events, to the slot, and passes the turn on.
+    pub(crate) fn end(
+        &self,
+        seat: &mut HallSeat<M, M::Event>,
+        held: HeldMachine<M, M::Event>,
+        more: u64,
+    )
         requires { MayEnd M.core M.faults M.step self.now more seat.old held }
         ensures { Ended M.core M.faults M.step more seat.old seat.new held }
     {

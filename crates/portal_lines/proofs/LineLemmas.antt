@@ -1,7 +1,7 @@
 -- A line comes together from pieces.
 use Rattle.std.proofs.Common.{◌≡◌, ℕ, List, [], ◌∷◌, ◌++◌, ◌∙◌, refl, sym, ap, subst, append_assoc, ◌+◌, ◌-◌, ◌<◌}
 use Rattle.std.proofs.Common.{◌≤◌, length, take, drop, arith, Bool, true, false, cond, get_or, length-append, inl}
-use Rattle.std.proofs.Common.{inr, ⊎_elim, not, nat_lt, true≢false}
+use Rattle.std.proofs.Common.{inr, not, nat_lt, true≢false}
 use Rattle.std.specs.Prelude.{Option, Some, None, position, ◌==◌}
 use Rattle.std.specs.List.{position_or_len, slice_split}
 use Rattle.std.specs.Str.Lines.{lines, lines_of_parts, strip_carriage_return}
@@ -15,8 +15,8 @@ use Rattle.std.proofs.lemmas.Bool.{eqb-true, ne_eqb}
 use Rattle.std.proofs.lemmas.Bool.Decides.{nat_tests}
 use Rattle.std.proofs.lemmas.Grind.{common_steps}
 use Rattle.portal_base.specs.Outside.{Gives, IsAtEnd}
-use Rattle.portal_lines.specs.Lines.{Reading, EndsLine, TakesLine, SkipsLine, FindsEnd, LosesStart, bytes_left}
-use Rattle.portal_lines.specs.Drafts.{HasNoFeed, KeepsRaw, TakesPiece}
+use Rattle.portal_lines.specs.Lines.{ReaderState, EndsLine, TakesLine, SkipsLine, FindsEnd, LosesStart, bytes_left}
+use Rattle.portal_lines.specs.PartialLines.{HasNoFeed, KeepsRaw, TakesPiece}
 use Rattle.portal_base.proofs.OutsideLemmas.{Gives-none, Gives-append}
 
 lines_of_parts-cons : (x : List ℕ) (parts : List (List ℕ)) → 0 < length parts
@@ -57,18 +57,18 @@ lines-last raw free some =
     ap lines_of_parts (slice_split_none (λ b. b == 10) raw free)
     ∙ ap (λ t. cond t [] (raw ∷ [])) (ne_eqb (length raw) 0 (λ z. omega arith))
 
--- the place of the first line feed
-pub TakesPiece-at : (bytes : List ℕ) (place : ℕ) → position (λ b. b == 10) bytes ≡ Some place
-    → TakesPiece true bytes (take place bytes) (drop (place + 1) bytes)
-TakesPiece-at bytes place found =
-    let p = position-Some (λ b. b == 10) bytes place 0 found in (
-      λ k d below. let lt : k < place = omega (arith, length-take place bytes) in
+-- the index of the first line feed
+pub TakesPiece-at : (bytes : List ℕ) (index : ℕ) → position (λ b. b == 10) bytes ≡ Some index
+    → TakesPiece true bytes (take index bytes) (drop (index + 1) bytes)
+TakesPiece-at bytes index found =
+    let p = position-Some (λ b. b == 10) bytes index 0 found in (
+      λ k d below. let lt : k < index = omega (arith, length-take index bytes) in
           let inside : k < length bytes = omega (arith, p.0) in
           let at_zero : (get_or bytes k d == 10) ≡ false =
           subst (λ v. (v == 10) ≡ false) (grind (arith, common_steps)) (p.2 k lt) in
-          subst (λ v. (v == 10) ≡ false) (sym (get_or-take place bytes k d lt)) at_zero,
-      sym (take-append-drop place bytes) ∙ ap (λ v. take place bytes ++ v) (drop_more bytes place 0 p.0
-          ∙ ap (λ v. v ∷ drop (place + 1) bytes) (eqb-true _ 10 p.1)),
+          subst (λ v. (v == 10) ≡ false) (sym (get_or-take index bytes k d lt)) at_zero,
+      sym (take-append-drop index bytes) ∙ ap (λ v. take index bytes ++ v) (drop_more bytes index 0 p.0
+          ∙ ap (λ v. v ∷ drop (index + 1) bytes) (eqb-true _ 10 p.1)),
     )
 
 pub HasNoFeed-all : (bytes : List ℕ) → position (λ b. b == 10) bytes ≡ None → HasNoFeed bytes
@@ -84,67 +84,74 @@ range-drop xs start end n within =
     sym (ap (λ m. drop n (take m (drop start xs))) e ∙ drop-take n (end - (start + n)) (drop start xs)
     ∙ ap (take (end - (start + n))) (drop-drop n start xs))
 
--- A piece goes into the draft.
+-- A piece is added to the partial line.
 abbrev pub Adds : ℕ → List ℕ → Bool → List ℕ → List ℕ → Bool → Type 0
 Adds longest kept over piece kept' over' = (raw : List ℕ) → KeepsRaw longest raw kept over
     → KeepsRaw longest (raw ++ piece) kept' over'
 
--- Part of a line came: what was held before the call, what the source told then and how many bytes it had given; the
--- most bytes of a line; what is held now, what the source tells now and how many bytes it has given; and the draft.
-pub record UnderWay (held : List ℕ) (told : Option (List ℕ)) (given longest : ℕ) (window : List ℕ)
+-- Part of a line came. The parameters are what was buffered before the call, the bytes to come that were observable of
+-- the source then, and the count of bytes received; the longest length of a line; the same three now; and the partial
+-- line.
+pub record UnderWay (buffered : List ℕ) (observed : Option (List ℕ)) (received longest : ℕ) (window : List ℕ)
     (left : Option (List ℕ)) (now : ℕ) (kept : List ℕ) (over : Bool) : Type 0 where
   pub bytes : List ℕ
   pub raw : List ℕ
-  pub gives : Gives told bytes left
-  pub counts : now ≡ given + length bytes
-  pub splits : held ++ bytes ≡ raw ++ window
+  pub gives : Gives observed bytes left
+  pub counts : now ≡ received + length bytes
+  pub splits : buffered ++ bytes ≡ raw ++ window
   pub free : HasNoFeed raw
   pub keeps : KeepsRaw longest raw kept over
 
-pub UnderWay-start : (held : List ℕ) (told : Option (List ℕ)) (given longest : ℕ) (kept : List ℕ) (over : Bool)
-    → kept ≡ [] → over ≡ false → UnderWay held told given longest held told given kept over
-UnderWay-start held told given longest kept over e f = record {
+pub UnderWay-start : (buffered : List ℕ) (observed : Option (List ℕ)) (received longest : ℕ) (kept : List ℕ)
+    (over : Bool)
+    → kept ≡ [] → over ≡ false → UnderWay buffered observed received longest buffered observed received kept over
+UnderWay-start buffered observed received longest kept over e f = record {
   bytes = [];
   raw = [];
-  gives = Gives-none told [] refl;
+  gives = Gives-none observed [] refl;
   counts = omega arith;
-  splits = append-nil held;
+  splits = append-nil buffered;
   free = λ k d below. absurd (omega arith);
   keeps = subst (KeepsRaw longest [] kept) (sym f) e;
 }
 
-module _ (held : List ℕ) (told : Option (List ℕ)) (given longest : ℕ) where
-  -- what was held went into the draft, and the source gave more
+module _ (buffered : List ℕ) (observed : Option (List ℕ)) (received longest : ℕ) where
+  -- the buffered bytes went into the partial line, and the source gave more
   pub UnderWay-read : (window : List ℕ) (left : Option (List ℕ)) (now : ℕ) (kept : List ℕ) (over : Bool)
       (found : Bool) (piece after kept' : List ℕ) (over' : Bool) (more : List ℕ) (left' : Option (List ℕ))
-      (now' at_most : ℕ) → UnderWay held told given longest window left now kept over → at_most ≡ longest
-      → found ≡ false → TakesPiece found window piece after → Adds at_most kept over piece kept' over'
-      → Gives left more left' → now' ≡ now + length more → UnderWay held told given longest more left' now' kept' over'
-  UnderWay-read window left now kept over true piece after kept' over' more left' now' at_most u same missing takes
+      (now' max_length : ℕ) → UnderWay buffered observed received longest window left now kept over
+      → max_length ≡ longest
+      → found ≡ false → TakesPiece found window piece after → Adds max_length kept over piece kept' over'
+      → Gives left more left' → now' ≡ now + length more → UnderWay buffered observed received longest more left' now'
+      kept' over'
+  UnderWay-read window left now kept over true piece after kept' over' more left' now' max_length u same missing takes
       adds gives counts = absurd (true≢false missing)
-  UnderWay-read window left now kept over false piece after kept' over' more left' now' at_most u same missing takes
+  UnderWay-read window left now kept over false piece after kept' over' more left' now' max_length u same missing takes
       adds gives counts = record {
         bytes = u.bytes ++ more;
         raw = u.raw ++ piece;
-        gives = Gives-append told left left' u.bytes more u.gives gives;
+        gives = Gives-append observed left left' u.bytes more u.gives gives;
         counts = omega (arith, u.counts, length-append u.bytes more);
-        splits = sym (append_assoc held u.bytes more) ∙ ap (λ v. v ++ more) (u.splits ∙ ap (λ v. u.raw ++ v) takes.1);
+        splits = sym (append_assoc buffered u.bytes more) ∙ ap (λ v. v ++ more)
+            (u.splits ∙ ap (λ v. u.raw ++ v) takes.1);
         free = All-append (λ b. (b == 10) ≡ false) u.raw piece u.free takes.0;
         keeps = subst (λ n. KeepsRaw n (u.raw ++ piece) kept' over') same
             (adds u.raw (subst (λ n. KeepsRaw n u.raw kept over) (sym same) u.keeps));
       }
 
--- The source failed behind the start of a line, and that is lost.
-pub LosesStart-failed : (old new : Reading) (told left : Option (List ℕ)) (window kept : List ℕ) (over found : Bool)
+-- The source failed after the start of a line, and that is lost.
+pub LosesStart-failed : (old new : ReaderState) (observed left : Option (List ℕ)) (window kept : List ℕ)
+    (over found : Bool)
     (piece after : List ℕ) (left' : Option (List ℕ))
-    → UnderWay old.held told old.given old.longest window left new.given kept over
-    → found ≡ false → TakesPiece found window piece after → left' ≡ left → new.held ≡ [] → LosesStart old told new left'
-LosesStart-failed old new told left window kept over true piece after left' u missing takes same none =
+    → UnderWay old.buffered observed old.received old.longest window left new.received kept over
+    → found ≡ false → TakesPiece found window piece after → left' ≡ left → new.buffered ≡ []
+    → LosesStart old observed new left'
+LosesStart-failed old new observed left window kept over true piece after left' u missing takes same none =
     absurd (true≢false missing)
-LosesStart-failed old new told left window kept over false piece after left' u missing takes same none = (
+LosesStart-failed old new observed left window kept over false piece after left' u missing takes same none = (
   u.bytes,
   u.raw ++ piece,
-  subst (λ o. Gives told u.bytes o) (sym same) u.gives,
+  subst (λ o. Gives observed u.bytes o) (sym same) u.gives,
   u.counts,
   u.splits ∙ ap (λ v. u.raw ++ v) takes.1
       ∙ sym (ap (λ v. (u.raw ++ piece) ++ v) none ∙ append-nil (u.raw ++ piece)),
@@ -152,11 +159,12 @@ LosesStart-failed old new told left window kept over false piece after left' u m
 )
 
 -- the line feed came
-module _ (old new : Reading) (told left : Option (List ℕ)) (window kept : List ℕ) (over : Bool)
-    (piece kept' : List ℕ) (at_most : ℕ) (u : UnderWay old.held told old.given old.longest window left new.given
-    kept over) (same : at_most ≡ old.longest) where
-  TakesLine-fed : TakesPiece true window piece new.held
-      → TakesLine old told (strip_carriage_return (u.raw ++ piece)) new left
+module _ (old new : ReaderState) (observed left : Option (List ℕ)) (window kept : List ℕ) (over : Bool)
+    (piece kept' : List ℕ) (max_length : ℕ) (u : UnderWay old.buffered observed old.received old.longest window left
+    new.received
+    kept over) (same : max_length ≡ old.longest) where
+  TakesLine-fed : TakesPiece true window piece new.buffered
+      → TakesLine old observed (strip_carriage_return (u.raw ++ piece)) new left
   TakesLine-fed takes =
       let free = All-append (λ b. (b == 10) ≡ false) u.raw piece u.free takes.0 in
       record {
@@ -164,28 +172,30 @@ module _ (old new : Reading) (told left : Option (List ℕ)) (window kept : List
         front = (u.raw ++ piece) ++ 10 ∷ [];
         gives = u.gives;
         counts = u.counts;
-        splits = u.splits ∙ ap (λ v. u.raw ++ v) takes.1 ∙ sym (append_assoc u.raw piece (10 ∷ new.held))
-            ∙ sym (append_assoc (u.raw ++ piece) (10 ∷ []) new.held);
+        splits = u.splits ∙ ap (λ v. u.raw ++ v) takes.1 ∙ sym (append_assoc u.raw piece (10 ∷ new.buffered))
+            ∙ sym (append_assoc (u.raw ++ piece) (10 ∷ []) new.buffered);
         only = lines-fed (u.raw ++ piece) [] free;
         ended = inl (EndsLine-fed (u.raw ++ piece) free);
       }
 
-  added : (over' : Bool) → Adds at_most kept over piece kept' over' → KeepsRaw old.longest (u.raw ++ piece) kept' over'
+  added : (over' : Bool) → Adds max_length kept over piece kept' over'
+      → KeepsRaw old.longest (u.raw ++ piece) kept' over'
   added over' adds = subst (λ n. KeepsRaw n (u.raw ++ piece) kept' over') same
       (adds u.raw (subst (λ n. KeepsRaw n u.raw kept over) (sym same) u.keeps))
 
-  pub TakesLine-ended : (found : Bool) → found ≡ true → TakesPiece found window piece new.held → (over' : Bool)
-      → Adds at_most kept over piece kept' over' → over' ≡ false → (line : List ℕ)
-      → line ≡ strip_carriage_return kept' → TakesLine old told line new left
+  pub TakesLine-ended : (found : Bool) → found ≡ true → TakesPiece found window piece new.buffered → (over' : Bool)
+      → Adds max_length kept over piece kept' over' → over' ≡ false → (line : List ℕ)
+      → line ≡ strip_carriage_return kept' → TakesLine old observed line new left
   TakesLine-ended false is takes over' adds fits line e = absurd (true≢false (sym is))
   TakesLine-ended true is takes true adds fits line e = absurd (true≢false fits)
   TakesLine-ended true is takes false adds fits line e =
-      subst (λ v. TakesLine old told v new left) (ap strip_carriage_return (sym (added false adds))
+      subst (λ v. TakesLine old observed v new left) (ap strip_carriage_return (sym (added false adds))
       ∙ sym e) (TakesLine-fed takes)
 
-  pub SkipsLine-ended : (found : Bool) → found ≡ true → TakesPiece found window piece new.held → (over' : Bool)
-      → Adds at_most kept over piece kept' over' → (over' ≡ false → at_most < length (strip_carriage_return kept'))
-      → SkipsLine old told new left
+  pub SkipsLine-ended : (found : Bool) → found ≡ true → TakesPiece found window piece new.buffered → (over' : Bool)
+      → Adds max_length kept over piece kept' over' → (over' ≡ false
+      → max_length < length (strip_carriage_return kept'))
+      → SkipsLine old observed new left
   SkipsLine-ended false is takes over' adds long = absurd (true≢false (sym is))
   SkipsLine-ended true is takes true adds long = (
     strip_carriage_return (u.raw ++ piece),
@@ -199,38 +209,42 @@ module _ (old new : Reading) (told left : Option (List ℕ)) (window kept : List
         subst (λ v. old.longest < length (strip_carriage_return v)) (added false adds) longer,
       )
 
-IsAtEnd-same : (told left : Option (List ℕ)) → Gives told [] left → left ≡ told
+IsAtEnd-same : (observed left : Option (List ℕ)) → Gives observed [] left → left ≡ observed
 IsAtEnd-same None left gives = gives
 IsAtEnd-same (Some all) left gives = gives.1 ∙ ap Some (sym gives.2)
 
 -- no byte came from a source at its end
-IsAtEnd-after : (told left : Option (List ℕ)) (more : List ℕ) → Gives told more left → length more ≡ 0
-    → IsAtEnd told → IsAtEnd left
-IsAtEnd-after told left more gives none end =
-    subst IsAtEnd (sym (IsAtEnd-same told left (subst (λ v. Gives told v left) (nil_from_length more none) gives))) end
+IsAtEnd-after : (observed left : Option (List ℕ)) (more : List ℕ) → Gives observed more left → length more ≡ 0
+    → IsAtEnd observed → IsAtEnd left
+IsAtEnd-after observed left more gives none end =
+    subst IsAtEnd (sym (IsAtEnd-same observed left (subst (λ v. Gives observed v left) (nil_from_length more none)
+    gives))) end
 
 -- what came is all, since the source is at its end
-pub record AtLast (old new : Reading) (told left : Option (List ℕ)) (kept : List ℕ) (over : Bool) : Type 0 where
-  pub under_way : UnderWay old.held told old.given old.longest new.held left new.given kept over
-  pub none : new.held ≡ []
+pub record AtLast (old new : ReaderState) (observed left : Option (List ℕ)) (kept : List ℕ) (over : Bool) : Type 0 where
+  pub under_way : UnderWay old.buffered observed old.received old.longest new.buffered left new.received kept over
+  pub none : new.buffered ≡ []
   pub at_end : IsAtEnd left
 
-pub AtLast-read : (old new : Reading) (told left : Option (List ℕ)) (window kept : List ℕ) (over found : Bool)
-    (piece after kept' : List ℕ) (over' : Bool) (left' : Option (List ℕ)) (at_most : ℕ)
-    → UnderWay old.held told old.given old.longest window left new.given kept over → at_most ≡ old.longest
-    → found ≡ false → TakesPiece found window piece after → Adds at_most kept over piece kept' over'
-    → Gives left new.held left' → length new.held ≡ 0 → IsAtEnd left → AtLast old new told left' kept' over'
-AtLast-read old new told left window kept over found piece after kept' over' left' at_most u same missing takes adds
+pub AtLast-read : (old new : ReaderState) (observed left : Option (List ℕ)) (window kept : List ℕ) (over found : Bool)
+    (piece after kept' : List ℕ) (over' : Bool) (left' : Option (List ℕ)) (max_length : ℕ)
+    → UnderWay old.buffered observed old.received old.longest window left new.received kept over
+    → max_length ≡ old.longest
+    → found ≡ false → TakesPiece found window piece after → Adds max_length kept over piece kept' over'
+    → Gives left new.buffered left' → length new.buffered ≡ 0 → IsAtEnd left → AtLast old new observed left' kept' over'
+AtLast-read old new observed left window kept over found piece after kept' over' left' max_length u same missing takes
+    adds
     gives none end = record {
-      under_way = UnderWay-read old.held told old.given old.longest window left new.given kept over found piece after
-          kept' over' new.held left' new.given at_most u same missing takes adds gives (omega (arith, none));
-      none = nil_from_length new.held none;
-      at_end = IsAtEnd-after left left' new.held gives none end;
+      under_way = UnderWay-read old.buffered observed old.received old.longest window left new.received kept over found
+          piece after
+          kept' over' new.buffered left' new.received max_length u same missing takes adds gives (omega (arith, none));
+      none = nil_from_length new.buffered none;
+      at_end = IsAtEnd-after left left' new.buffered gives none end;
     }
 
-module _ (old new : Reading) (told left : Option (List ℕ)) (kept : List ℕ) where
-  TakesLine-rest : (over : Bool) (last : AtLast old new told left kept over) → 0 < length last.under_way.raw
-      → TakesLine old told last.under_way.raw new left
+module _ (old new : ReaderState) (observed left : Option (List ℕ)) (kept : List ℕ) where
+  TakesLine-rest : (over : Bool) (last : AtLast old new observed left kept over) → 0 < length last.under_way.raw
+      → TakesLine old observed last.under_way.raw new left
   TakesLine-rest over last some =
       let u = last.under_way in
       record {
@@ -243,8 +257,8 @@ module _ (old new : Reading) (told left : Option (List ℕ)) (kept : List ℕ) w
         ended = inr (last.none, last.at_end);
       }
 
-  pub SomeLine-last : (over : Bool) → AtLast old new told left kept over → (over ≡ false → kept ≡ [] → ⊥)
-      → (line : List ℕ) × TakesLine old told line new left
+  pub SomeLine-last : (over : Bool) → AtLast old new observed left kept over → (over ≡ false → kept ≡ [] → ⊥)
+      → (line : List ℕ) × TakesLine old observed line new left
   SomeLine-last true last some = (last.under_way.raw, TakesLine-rest true last (omega (arith, last.under_way.keeps)))
   SomeLine-last false last some = (
     last.under_way.raw,
@@ -252,15 +266,15 @@ module _ (old new : Reading) (told left : Option (List ℕ)) (kept : List ℕ) w
         (some_length last.under_way.raw (λ z. some refl (last.under_way.keeps ∙ z))),
   )
 
-  pub TakesLine-last : (over : Bool) → AtLast old new told left kept over → over ≡ false → (kept ≡ [] → ⊥)
-      → TakesLine old told kept new left
+  pub TakesLine-last : (over : Bool) → AtLast old new observed left kept over → over ≡ false → (kept ≡ [] → ⊥)
+      → TakesLine old observed kept new left
   TakesLine-last true last fits some = absurd (true≢false fits)
   TakesLine-last false last fits some =
-      subst (λ v. TakesLine old told v new left) (sym last.under_way.keeps)
+      subst (λ v. TakesLine old observed v new left) (sym last.under_way.keeps)
       (TakesLine-rest false last (some_length last.under_way.raw (λ z. some (last.under_way.keeps ∙ z))))
 
-  pub SkipsLine-last : (over : Bool) → AtLast old new told left kept over
-      → (over ≡ false → old.longest < length kept) → SkipsLine old told new left
+  pub SkipsLine-last : (over : Bool) → AtLast old new observed left kept over
+      → (over ≡ false → old.longest < length kept) → SkipsLine old observed new left
   SkipsLine-last true last long =
       let u = last.under_way in
       (u.raw, TakesLine-rest true last (omega (arith, u.keeps)), omega (arith, u.keeps))
@@ -269,58 +283,39 @@ module _ (old new : Reading) (told left : Option (List ℕ)) (kept : List ℕ) w
       let longer : old.longest < length u.raw = subst (λ v. old.longest < length v) u.keeps (long refl) in
       (u.raw, TakesLine-rest false last (omega arith), longer)
 
-  pub FindsEnd-last : (over : Bool) → AtLast old new told left kept over → over ≡ false → kept ≡ []
-      → FindsEnd old told new left
+  pub FindsEnd-last : (over : Bool) → AtLast old new observed left kept over → over ≡ false → kept ≡ []
+      → FindsEnd old observed new left
   FindsEnd-last true last fits e = absurd (true≢false fits)
   FindsEnd-last false last fits e =
       let u = last.under_way in
       let no_raw : u.raw ≡ [] = sym u.keeps ∙ e in
-      let nothing : old.held ++ u.bytes ≡ [] = u.splits ∙ ap (λ v. v ++ new.held) no_raw ∙ last.none in
+      let nothing : old.buffered ++ u.bytes ≡ [] = u.splits ∙ ap (λ v. v ++ new.buffered) no_raw ∙ last.none in
       let no_bytes : u.bytes ≡ [] = nil_from_length u.bytes
-      (omega (arith, length-append old.held u.bytes, ap length nothing)) in
-      let same : left ≡ told = IsAtEnd-same told left (subst (λ v. Gives told v left) no_bytes u.gives) in
+      (omega (arith, length-append old.buffered u.bytes, ap length nothing)) in
+      let same : left ≡ observed = IsAtEnd-same observed left (subst (λ v. Gives observed v left) no_bytes u.gives) in
       record {
-        held_before = nil_from_length old.held (omega (arith, length-append old.held u.bytes, ap length nothing));
+        held_before = nil_from_length old.buffered (omega (
+          arith,
+          length-append old.buffered u.bytes,
+          ap length nothing,
+        ));
         held_after = last.none;
-        given = omega (arith, u.counts, ap length no_bytes);
-        told_same = same;
+        received = omega (arith, u.counts, ap length no_bytes);
+        observed_same = same;
         at_end = subst IsAtEnd same last.at_end;
       }
 
 -- with each line fewer bytes are left
-pub bytes_left-falls : (old new : Reading) (told left : Option (List ℕ)) (line : List ℕ)
-    → TakesLine old told line new left → new.most ≡ old.most → new.given ≤ new.most → bytes_left new < bytes_left old
-bytes_left-falls old new told left line takes same within =
+pub bytes_left-falls : (old new : ReaderState) (observed left : Option (List ℕ)) (line : List ℕ)
+    → TakesLine old observed line new left → new.limit ≡ old.limit → new.received ≤ new.limit
+    → bytes_left new < bytes_left old
+bytes_left-falls old new observed left line takes same within =
     let some : 0 < length takes.front = front_some takes.front line takes.only in
     omega (
       arith,
       takes.counts,
       some,
-      length-append old.held takes.bytes,
-      length-append takes.front new.held,
+      length-append old.buffered takes.bytes,
+      length-append takes.front new.buffered,
       ap length takes.splits,
     )
-
-lines-end : (front line held rest : List ℕ) → lines front ≡ line ∷ [] → held ≡ [] → rest ≡ []
-    → lines (front ++ (held ++ rest)) ≡ line ∷ lines (held ++ rest)
-lines-end front line held rest only none ended =
-    let nothing : held ++ rest ≡ [] = ap (λ v. v ++ rest) none ∙ ended in
-    ap (λ v. lines (front ++ v)) nothing ∙ ap lines (append-nil front) ∙ only ∙ ap (λ v. line ∷ lines v) (sym nothing)
-
--- Where the source tells, the lines of all that was to come are this line and then the lines of what is left.
-pub TakesLine-lines : (old new : Reading) (told left : Option (List ℕ)) (line rest after : List ℕ)
-    → TakesLine old told line new left → told ≡ Some rest → left ≡ Some after
-    → lines (old.held ++ rest) ≡ line ∷ lines (new.held ++ after)
-TakesLine-lines old new told left line rest after takes tells leaves =
-    let gives : Gives (Some rest) takes.bytes (Some after) =
-    subst (λ o. Gives o takes.bytes (Some after)) tells
-    (subst (λ o. Gives told takes.bytes o) leaves takes.gives) in
-    let same : after ≡ gives.0 = cc in
-    let whole : old.held ++ rest ≡ takes.front ++ (new.held ++ after) =
-    ap (λ v. old.held ++ v) (gives.2 ∙ ap (λ v. takes.bytes ++ v) (sym same))
-    ∙ sym (append_assoc old.held takes.bytes after)
-    ∙ ap (λ v. v ++ after) takes.splits ∙ append_assoc takes.front new.held after in
-    ap lines whole ∙ ⊎_elim
-    (λ ends. ends (new.held ++ after))
-    (λ last. lines-end takes.front line new.held after takes.only last.0 (subst IsAtEnd leaves last.1))
-    takes.ended

@@ -3,65 +3,68 @@
 use Rattle.std.specs.Prelude.{◌≡◌, ◌⊎◌, ℕ, ◌+◌, ◌-◌, ◌<◌, List, [], ◌∷◌, ◌++◌, length, Option}
 use Rattle.std.specs.Str.Lines.{lines}
 use Rattle.portal_base.specs.Outside.{Gives, IsAtEnd}
-use Rattle.portal_lines.specs.Drafts.{HasNoFeed}
+use Rattle.portal_lines.specs.PartialLines.{HasNoFeed}
 
--- What a reader of lines has in hand: the bytes that the source gave and that belong to no line handed out, the line
--- handed out last, how many bytes the source gave so far, the most bytes of a line without its end, and the most
--- bytes that the source may give.
-pub record Reading : Type 0 where
-  pub held : List ℕ
+-- The state of a reader of lines: the bytes that the source gave and that belong to no line returned so far, the line
+-- returned last, the count of bytes that the source gave so far, the limit of bytes of a line without its end, and the
+-- limit of bytes that the source may give.
+pub record ReaderState : Type 0 where
+  pub buffered : List ℕ
   pub line : List ℕ
-  pub given : ℕ
+  pub received : ℕ
   pub longest : ℕ
-  pub most : ℕ
+  pub limit : ℕ
 
 -- Whatever comes after front, the lines of both are this line and then the lines of what comes after.
 abbrev pub EndsLine : List ℕ → List ℕ → Type 0
 EndsLine front line = (more : List ℕ) → lines (front ++ more) ≡ line ∷ lines more
 
--- One line came off the front of what the reader held and what the source gave in this call. It has its line feed,
--- or it is the last line, and nothing is left. `told` and `left` are what the source says is to come, before and
--- after.
-pub record TakesLine (old : Reading) (told : Option (List ℕ)) (line : List ℕ) (new : Reading)
+-- One line came off the front of what the reader buffered and what the source gave in this call. It has its line feed,
+-- or it is the last line, and nothing is left. `observed` and `left` are the bytes to come that are observable of the
+-- source, before and after.
+pub record TakesLine (old : ReaderState) (observed : Option (List ℕ)) (line : List ℕ) (new : ReaderState)
     (left : Option (List ℕ)) : Type 0 where
   -- what the source gave in this call
   pub bytes : List ℕ
   -- the line with its end
   pub front : List ℕ
-  pub gives : Gives told bytes left
-  pub counts : new.given ≡ old.given + length bytes
-  pub splits : old.held ++ bytes ≡ front ++ new.held
+  pub gives : Gives observed bytes left
+  pub counts : new.received ≡ old.received + length bytes
+  pub splits : old.buffered ++ bytes ≡ front ++ new.buffered
   pub only : lines front ≡ line ∷ []
-  pub ended : EndsLine front line ⊎ ((new.held ≡ []) × IsAtEnd left)
+  pub ended : EndsLine front line ⊎ ((new.buffered ≡ []) × IsAtEnd left)
 
--- One line of more than the most bytes came off the front, and isn't kept.
-abbrev pub SkipsLine : Reading → Option (List ℕ) → Reading → Option (List ℕ) → Type 0
-SkipsLine old told new left = (line : List ℕ) × TakesLine old told line new left × (old.longest < length line)
+-- One line of more than the longest length came off the front, and isn't kept.
+abbrev pub SkipsLine : ReaderState → Option (List ℕ) → ReaderState → Option (List ℕ) → Type 0
+SkipsLine old observed new left = (line : List ℕ) × TakesLine old observed line new left × (old.longest < length line)
 
--- Nothing was held, and the source gave nothing, since it is at its end.
-pub record FindsEnd (old : Reading) (told : Option (List ℕ)) (new : Reading) (left : Option (List ℕ)) : Type 0 where
-  pub held_before : old.held ≡ []
-  pub held_after : new.held ≡ []
-  pub given : new.given ≡ old.given
-  pub told_same : left ≡ told
-  pub at_end : IsAtEnd told
+-- Nothing was buffered, and the source gave nothing, since it is at its end.
+pub record FindsEnd (old : ReaderState) (observed : Option (List ℕ)) (new : ReaderState) (left : Option (List ℕ)) : Type
+    0 where
+  pub held_before : old.buffered ≡ []
+  pub held_after : new.buffered ≡ []
+  pub received : new.received ≡ old.received
+  pub observed_same : left ≡ observed
+  pub at_end : IsAtEnd observed
 
 -- The source gave some bytes in this call, and they were counted.
-abbrev pub Receives : Reading → Option (List ℕ) → Reading → Option (List ℕ) → Type 0
-Receives old told new left = (bytes : List ℕ) × Gives told bytes left × (new.given ≡ old.given + length bytes)
+abbrev pub Receives : ReaderState → Option (List ℕ) → ReaderState → Option (List ℕ) → Type 0
+Receives old observed new left = (bytes : List ℕ) × Gives observed bytes left
+    × (new.received ≡ old.received + length bytes)
 
--- The same, and no line ended: neither what was held nor what came has a line feed.
-abbrev pub ReceivesNoEnd : Reading → Option (List ℕ) → Reading → Option (List ℕ) → Type 0
-ReceivesNoEnd old told new left =
-    (bytes : List ℕ) × Gives told bytes left × (new.given ≡ old.given + length bytes) × HasNoFeed (old.held ++ bytes)
+-- The same, and no line ended: neither the buffered bytes nor the new ones have a line feed.
+abbrev pub ReceivesNoEnd : ReaderState → Option (List ℕ) → ReaderState → Option (List ℕ) → Type 0
+ReceivesNoEnd old observed new left =
+    (bytes : List ℕ) × Gives observed bytes left × (new.received ≡ old.received + length bytes)
+    × HasNoFeed (old.buffered ++ bytes)
 
--- The source gave some bytes in this call, and they were counted. Of these and of what was held before no more is lost
--- than the start of a line, and all behind it is held.
-abbrev pub LosesStart : Reading → Option (List ℕ) → Reading → Option (List ℕ) → Type 0
-LosesStart old told new left =
-    (bytes : List ℕ) × (lost : List ℕ) × Gives told bytes left × (new.given ≡ old.given + length bytes)
-    × (old.held ++ bytes ≡ lost ++ new.held) × HasNoFeed lost
+-- The source gave some bytes in this call, and they were counted. Of these and of what was buffered before no more is
+-- lost than the start of a line, and all after it is buffered.
+abbrev pub LosesStart : ReaderState → Option (List ℕ) → ReaderState → Option (List ℕ) → Type 0
+LosesStart old observed new left =
+    (bytes : List ℕ) × (lost : List ℕ) × Gives observed bytes left × (new.received ≡ old.received + length bytes)
+    × (old.buffered ++ bytes ≡ lost ++ new.buffered) × HasNoFeed lost
 
--- How many bytes are held or may still be given: with each line this falls.
-abbrev pub bytes_left : Reading → ℕ
-bytes_left r = length r.held + (r.most - r.given)
+-- The count of bytes that are buffered or may still come: each line makes it smaller.
+abbrev pub bytes_left : ReaderState → ℕ
+bytes_left r = length r.buffered + (r.limit - r.received)

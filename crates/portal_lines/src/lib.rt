@@ -1,4 +1,4 @@
-//! Bytes of the outside as lines, and whole pieces to it.
+//! Reading lines from a source of bytes, and writing whole pieces to a sink.
 #![tactic(auto)]
 
 pub mod lines;

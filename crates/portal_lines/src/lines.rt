@@ -5,7 +5,7 @@ ghost use Rattle.std.specs.Str.Lines.{strip_carriage_return};
 ghost use Rattle.portal_base.specs.Outside.{Gives, Rose, IsAtEnd};
 ghost use Rattle.portal_lines.specs.Lines.{TakesLine, SkipsLine, FindsEnd, Receives, ReceivesNoEnd, LosesStart};
 ghost use Rattle.portal_lines.specs.Lines.{bytes_left};
-ghost use Rattle.portal_lines.specs.Drafts.{KeepsRaw, TakesPiece};
+ghost use Rattle.portal_lines.specs.PartialLines.{KeepsRaw, TakesPiece};
 
 use portal_base::outside::{Failed, Source};
 use std::alloc::{AllocError, Global};
@@ -19,13 +19,13 @@ const WINDOW: usize = 65_536;
 pub enum NextLine {
     /// A line, which the reader holds.
     Line,
-    /// A line of more than the most bytes, which is not kept.
+    /// A line of more than the longest length, which the reader doesn't keep.
     TooLong,
     /// No line is left.
     End,
 }
 
-/// Why the next line can't be told.
+/// Why the next line can't be read.
 #[derive(Clone, Copy, Debug, PartialEq, Eq)]
 pub enum LineFault {
     /// The source failed.
@@ -100,7 +100,7 @@ impl Window {
         self.start += count;
     }
 
-    // Reads the next bytes in place of those that were held, and says how many.
+    // Reads the next bytes in place of the buffered ones, and returns their count.
     fn fill<S: Source>(&mut self, source: &mut S) -> Result<usize, Failed>
         ensures count { IfOk result (λ count. count ≡ length self.new) }
         ensures bytes { OnOk result (Gives (S.to_come source.old) self.new (S.to_come source.new)) }
@@ -119,22 +119,22 @@ impl Window {
     }
 }
 
-// The place of the first line feed.
+// The index of the first line feed.
 fn find_feed(bytes: &[u8]) -> Option<usize>
     ensures { result ≡ position (λ b. b == 10) bytes.now }
 {
     bytes.iter().position(|byte| *byte == b'\n')
 }
 
-/// The bytes of a line before its line feed, as far as they came: all of them, or none where they are more than can
-/// make a line of the most bytes.
+/// The bytes of a line before its line feed, as far as they were read. `is_over` says that they are more than a line of
+/// the longest length and a carriage return; then `kept` lacks some of them.
 #[derive(Drop)]
-struct Draft {
+struct PartialLine {
     kept: Vec<u8>,
     is_over: bool,
 }
 
-impl Draft {
+impl PartialLine {
     // Starts a line.
     fn clear(&mut self)
         ensures kept { self.new.kept.items ≡ [] }
@@ -160,8 +160,8 @@ impl Draft {
         self.kept.extend_from_slice(piece)
     }
 
-    // Moves bytes from the front of the window up to the first line feed, which is dropped, and says whether there
-    // was one.
+    // Moves the bytes before the first line feed off the front of the window, drops the line feed, and returns whether
+    // there was one.
     fn take_from(&mut self, longest: usize, window: &mut Window) -> Result<bool, AllocError>
         ensures taken { IfOk result (λ found. (piece : List ℕ) × TakesPiece found window.old piece window.new
             × ((raw : List ℕ) → KeepsRaw longest raw self.old.kept.items self.old.is_over →
@@ -171,9 +171,9 @@ impl Draft {
     {
         let bytes = window.bytes();
         match find_feed(bytes) {
-            Some(place) => {
-                self.add(longest, &bytes[..place])?;
-                window.skip(place + 1);
+            Some(index) => {
+                self.add(longest, &bytes[..index])?;
+                window.skip(index + 1);
                 Ok(true)
             }
             None => {
@@ -195,7 +195,7 @@ impl Draft {
         }
     }
 
-    // What the line is, once it has come whole.
+    // What the line is, once it is complete.
     fn measure(&self, longest: usize) -> NextLine
         ensures line { result ≡ NextLine.Line → (self.now.is_over ≡ false) × (length self.now.kept.items ≤ longest) }
         ensures long { result ≡ NextLine.TooLong → self.now.is_over ≡ false → longest < length self.now.kept.items }
@@ -208,7 +208,7 @@ impl Draft {
         }
     }
 
-    // What the line is, where the source ended in place of its line feed.
+    // What the line is, where the source ended before a line feed.
     fn measure_last(&self, longest: usize) -> NextLine
         ensures end { result ≡ NextLine.End ↔ ((self.now.is_over ≡ false) × (self.now.kept.items ≡ [])) }
         ensures line { result ≡ NextLine.Line → (self.now.is_over ≡ false) × (length self.now.kept.items ≤ longest) }
@@ -227,48 +227,48 @@ impl Draft {
 #[derive(Drop)]
 pub struct LineReader {
     window: Window,
-    draft: Draft,
-    given: u128,
+    partial: PartialLine,
+    received: u128,
     longest: usize,
-    most: u64,
+    limit: u64,
 }
 
 impl Model for LineReader {
-    ghost use Rattle.portal_lines.specs.Lines.{Reading};
+    ghost use Rattle.portal_lines.specs.Lines.{ReaderState};
 
-    ghost Value = { Reading };
+    ghost Value = { ReaderState };
 
     ghost view = { λ r. record {
-      held = r.window;
-      line = r.draft.kept.items;
-      given = r.given;
+      buffered = r.window;
+      line = r.partial.kept.items;
+      received = r.received;
       longest = r.longest;
-      most = r.most;
+      limit = r.limit;
     } };
 }
 
 impl LineReader {
-    /// A reader that has read nothing. `longest` is the most bytes of a line without its end, and `most` the most
-    /// bytes that the source may give in all.
-    pub fn new(alloc: Global, longest: usize, most: u64) -> Result<LineReader, AllocError>
+    /// A reader that has read nothing. A line has at most `longest` bytes without its end, and the source may give at
+    /// most `limit` bytes in all.
+    pub fn new(alloc: Global, longest: usize, limit: u64) -> Result<LineReader, AllocError>
         ensures { IfOk result (λ reader. reader ≡ record {
-          held = [];
+          buffered = [];
           line = [];
-          given = 0;
+          received = 0;
           longest = longest;
-          most = most;
+          limit = limit;
         }) }
     {
         let window = Window::new(alloc)?;
         Ok(LineReader {
             window,
-            draft: Draft {
+            partial: PartialLine {
                 kept: Vec::new(alloc),
                 is_over: false,
             },
-            given: 0,
+            received: 0,
             longest,
-            most,
+            limit,
         })
     }
 
@@ -276,14 +276,15 @@ impl LineReader {
     pub fn line(&self) -> &[u8]
         ensures { result.now ≡ self.now.line }
     {
-        self.draft.kept.as_slice()
+        self.partial.kept.as_slice()
     }
 
-    /// Reads on to the end of the next line. Of a line at most `longest` + 1 bytes are kept. After a fault the start of
-    /// the line that was under way may be lost, and a later call goes on behind that; `TooMuch` comes from then on.
+    /// Reads to the end of the next line, and keeps at most `longest` + 1 bytes of it. A fault may lose the bytes of
+    /// the line that were read so far, and a later call goes on after them. After `TooMuch` each later call fails with
+    /// `TooMuch`.
     pub fn next<S: Source>(&mut self, source: &mut S) -> Result<NextLine, LineFault>
         ensures longest { self.new.longest ≡ self.old.longest }
-        ensures most { self.new.most ≡ self.old.most }
+        ensures limit { self.new.limit ≡ self.old.limit }
         ensures kept { length self.new.line ≤ self.new.longest + 1 }
         ensures counts { S.faults source.old ≤ S.faults source.new }
         ensures loan { S.loan source.new ≡ S.loan source.old }
@@ -302,26 +303,26 @@ impl LineReader {
         ensures failed { result ≡ Err LineFault.Failed → Rose (S.faults source.old) (S.faults source.new) }
         ensures lost { OnErr result
             (LosesStart self.old (S.to_come source.old) self.new (S.to_come source.new)) }
-        // No line that came whole is held back.
+        // The reader holds no complete line back.
         ensures unended { result ≡ Err LineFault.Failed →
             ReceivesNoEnd self.old (S.to_come source.old) self.new (S.to_come source.new) }
-        ensures much { (result ≡ Err LineFault.TooMuch) ↔ (self.new.most < self.new.given) }
-        ensures within { OnOk result (self.new.given ≤ self.new.most) }
+        ensures too_much { (result ≡ Err LineFault.TooMuch) ↔ (self.new.limit < self.new.received) }
+        ensures within { OnOk result (self.new.received ≤ self.new.limit) }
     {
-        self.draft.clear();
+        self.partial.clear();
         loop {
-            if self.given > u128::from(self.most) {
+            if self.received > u128::from(self.limit) {
                 return Err(LineFault::TooMuch);
             }
-            if self.draft.take_from(self.longest, &mut self.window)? {
-                self.draft.strip();
-                return Ok(self.draft.measure(self.longest));
+            if self.partial.take_from(self.longest, &mut self.window)? {
+                self.partial.strip();
+                return Ok(self.partial.measure(self.longest));
             }
             let count = self.window.fill(source)?;
             if count == 0 {
-                return Ok(self.draft.measure_last(self.longest));
+                return Ok(self.partial.measure_last(self.longest));
             }
-            self.given += count as u128;
+            self.received += count as u128;
         }
     }
 }

@@ -4,7 +4,7 @@ ghost use Rattle.portal_base.specs.Outside.{Takes, TakesPrefix, Rose};
 
 use portal_base::outside::{Failed, Sink};
 
-/// Writes the whole piece. After a fault the sink has taken some bytes from its front.
+/// Writes the whole piece. After a fault the sink has taken some prefix of it.
 pub fn write_whole<O: Sink>(output: &mut O, piece: &[u8]) -> Result<(), Failed>
     ensures ok { OnOk result (Takes (O.taken output.old) piece.now (O.taken output.new)) }
     ensures failed { OnErr result (TakesPrefix (O.taken output.old) piece.now (O.taken output.new)) }

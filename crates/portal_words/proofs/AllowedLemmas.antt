@@ -78,7 +78,7 @@ allowed-last names given s =
     ∙ regrouped (are_among names given) (is_among names s.name) (are_apart setting_cmp given)
     (not (is_given s.name given))
 
--- What isn't allowed isn't with more behind it either.
+-- Options that aren't allowed aren't allowed with more options after them either.
 pub refused-more : (names : List (List ℕ)) (given more : List Setting) → are_allowed names given ≡ false
     → are_allowed names (given ++ more) ≡ false
 refused-more names given [] e = ap (are_allowed names) (append-nil given) ∙ e

@@ -17,7 +17,7 @@ serves_some = refl
 says_twice : command_of (codes "play" ∷ codes "--portal=a" ∷ codes "--portal=a" ∷ []) ≡ None
 says_twice = refl
 
--- a value that begins with a dash stands in one word only
+-- a value that begins with a dash is possible in one word only
 begins_with_dash_in_one : command_of (codes "play" ∷ codes "--portal=-a" ∷ [])
     ≡ Some (Play (record { portal = Some (codes "-a") }))
 begins_with_dash_in_one = refl
@@ -32,7 +32,7 @@ serves_none = refl
 serves_too_many : command_of (codes "serve" ∷ codes "--links=1000000001" ∷ []) ≡ None
 serves_too_many = refl
 
--- options of which three have to be there
+-- three required options
 loads : command_of (codes "load" ∷ codes "--schema" ∷ codes "s" ∷ codes "--as=ann" ∷ codes "--resource=air.1" ∷ [])
     ≡ Some (Load (record { portal = None; caller = codes "ann"; resource = codes "air.1"; schema = codes "s" }))
 loads = refl

@@ -1,4 +1,5 @@
--- What `clap` answers for a command whose options take a value each is what the definition of options says.
+-- For a command whose options take one value each, the result of `clap` is the one that the definition of options
+-- gives.
 use Rattle.std.proofs.Common.{◌≡◌, ◌∙◌, inl, inr, ℕ, Bool, true, false, not, ◌&&◌, ◌||◌, List, [], ◌∷◌, ◌++◌}
 use Rattle.std.proofs.Common.{map, drop}
 use Rattle.std.proofs.Common.{refl, sym, ap, cond, Option, Some, None, is_some, Result, Ok, Err, subst}
@@ -27,7 +28,7 @@ use Rattle.clap.specs.declared.error.kind.ErrorKind.{ErrorKind}
 use Rattle.clap.specs.declared.parser.matches.ArgMatches.{ArgMatches}
 use Rattle.clap.proofs.WalkLemmas.{first_value-rows}
 use Rattle.portal_words.specs.Commands.{are_allowed, is_among, value_of}
-use Rattle.portal_words.specs.Options.{SayOthers, TellsOptions, app_with, fault_for, is_bare, option_rule}
+use Rattle.portal_words.specs.Options.{HaveOtherOptions, MatchesOptions, app_with, fault_for, is_dashes, option_rule}
 use Rattle.portal_words.specs.Grammar.{Setting, begins_with_dash, has_equals, is_option, options_after, options_in}
 use Rattle.portal_words.specs.Grammar.{setting, setting_in, with_setting}
 use Rattle.portal_words.proofs.RuleLemmas.{app_of_rules, app_with-rules, built-options, built_rule, built_rules}
@@ -37,7 +38,7 @@ use Rattle.portal_words.proofs.TurnLemmas.{at_rest, unless}
 use Rattle.portal_words.proofs.WalkLemmas.{AreWords, allowed_rows, rows-after-other, rows-with, walk-reads}
 use Rattle.portal_words.proofs.WalkLemmas.{walked_rows}
 
--- ---- the command is one of which `clap` says all
+-- ---- the command has the form of which `clap` states all
 
 module _ (test : Rule → Bool) (rule : List ℕ → Rule) (each : (name : List ℕ) → test (rule name) ≡ true) where
   all-rules : (names : List (List ℕ)) → list_all test (map rule names) ≡ true
@@ -76,7 +77,7 @@ is-free names =
     ∙ ap (λ a. is_free_app (built a)) (app_with-rules names) ∙ ap is_free_app (built-options names)
     ∙ ap (λ b. b && true) (all-rules (λ a. a.is_free) built_rule (λ _. refl) names)
 
--- ---- what it answers
+-- ---- the result of `clap`
 
 no-subcommand : (names : List (List ℕ)) (stop : Option (List ℕ × List (List ℕ)))
     → is_some (entered (record { top = built_shape names; subs = [] }) stop) ≡ false
@@ -102,17 +103,17 @@ level-unless words below last defaults checks x y b d c e = rw (b, d, c, e) (go 
     go (k ∷ ks) l = refl
 
 -- the matches of a built command, unless something is at fault
-abbrev told_by : App → List (List ℕ) → Option (List Row)
-told_by built words =
+abbrev matched_rows_by : App → List (List ℕ) → Option (List Row)
+matched_rows_by built words =
     unless (built_fault built nothing_held words) (Some (rows_after built.top.rules (names_of built) words))
 
-abbrev pub told : List (List ℕ) → List (List ℕ) → Option (List Row)
-told names words = unless (fault_of (app_with names) words) (Some (matches_of (app_with names) words))
+abbrev pub matched_rows : List (List ℕ) → List (List ℕ) → Option (List Row)
+matched_rows names words = unless (fault_of (app_with names) words) (Some (matches_of (app_with names) words))
 
-told-by-level : (names words : List (List ℕ))
-    → told_by (record { top = built_shape names; subs = [] }) words ≡ walked_rows names (at_rest [] None) words
+matched_rows-by-level : (names words : List (List ℕ))
+    → matched_rows_by (record { top = built_shape names; subs = [] }) words ≡ walked_rows names (at_rest [] None) words
 unfolding walked_rows
-told-by-level names words =
+matched_rows-by-level names words =
     let top : App = record { top = built_shape names; subs = [] } in
     let end : Walk = fold (walked (built_rules names) []) (at_rest [] None) words in
     let rows : List Row = (settled (built_rules names) end.held).rows in
@@ -125,23 +126,24 @@ told-by-level names words =
     ∙ no-check names (finished (built_rules names) end.held))
     (ap Some (defaults-none names rows))
 
-told-by-walk : (names words : List (List ℕ)) → told names words ≡ walked_rows names (at_rest [] None) words
-told-by-walk names words =
-    ap (λ a. told_by (built a) (argument_words a words)) (app_with-rules names)
-    ∙ ap (λ b. told_by b words) (built-options names) ∙ told-by-level names words
+matched_rows-by-walk : (names words : List (List ℕ)) → matched_rows names words ≡ walked_rows names
+    (at_rest [] None) words
+matched_rows-by-walk names words =
+    ap (λ a. matched_rows_by (built a) (argument_words a words)) (app_with-rules names)
+    ∙ ap (λ b. matched_rows_by b words) (built-options names) ∙ matched_rows-by-level names words
 
-told-said : (names words : List (List ℕ)) → AreWords words
-    → told names words ≡ allowed_rows names [] (options_in words)
-told-said names words sound = told-by-walk names words ∙ walk-reads names words sound
+matched_rows-parsed : (names words : List (List ℕ)) → AreWords words
+    → matched_rows names words ≡ allowed_rows names [] (options_in words)
+matched_rows-parsed names words sound = matched_rows-by-walk names words ∙ walk-reads names words sound
 
--- ---- what the answers say
+-- ---- what the result says of the words
 
--- Where it answers with matches, these tell the options.
-matches-tell : (names words : List (List ℕ)) (m : ArgMatches) → AreWords words
+-- If it returns matches, they are those of the options.
+matches-have : (names words : List (List ℕ)) (m : ArgMatches) → AreWords words
     → fault_of (app_with names) words ≡ [] → rows_of (found_of m) ≡ matches_of (app_with names) words
-    → TellsOptions names words m
-matches-tell names words m sound free rows =
-    go (options_in words) refl (sym (told-said names words sound) ∙ rw free (ap Some (sym rows)))
+    → MatchesOptions names words m
+matches-have names words m sound free rows =
+    go (options_in words) refl (sym (matched_rows-parsed names words sound) ∙ rw free (ap Some (sym rows)))
   where
     values : (given : List Setting) → rows_for given ≡ rows_of (found_of m) → (name : List ℕ)
         → first_value (found_of m) name ≡ value_of name given
@@ -150,21 +152,21 @@ matches-tell names words m sound free rows =
 
     allowed : (given : List Setting) (b : Bool) → options_in words ≡ Some given → are_allowed names given ≡ b
         → cond (are_allowed names given) (Some (rows_for given)) None ≡ Some (rows_of (found_of m))
-        → TellsOptions names words m
-    allowed given true said e same =
+        → MatchesOptions names words m
+    allowed given true parsed e same =
         let rows : rows_for given ≡ rows_of (found_of m) = ap (λ o. unwrap_or o []) (rw e at same) in
-        record { given = given; said = said; allowed = e; values = values given rows }
-    allowed given false said e same = let bad : None ≡ Some (rows_of (found_of m)) = rw e at same in absurd (cc)
+        record { given = given; parsed = parsed; allowed = e; values = values given rows }
+    allowed given false parsed e same = let bad : None ≡ Some (rows_of (found_of m)) = rw e at same in absurd (cc)
 
-    go : (said : Option (List Setting)) → options_in words ≡ said
-        → allowed_rows names [] (options_in words) ≡ Some (rows_of (found_of m)) → TellsOptions names words m
+    go : (parsed : Option (List Setting)) → options_in words ≡ parsed
+        → allowed_rows names [] (options_in words) ≡ Some (rows_of (found_of m)) → MatchesOptions names words m
     go None e same = let bad : None ≡ Some (rows_of (found_of m)) = rw e at same in absurd (cc)
     go (Some given) e same = allowed given (are_allowed names given) e refl (rw e at same)
 
--- Where something is at fault, the words say no options, or others.
+-- If there is a fault, the words have no form of options, or have others.
 faults-refuse : (names words : List (List ℕ)) (kind : ErrorKind) → AreWords words
-    → IsAmong kind (fault_of (app_with names) words) → SayOthers names words
-faults-refuse names words kind sound among given said =
+    → IsAmong kind (fault_of (app_with names) words) → HaveOtherOptions names words
+faults-refuse names words kind sound among given parsed =
     go (fault_of (app_with names) words) refl among (are_allowed names given) refl
   where
     go : (kinds : Kinds) → fault_of (app_with names) words ≡ kinds → IsAmong kind kinds
@@ -172,20 +174,20 @@ faults-refuse names words kind sound among given said =
     go [] e none b f = absurd none
     go (k ∷ ks) e some false f = f
     go (k ∷ ks) e some true f =
-        let all : None ≡ allowed_rows names [] (options_in words) = rw e at (told-said names words sound) in
-        let bad : None ≡ cond (are_allowed names given) (Some (rows_for given)) None = rw said at all in
+        let all : None ≡ allowed_rows names [] (options_in words) = rw e at (matched_rows-parsed names words sound) in
+        let bad : None ≡ cond (are_allowed names given) (Some (rows_for given)) None = rw parsed at all in
         let worse : None ≡ Some (rows_for given) = rw f at bad in absurd (cc)
 
--- ---- bare dashes
+-- ---- words of dashes only
 
 record Refuses (names words : List (List ℕ)) : Type 0 where
   pub rest : (given : List Setting) → allowed_rows names given (options_in words) ≡ None
   pub waiting : (given : List Setting) (name : List ℕ) → allowed_rows names given (options_after name words) ≡ None
 
--- A word of bare dashes is no option of these names, and no second word of one.
-bare-refuses : (names : List (List ℕ)) (word : List ℕ) (words : List (List ℕ)) → is_among names [] ≡ false
-    → is_bare word ≡ true → Refuses names (word ∷ words)
-bare-refuses names word words named bare = go (bytes_eq word (codes "-")) refl
+-- A word of dashes only is no option of these names, and no second word of one.
+dashes-refuses : (names : List (List ℕ)) (word : List ℕ) (words : List (List ℕ)) → is_among names [] ≡ false
+    → is_dashes word ≡ true → Refuses names (word ∷ words)
+dashes-refuses names word words named dashes = go (bytes_eq word (codes "-")) refl
   where
     two : (word : List ℕ) → word ≡ codes "--" → Refuses names (word ∷ words)
     two word same = rw same (record {
@@ -198,7 +200,7 @@ bare-refuses names word words named bare = go (bytes_eq word (codes "-")) refl
 
     go : (b : Bool) → bytes_eq word (codes "-") ≡ b → Refuses names (word ∷ words)
     go true e = one word ((bytes_eq-Decides word (codes "-")).0 e)
-    go false e = two word ((bytes_eq-Decides word (codes "--")).0 (rw e at bare))
+    go false e = two word ((bytes_eq-Decides word (codes "--")).0 (rw e at dashes))
 
 later-refuses : (names : List (List ℕ)) (word : List ℕ) (words : List (List ℕ)) → Refuses names words
     → Refuses names (word ∷ words)
@@ -222,52 +224,52 @@ later-refuses names word words more = record {
     goes-on given name false =
         rows-with names given (setting name word) (options_in words) ∙ more.rest (given ++ setting name word ∷ [])
 
-some-bare : (names words : List (List ℕ)) → is_among names [] ≡ false → list_any is_bare words ≡ true
+some-dashes : (names words : List (List ℕ)) → is_among names [] ≡ false → list_any is_dashes words ≡ true
     → Refuses names words
-some-bare names [] named bare = absurd (cc)
-some-bare names (word ∷ words) named bare = go (is_bare word) refl bare (some-bare names words named)
+some-dashes names [] named dashes = absurd (cc)
+some-dashes names (word ∷ words) named dashes = go (is_dashes word) refl dashes (some-dashes names words named)
   where
-    go : (b : Bool) → is_bare word ≡ b → (b || list_any is_bare words) ≡ true
-        → (list_any is_bare words ≡ true → Refuses names words) → Refuses names (word ∷ words)
-    go true e f more = bare-refuses names word words named e
+    go : (b : Bool) → is_dashes word ≡ b → (b || list_any is_dashes words) ≡ true
+        → (list_any is_dashes words ≡ true → Refuses names words) → Refuses names (word ∷ words)
+    go true e f more = dashes-refuses names word words named e
     go false e f more = later-refuses names word words (more f)
 
--- So words of which one is bare dashes say no options, or others.
-pub bare-say-others : (names words : List (List ℕ)) → is_among names [] ≡ false → list_any is_bare words ≡ true
-    → SayOthers names words
-bare-say-others names words named bare given said = go (are_allowed names given) refl
+-- So words with one of dashes only have no form of options, or have others.
+pub dashes-say-others : (names words : List (List ℕ)) → is_among names [] ≡ false → list_any is_dashes words ≡ true
+    → HaveOtherOptions names words
+dashes-say-others names words named dashes given parsed = go (are_allowed names given) refl
   where
     none : allowed_rows names [] (options_in words) ≡ None
-    none = (some-bare names words named bare).rest []
+    none = (some-dashes names words named dashes).rest []
 
     go : (b : Bool) → are_allowed names given ≡ b → are_allowed names given ≡ false
     go false e = e
     go true e =
-        let all : cond (are_allowed names given) (Some (rows_for given)) None ≡ None = rw said at none in
+        let all : cond (are_allowed names given) (Some (rows_for given)) None ≡ None = rw parsed at none in
         let bad : Some (rows_for given) ≡ None = rw e at all in absurd (cc)
 
 -- ---- words as they are passed
 
-pub bare-among : (ws : List (String Global))
-    → list_any (λ w. is_bare (string_bytes w)) ws ≡ list_any is_bare (map string_bytes ws)
-bare-among [] = refl
-bare-among (w ∷ ws) = ap (λ b. is_bare (string_bytes w) || b) (bare-among ws)
+pub dashes-among : (ws : List (String Global))
+    → list_any (λ w. is_dashes (string_bytes w)) ws ≡ list_any is_dashes (map string_bytes ws)
+dashes-among [] = refl
+dashes-among (w ∷ ws) = ap (λ b. is_dashes (string_bytes w) || b) (dashes-among ws)
 
-pub are-words : (ws : List (String Global)) → list_any is_bare (map string_bytes ws) ≡ false
+pub are-words : (ws : List (String Global)) → list_any is_dashes (map string_bytes ws) ≡ false
     → AreWords (map string_bytes ws)
 are-words [] none = tt
-are-words (w ∷ ws) none = go (is_bare (string_bytes w)) refl none (are-words ws)
+are-words (w ∷ ws) none = go (is_dashes (string_bytes w)) refl none (are-words ws)
   where
-    go : (b : Bool) → is_bare (string_bytes w) ≡ b → (b || list_any is_bare (map string_bytes ws)) ≡ false
-        → (list_any is_bare (map string_bytes ws) ≡ false → AreWords (map string_bytes ws))
+    go : (b : Bool) → is_dashes (string_bytes w) ≡ b → (b || list_any is_dashes (map string_bytes ws)) ≡ false
+        → (list_any is_dashes (map string_bytes ws) ≡ false → AreWords (map string_bytes ws))
         → AreWords (map string_bytes (w ∷ ws))
     go true e f rest = absurd (cc)
     go false e f rest = (IsUtf8-string_bytes w, e, rest f)
 
--- An error of `clap` other than for want of memory says that the words say no options, or others.
+-- An error of `clap` other than out of memory means that the words have no form of options, or have others.
 pub errors-refuse : {T : Type 0} (names words : List (List ℕ)) (app : App) (e : Error) (result : Result T WordsFault)
     → AreWords words → app ≡ app_with names → (is_simple_and_free app ≡ true → HasKind (fault_of app words) e)
-    → IsErrAnd result (λ fault. fault ≡ fault_for (kind_of e)) → IsErrOf result BadWords → SayOthers names words
+    → IsErrAnd result (λ fault. fault ≡ fault_for (kind_of e)) → IsErrOf result BadWords → HaveOtherOptions names words
 errors-refuse names words app e (Ok x) sound is kinds why bad = absurd why
 errors-refuse names words app e (Err fault) sound is kinds why bad =
     elim (kinds (ap is_simple_and_free is ∙ is-free names)) [
@@ -276,10 +278,11 @@ errors-refuse names words app e (Err fault) sound is kinds why bad =
           (subst (λ a. IsAmong (kind_of e) (fault_of a words)) is among)
     ]
 
--- Its matches tell the options.
-pub answers-tell : (names words : List (List ℕ)) (app : App) (m : ArgMatches) → AreWords words → app ≡ app_with names
-    → (is_simple_and_free app ≡ true → fault_of app words ≡ []) → HasMatchesOf app words m → TellsOptions names words m
-answers-tell names words app m sound is free rows =
-    matches-tell names words m sound
+-- Its matches are those of the options.
+pub answers-have : (names words : List (List ℕ)) (app : App) (m : ArgMatches) → AreWords words → app ≡ app_with names
+    → (is_simple_and_free app ≡ true → fault_of app words ≡ []) → HasMatchesOf app words m
+    → MatchesOptions names words m
+answers-have names words app m sound is free rows =
+    matches-have names words m sound
     (ap (λ a. fault_of a words) (sym is) ∙ free (ap is_simple_and_free is ∙ is-free names))
     ((rows (ap is_simple is ∙ is-simple names)).0 ∙ ap (λ a. matches_of a words) is)

@@ -17,7 +17,7 @@ use Rattle.clap.specs.declared.builder.value_parser.ValueParser.TheVariants as v
 use Rattle.clap.specs.declared.error.kind.ErrorKind.TheVariants as kind
 use Rattle.clap.specs.declared.parser.matches.ValueSource.TheVariants.{CommandLine}
 use Rattle.portal_words.specs.Commands.{is_among, value_of}
-use Rattle.portal_words.specs.Options.{app_with, bare_app, option_rule, with_option}
+use Rattle.portal_words.specs.Options.{app_with, base_app, option_rule, with_option}
 use Rattle.portal_words.specs.Grammar.{Setting}
 use Rattle.portal_words.proofs.AllowedLemmas.{is_given}
 
@@ -33,10 +33,10 @@ abbrev pub built_rules : List (List ℕ) → List Rule
 built_rules names = map built_rule names
 
 abbrev pub app_of_rules : List Rule → App
-app_of_rules rules = record bare_app { top = record bare_app.top { rules = rules } }
+app_of_rules rules = record base_app { top = record base_app.top { rules = rules } }
 
 abbrev pub built_shape : List (List ℕ) → Shape
-built_shape names = record (built bare_app).top { rules = built_rules names }
+built_shape names = record (built base_app).top { rules = built_rules names }
 
 options-added : (rules : List Rule) (names : List (List ℕ))
     → fold with_option (app_of_rules rules) names ≡ app_of_rules (rules ++ map option_rule names)
@@ -55,7 +55,7 @@ filled-options (n ∷ names) = ap (λ rest. built_rule n ∷ rest) (filled-optio
 pub built-options : (names : List (List ℕ))
     → built (app_of_rules (map option_rule names)) ≡ record { top = built_shape names; subs = [] }
 built-options names =
-    ap (λ rules. record { top = record (built bare_app).top { rules = rules }; subs = [] }) (filled-options names)
+    ap (λ rules. record { top = record (built base_app).top { rules = rules }; subs = [] }) (filled-options names)
 
 -- ---- look-ups among the rules
 
@@ -88,7 +88,7 @@ option-by-long (n ∷ names) name = go (bytes_eq n name) refl (option-by-long na
     go true e rest = rw e (ap (λ m. Some (built_rule m)) ((bytes_eq-Decides n name).0 e))
     go false e rest = rw e rest
 
--- No option has one letter, and none is told by its place.
+-- No option has one letter, and none is known by its position.
 pub none-by-short : (names : List (List ℕ)) (x : ℕ) → arg_by_short (built_rules names) x ≡ None
 none-by-short [] x = refl
 none-by-short (n ∷ names) x = none-by-short names x

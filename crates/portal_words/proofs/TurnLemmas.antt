@@ -26,7 +26,7 @@ pub unless-or_else : {X : Type 0} (first second : Kinds) (x : Option X)
 unless-or_else [] second x = refl
 unless-or_else (k ∷ ks) second x = refl
 
--- ---- where the walk stands between two words
+-- ---- the state of the walk between two words
 
 abbrev held_with : List Setting → Option (List ℕ × List (List ℕ)) → Held
 held_with given pending = record { rows = rows_for given; pending = pending; skip = 0 }
@@ -34,7 +34,7 @@ held_with given pending = record { rows = rows_for given; pending = pending; ski
 abbrev walk_with : Held → Waiting → Walk
 walk_with held waiting = record { held = held; waiting = waiting; position = 1; is_trailing = false; stopped = None }
 
--- the option that was read last, which is settled with what comes next
+-- the option that was read last, which the next word decides
 abbrev pub pending_for : Option Setting → Option (List ℕ × List (List ℕ))
 pending_for last = option_map (λ s. (s.name, s.value ∷ [])) last
 
@@ -54,13 +54,13 @@ at_option given name = walk_with (held_with given (Some (name, []))) (option nam
 unfoldable pub turned : List (List ℕ) → Walk → List ℕ → Option Walk
 turned names w word = unless (turn_fault (built_shape names) [] w word) (Some (walked (built_rules names) [] w word))
 
--- ---- settling the option that was read last
+-- ---- deciding the option that was read last
 
 abbrev pub IsLastAmong : List (List ℕ) → Option Setting → Type 0
 IsLastAmong names None = Unit {0}
 IsLastAmong names (Some s) = is_among names s.name ≡ true
 
--- It is a fault exactly where the options aren't allowed with it.
+-- It is a fault exactly if the options with it aren't allowed.
 settled-fault : (names : List (List ℕ)) (given : List Setting) (last : Option Setting)
     → are_allowed names given ≡ true → IsLastAmong names last
     → settle_fault (built_rules names) false (held_with given (pending_for last))
@@ -127,7 +127,7 @@ unfolding turned walked
 value-word names given name word p among =
     rw (p.other, p.long, p.short, option-by-id names name, among, alike-itself name) refl
 
--- An option can't stand in place of a value.
+-- An option can't be a value.
 pub value-missing : (names : List (List ℕ)) (given : List Setting) (name word : List ℕ) → IsLong word
     → is_among names name ≡ true → turned names (at_option given name) word ≡ None
 unfolding turned

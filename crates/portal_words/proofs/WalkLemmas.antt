@@ -10,7 +10,7 @@ use Rattle.clap.specs.Kinds.{Kinds}
 use Rattle.clap.specs.Lexer.{name_and_value}
 use Rattle.clap.specs.Walk.{Row, Walk, idle, option, walked}
 use Rattle.portal_words.specs.Commands.{are_allowed, is_among}
-use Rattle.portal_words.specs.Options.{is_bare}
+use Rattle.portal_words.specs.Options.{is_dashes}
 use Rattle.portal_words.specs.Grammar.{Setting, begins_with_dash, has_equals, is_equals, options_after, options_in}
 use Rattle.portal_words.specs.Grammar.{setting, setting_in, with_setting}
 use Rattle.portal_words.proofs.AllowedLemmas.{refused-more, refused-other}
@@ -45,26 +45,26 @@ walk-turns names w word words =
 
 -- ---- the definition
 
--- the rows of the options given and those said, where they are allowed together
+-- the rows of the options given and those read, if they are allowed together
 abbrev pub allowed_rows : List (List ℕ) → List Setting → Option (List Setting) → Option (List Row)
 allowed_rows names given None = None
 allowed_rows names given (Some more) = cond (are_allowed names (given ++ more)) (Some (rows_for (given ++ more))) None
 
-pub rows-with : (names : List (List ℕ)) (given : List Setting) (s : Setting) (said : Option (List Setting))
-    → allowed_rows names given (with_setting s said) ≡ allowed_rows names (given ++ s ∷ []) said
+pub rows-with : (names : List (List ℕ)) (given : List Setting) (s : Setting) (parsed : Option (List Setting))
+    → allowed_rows names given (with_setting s parsed) ≡ allowed_rows names (given ++ s ∷ []) parsed
 rows-with names given s None = refl
 rows-with names given s (Some more) =
     ap (λ all. cond (are_allowed names all) (Some (rows_for all)) None) (sym (append_assoc given (s ∷ []) more))
 
-rows-refused : (names : List (List ℕ)) (given : List Setting) (said : Option (List Setting))
-    → are_allowed names given ≡ false → allowed_rows names given said ≡ None
+rows-refused : (names : List (List ℕ)) (given : List Setting) (parsed : Option (List Setting))
+    → are_allowed names given ≡ false → allowed_rows names given parsed ≡ None
 rows-refused names given None e = refl
 rows-refused names given (Some more) e = rw (refused-more names given more e) refl
 
-rows-other : (names : List (List ℕ)) (given : List Setting) (s : Setting) (said : Option (List Setting))
-    → is_among names s.name ≡ false → allowed_rows names given (with_setting s said) ≡ None
-rows-other names given s said e =
-    rows-with names given s said ∙ rows-refused names (given ++ s ∷ []) said (refused-other names given s e)
+rows-other : (names : List (List ℕ)) (given : List Setting) (s : Setting) (parsed : Option (List Setting))
+    → is_among names s.name ≡ false → allowed_rows names given (with_setting s parsed) ≡ None
+rows-other names given s parsed e =
+    rows-with names given s parsed ∙ rows-refused names (given ++ s ∷ []) parsed (refused-other names given s e)
 
 pub rows-after-other : (names : List (List ℕ)) (given : List Setting) (name : List ℕ) (words : List (List ℕ))
     → is_among names name ≡ false → allowed_rows names given (options_after name words) ≡ None
@@ -162,16 +162,16 @@ module _ (names : List (List ℕ)) (word : List ℕ) (words : List (List ℕ)) (
       go true e = rw (l.option, e) (long-whole given last allowed among l e _ refl)
       go false e = rw (l.option, e) (long-begins given last allowed among l e _ refl)
 
-  one-more : IsUtf8 word → is_bare word ≡ false → Agrees names (word ∷ words)
-  one-more text bare = record {
+  one-more : IsUtf8 word → is_dashes word ≡ false → Agrees names (word ∷ words)
+  one-more text dashes = record {
     rest = λ given last allowed among. walk-turns names (at_rest given last) word words
-        ∙ elim (each-word word text bare) [
+        ∙ elim (each-word word text dashes) [
           | inl l ↦ first-long given last allowed among l
           | inr (inl s) ↦ ap then-walk (unknown-letter names given (pending_for last) idle word s) ∙ rw s.option refl
           | inr (inr p) ↦ ap then-walk (stray-word names (at_rest given last).held word p) ∙ rw p.option refl
         ];
     waiting = λ given name allowed among. walk-turns names (at_option given name) word words
-        ∙ elim (each-word word text bare) [
+        ∙ elim (each-word word text dashes) [
           | inl l ↦ ap then-walk (value-missing names given name word l among) ∙ rw l.dash refl
           | inr (inl s) ↦ ap then-walk (unknown-letter names given (Some (name, [])) (option name) word s)
               ∙ rw s.dash refl
@@ -181,16 +181,16 @@ module _ (names : List (List ℕ)) (word : List ℕ) (words : List (List ℕ)) (
         ];
   }
 
--- the words are texts, and none is bare dashes
+-- the words are texts, and none is dashes only
 abbrev pub AreWords : List (List ℕ) → Type 0
 AreWords [] = Unit {0}
-AreWords (word ∷ words) = IsUtf8 word × (is_bare word ≡ false) × AreWords words
+AreWords (word ∷ words) = IsUtf8 word × (is_dashes word ≡ false) × AreWords words
 
 agrees : (names words : List (List ℕ)) → AreWords words → Agrees names words
 agrees names [] sound = no-words names
 agrees names (word ∷ words) sound = one-more names word words (agrees names words sound.2) sound.0 sound.1
 
--- From the start the walk reads the options that the words say.
+-- From the start the walk reads the options in the words.
 pub walk-reads : (names words : List (List ℕ)) → AreWords words
     → walked_rows names (at_rest [] None) words ≡ allowed_rows names [] (options_in words)
 walk-reads names words sound = (agrees names words sound).rest [] None refl tt

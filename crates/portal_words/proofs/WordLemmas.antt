@@ -1,4 +1,4 @@
--- What a word looks like to `clap`, and to the definition of options.
+-- The form of a word for `clap`, and to the definition of options.
 use Rattle.std.proofs.Common.{◌≡◌, ◌≢◌, ℕ, suc, Bool, true, false, ◌||◌, List, [], ◌∷◌, ◌++◌, refl, sym, ap}
 use Rattle.std.proofs.Common.{Some, None, eqb, drop, length, subst, inl, inr, ◌⊎◌, arith}
 use Rattle.std.proofs.Math.Numerals.{one-add}
@@ -8,7 +8,7 @@ use Rattle.std.specs.Str.{IsUtf8, bytes_eq, chars}
 use Rattle.std.proofs.lemmas.Bool.{eqb-true, ne_eqb}
 use Rattle.std.proofs.lemmas.Str.{IsUtf8-past_char, encode_ascii, encodes-chars}
 use Rattle.clap.specs.Lexer.{long_of, name_and_value, short_of}
-use Rattle.portal_words.specs.Options.{is_bare}
+use Rattle.portal_words.specs.Options.{is_dashes}
 use Rattle.portal_words.specs.Grammar.{begins_with_dash, has_equals, is_equals, is_option}
 
 -- `--` and more
@@ -47,14 +47,14 @@ first-char b bs text = go (chars (b ∷ bs)) refl
     go [] e = let bad : [] ≡ b ∷ bs = rw e at (encodes-chars (b ∷ bs) text) in absurd (cc)
     go (c ∷ cs) e = (c, ap (λ l. slice_get l 0) e)
 
--- What stands behind a dash is a text.
-behind-dash : (bs : List ℕ) → IsUtf8 (45 ∷ bs) → IsUtf8 bs
-behind-dash bs text =
+-- The rest after a dash is a text.
+after-dash : (bs : List ℕ) → IsUtf8 (45 ∷ bs) → IsUtf8 bs
+after-dash bs text =
     IsUtf8-past_char (45 ∷ bs) bs 45 text (ap (λ l. l ++ bs) (sym (encode_ascii 45 (omega arith))))
 
 short-word : (y : ℕ) (ys : List ℕ) → IsUtf8 (45 ∷ y ∷ ys) → y ≢ 45 → IsShort (45 ∷ y ∷ ys)
 short-word y ys text other =
-    let first = first-char y ys (behind-dash (y ∷ ys) text) in
+    let first = first-char y ys (after-dash (y ∷ ys) text) in
     let no : eqb y 45 ≡ false = ne_eqb y 45 other in
     let none : eqb 45 y ≡ false = ne_eqb 45 y (λ e. other (sym e)) in
     record {
@@ -76,36 +76,36 @@ plain-word x xs other =
     let none : eqb 45 x ≡ false = ne_eqb 45 x (λ e. other (sym e)) in
     record { option = rw none refl; dash = rw none refl; long = rw no refl; short = rw no refl; other = rw no refl }
 
--- A word that isn't bare dashes is one of the three.
-pub each-word : (word : List ℕ) → IsUtf8 word → is_bare word ≡ false → IsLong word ⊎ (IsShort word ⊎ IsPlainWord word)
-each-word [] text bare = inr (inr (record { option = refl; dash = refl; long = refl; short = refl; other = refl }))
-each-word (x ∷ xs) text bare = first (eqb x 45) refl
+-- A word that isn't dashes only is one of the three.
+pub each-word : (word : List ℕ) → IsUtf8 word → is_dashes word ≡ false → IsLong word ⊎ (IsShort word ⊎ IsPlainWord word)
+each-word [] text dashes = inr (inr (record { option = refl; dash = refl; long = refl; short = refl; other = refl }))
+each-word (x ∷ xs) text dashes = first (eqb x 45) refl
   where
     differs : (n : ℕ) → eqb n 45 ≡ false → n ≢ 45
     differs n e same = let bad : eqb n 45 ≡ true = rw same refl in absurd (cc)
 
-    third : (zs : List ℕ) → is_bare (45 ∷ 45 ∷ zs) ≡ false → IsLong (45 ∷ 45 ∷ zs)
+    third : (zs : List ℕ) → is_dashes (45 ∷ 45 ∷ zs) ≡ false → IsLong (45 ∷ 45 ∷ zs)
     third [] e = absurd (cc)
     third (z ∷ zs) e = record { option = refl; dash = refl; long = refl; other = refl }
 
-    second : (y : ℕ) (ys : List ℕ) (b : Bool) → eqb y 45 ≡ b → IsUtf8 (45 ∷ y ∷ ys) → is_bare (45 ∷ y ∷ ys) ≡ false
+    second : (y : ℕ) (ys : List ℕ) (b : Bool) → eqb y 45 ≡ b → IsUtf8 (45 ∷ y ∷ ys) → is_dashes (45 ∷ y ∷ ys) ≡ false
         → IsLong (45 ∷ y ∷ ys) ⊎ (IsShort (45 ∷ y ∷ ys) ⊎ IsPlainWord (45 ∷ y ∷ ys))
-    second y ys true e text bare =
+    second y ys true e text dashes =
         let same : y ≡ 45 = eqb-true y 45 e in
         inl (subst (λ n. IsLong (45 ∷ n ∷ ys)) (sym same)
-        (third ys (subst (λ n. is_bare (45 ∷ n ∷ ys) ≡ false) same bare)))
-    second y ys false e text bare = inr (inl (short-word y ys text (differs y e)))
+        (third ys (subst (λ n. is_dashes (45 ∷ n ∷ ys) ≡ false) same dashes)))
+    second y ys false e text dashes = inr (inl (short-word y ys text (differs y e)))
 
-    rest : (ys : List ℕ) → IsUtf8 (45 ∷ ys) → is_bare (45 ∷ ys) ≡ false
+    rest : (ys : List ℕ) → IsUtf8 (45 ∷ ys) → is_dashes (45 ∷ ys) ≡ false
         → IsLong (45 ∷ ys) ⊎ (IsShort (45 ∷ ys) ⊎ IsPlainWord (45 ∷ ys))
-    rest [] text bare = absurd (cc)
-    rest (y ∷ ys) text bare = second y ys (eqb y 45) refl text bare
+    rest [] text dashes = absurd (cc)
+    rest (y ∷ ys) text dashes = second y ys (eqb y 45) refl text dashes
 
     first : (b : Bool) → eqb x 45 ≡ b → IsLong (x ∷ xs) ⊎ (IsShort (x ∷ xs) ⊎ IsPlainWord (x ∷ xs))
     first true e =
         let same : x ≡ 45 = eqb-true x 45 e in
         subst (λ n. IsLong (n ∷ xs) ⊎ (IsShort (n ∷ xs) ⊎ IsPlainWord (n ∷ xs))) (sym same)
-        (rest xs (subst (λ n. IsUtf8 (n ∷ xs)) same text) (subst (λ n. is_bare (n ∷ xs) ≡ false) same bare))
+        (rest xs (subst (λ n. IsUtf8 (n ∷ xs)) same text) (subst (λ n. is_dashes (n ∷ xs) ≡ false) same dashes))
     first false e = inr (inr (plain-word x xs (differs x e)))
 
 -- A text with no "=" is all before the first.

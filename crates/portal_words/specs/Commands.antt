@@ -1,5 +1,5 @@
--- The command that words say: which commands there are, and what options each takes. A further command is a line of
--- `command_with` and a definition as `play_with`; a further option is a line of its command's.
+-- The command that words name: the commands, and the options of each. A further command is a line of `command_with` and
+-- a definition like `play_with`. A further option is a line in the definition of its command.
 use Rattle.std.specs.Prelude.{ℕ, nat_le, nat_lt, Bool, not, ◌&&◌, if◌then◌else◌, List, [], ◌∷◌, length, codes}
 use Rattle.std.specs.Prelude.{Option, Some, None, option_map, option_and_then}
 use Rattle.std.specs.Char.{is_ascii_digit}
@@ -32,7 +32,7 @@ are_among names given = list_all (λ s. is_among names s.name) given
 abbrev pub are_allowed : List (List ℕ) → List Setting → Bool
 are_allowed names given = are_among names given && are_apart setting_cmp given
 
--- the value that the option is given
+-- the value of the option
 abbrev pub value_of : List ℕ → List Setting → Option (List ℕ)
 value_of name given = option_map (λ s. s.value) (find (λ s. bytes_eq s.name name) given)
 
@@ -46,36 +46,36 @@ abbrev pub text_for : Option (List ℕ) → Option (Option (List ℕ))
 text_for None = Some None
 text_for (Some value) = if is_text value then Some (Some value) else None
 
--- the text of an option that may be absent
+-- the text of an optional option
 abbrev pub text_of : List ℕ → List Setting → Option (Option (List ℕ))
 text_of name given = text_for (value_of name given)
 
--- the text of an option that has to be there
-abbrev pub needed_text_for : Option (List ℕ) → Option (List ℕ)
-needed_text_for value = option_and_then (λ text. text) (text_for value)
+-- the text of a required option
+abbrev pub required_text_for : Option (List ℕ) → Option (List ℕ)
+required_text_for value = option_and_then (λ text. text) (text_for value)
 
-abbrev pub needed_text_of : List ℕ → List Setting → Option (List ℕ)
-needed_text_of name given = needed_text_for (value_of name given)
+abbrev pub required_text_of : List ℕ → List Setting → Option (List ℕ)
+required_text_of name given = required_text_for (value_of name given)
 
 -- A number is 1 to 10 decimal digits of ASCII, and may begin with zeros.
 abbrev pub is_number : List ℕ → Bool
 is_number value = nat_lt 0 (length value) && nat_le (length value) 10 && list_all is_ascii_digit value
 
-abbrev pub number_spelled : List ℕ → Option ℕ
-number_spelled value = if is_number value then Some (digits_value 10 value) else None
+abbrev pub number_of_digits : List ℕ → Option ℕ
+number_of_digits value = if is_number value then Some (digits_value 10 value) else None
 
 abbrev pub within : ℕ → ℕ → ℕ → Option ℕ
 within least most number = if nat_le least number && nat_le number most then Some number else None
 
 -- the number, if it is from `least` to `most`
 abbrev pub number_in : ℕ → ℕ → List ℕ → Option ℕ
-number_in least most value = option_and_then (within least most) (number_spelled value)
+number_in least most value = option_and_then (within least most) (number_of_digits value)
 
 abbrev pub number_for : ℕ → ℕ → ℕ → Option (List ℕ) → Option ℕ
 number_for least most default None = Some default
 number_for least most default (Some value) = number_in least most value
 
--- the number of an option, from `least` to `most`, or the default where it is absent
+-- the number of an option, from `least` to `most`, or the default if the option is absent
 abbrev pub number_of : List ℕ → ℕ → ℕ → ℕ → List Setting → Option ℕ
 number_of name least most default given = number_for least most default (value_of name given)
 
@@ -88,21 +88,21 @@ play_with given =
     then option_map (λ portal. Play (record { portal = portal })) (text_of (codes "portal") given)
     else None
 
--- `load`: `--portal`, and `--as`, `--resource` and `--schema`, which have to be there
+-- `load`: `--portal`, and the required `--as`, `--resource` and `--schema`
 abbrev pub load_with : List Setting → Option Command
 load_with given =
     if are_allowed (codes "portal" ∷ codes "as" ∷ codes "resource" ∷ codes "schema" ∷ []) given
     then option_and_then (λ portal. option_and_then (λ caller. option_and_then (λ resource. option_map
     (λ schema. Load (record { portal = portal; caller = caller; resource = resource; schema = schema }))
-    (needed_text_of (codes "schema") given)) (needed_text_of (codes "resource") given))
-    (needed_text_of (codes "as") given)) (text_of (codes "portal") given)
+    (required_text_of (codes "schema") given)) (required_text_of (codes "resource") given))
+    (required_text_of (codes "as") given)) (text_of (codes "portal") given)
     else None
 
--- the most links, and how many are served where none is said
+-- the largest value of `--links`, which is also its default
 abbrev pub most_links : ℕ
 most_links = 1000000000
 
--- `serve`: `--portal`, and `--links` from 1 to 1,000,000,000, the most where it is absent
+-- `serve`: `--portal`, and `--links` from 1 to 1,000,000,000, by default the largest
 abbrev pub serve_with : List Setting → Option Command
 serve_with given =
     if are_allowed (codes "portal" ∷ codes "links" ∷ []) given
@@ -120,8 +120,7 @@ command_with name given =
     else if bytes_eq name (codes "serve") then serve_with given
     else None
 
--- The command that the words say, those behind the program's name: the first word names it, and all others are its
--- options.
+-- The command that the words after the program's name are: the first word names it, and the others are its options.
 abbrev pub command_of : List (List ℕ) → Option Command
 command_of [] = None
 command_of (name ∷ words) = option_and_then (command_with name) (options_in words)

@@ -1,4 +1,4 @@
--- The options that words say.
+-- The options in words.
 --
 --     words  = *option
 --     option = "--" name "=" value      in one word; the first "=" ends the name
@@ -15,31 +15,31 @@ pub record Setting : Type 0 where
 abbrev pub setting : List ℕ → List ℕ → Setting
 setting name value = record { name = name; value = value }
 
--- begins as an option does, with two dashes
+-- the word begins as an option does, with two dashes
 abbrev pub is_option : List ℕ → Bool
 is_option word = starts_with nat_eq word (codes "--")
 
--- can't be the second word of an option
+-- the word can't be the second word of an option
 abbrev pub begins_with_dash : List ℕ → Bool
 begins_with_dash word = starts_with nat_eq word (codes "-")
 
 abbrev pub is_equals : ℕ → Bool
 is_equals c = c == 61
 
--- says a value in the same word
+-- the value is in the same word
 abbrev pub has_equals : List ℕ → Bool
 has_equals text = list_any is_equals text
 
--- the option whose name and value this text has, about its first "="
+-- the option whose name and value are before and after the first "=" of the text
 abbrev pub setting_in : List ℕ → Setting
 setting_in text = setting (before_first is_equals text) (after_first is_equals text)
 
--- the options with one more in front
+-- the options, after one more
 abbrev pub with_setting : Setting → Option (List Setting) → Option (List Setting)
 with_setting first more = option_map (λ others. first ∷ others) more
 
 abbrev mutual
-  -- the options that the words say, or none where the words are others
+  -- the options in the words, or none if the words have another form
   pub options_in : List (List ℕ) → Option (List Setting)
   options_in [] = Some []
   options_in (word ∷ words) =

@@ -1,3 +1,4 @@
 pub mod Commands
+pub mod FirstWord
 pub mod Grammar
 pub mod Options

@@ -1,4 +1,4 @@
--- What `clap` is told of the options of a command, and what its answers say of the words.
+-- The options of a command as `clap` takes them, and what its results say about the words.
 use Rattle.std.specs.Prelude.{◌≡◌, ℕ, Bool, true, false, ◌||◌, List, fold, codes, Some}
 use Rattle.std.specs.Str.{bytes_eq}
 use Rattle.clap.specs.Matches.{first_value, found_of}
@@ -14,36 +14,36 @@ use Rattle.portal_words.specs.Commands.{are_allowed, value_of}
 use Rattle.portal_words.specs.Grammar.{Setting, options_in}
 
 -- one or two dashes and nothing else
-abbrev pub is_bare : List ℕ → Bool
-is_bare word = bytes_eq word (codes "-") || bytes_eq word (codes "--")
+abbrev pub is_dashes : List ℕ → Bool
+is_dashes word = bytes_eq word (codes "-") || bytes_eq word (codes "--")
 
--- an option with one value, as `clap` is told of it
+-- an option with one value, as `clap` takes it
 abbrev pub option_rule : List ℕ → Rule
 option_rule name = record (new_rule name) { long = Some name; action = Some Set }
 
--- a command with no options of its own, whose words are options alone
-abbrev pub bare_app : App
-bare_app = on_top (λ s. record s { no_binary_name = true; disable_help_flag = true }) (new_app (codes "portal"))
+-- a command without options, whose words can be options only
+abbrev pub base_app : App
+base_app = on_top (λ s. record s { no_binary_name = true; disable_help_flag = true }) (new_app (codes "portal"))
 
 abbrev pub with_option : App → List ℕ → App
 with_option app name = with_rule app (option_rule name)
 
 -- the command with these options
 abbrev pub app_with : List (List ℕ) → App
-app_with names = fold with_option bare_app names
+app_with names = fold with_option base_app names
 
--- why words say no command, by why `clap` takes them for none
+-- why words name no command, by the error of `clap`
 abbrev pub fault_for : ErrorKind → WordsFault
 fault_for kind.OutOfMemory = OutOfMemory
 fault_for _ = BadWords
 
--- The matches tell the options that the words say, each of which is one of these, and none is given twice.
-pub record TellsOptions (names words : List (List ℕ)) (matches : ArgMatches) : Type 0 where
+-- The matches have the options in the words. Each one is one of these, and none is given twice.
+pub record MatchesOptions (names words : List (List ℕ)) (matches : ArgMatches) : Type 0 where
   pub given : List Setting
-  pub said : options_in words ≡ Some given
+  pub parsed : options_in words ≡ Some given
   pub allowed : are_allowed names given ≡ true
   pub values : (name : List ℕ) → first_value (found_of matches) name ≡ value_of name given
 
--- The words say no options, or others than these, or one twice.
-abbrev pub SayOthers : List (List ℕ) → List (List ℕ) → Type 0
-SayOthers names words = (given : List Setting) → options_in words ≡ Some given → are_allowed names given ≡ false
+-- The words have no form of options, or have others than these, or one twice.
+abbrev pub HaveOtherOptions : List (List ℕ) → List (List ℕ) → Type 0
+HaveOtherOptions names words = (given : List Setting) → options_in words ≡ Some given → are_allowed names given ≡ false

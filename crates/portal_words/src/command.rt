@@ -1,56 +1,56 @@
-//! Commands, and the words that say them.
+//! Commands, read from words.
 ghost use Rattle.std.specs.Prelude.{◌≡◌, map, string_bytes, option_and_then, Some, None, IfOk, IsErrOf};
 ghost use Rattle.portal_words.specs.Commands.{command_of, load_with, play_with, serve_with};
 ghost use Rattle.portal_words.specs.Grammar.{options_in};
 
 use crate::options::options_in;
-use crate::values::{needed_text_of, number_of, text_of};
+use crate::values::{number_of, required_text_of, text_of};
 use clap::error::ErrorKind;
 use portal_base::text::Text;
 use std::alloc::{AllocError, Global};
 use thiserror::Error;
 
-/// What the program is to do.
+/// A command of the program.
 #[derive(Drop)]
 pub enum Command {
-    /// To play the script on input.
+    /// Plays the script on input.
     Play(PlayOptions),
-    /// To load the CSV on input into a new table.
+    /// Loads the CSV on input into a new table.
     Load(LoadOptions),
-    /// To serve links.
+    /// Serves links.
     Serve(ServeOptions),
 }
 
 /// The options of `play`.
 #[derive(Drop)]
 pub struct PlayOptions {
-    /// Where the portal file is.
+    /// The location of the portal file.
     pub portal: Option<Text>,
 }
 
-/// The options of `load`, of which the last three have to be there.
+/// The options of `load`. The last three are required.
 #[derive(Drop)]
 pub struct LoadOptions {
-    /// Where the portal file is.
+    /// The location of the portal file.
     pub portal: Option<Text>,
     /// The name of the user who calls, known or not.
     pub caller: Text,
-    /// What names the resource.
+    /// The name or id of the resource.
     pub resource: Text,
-    /// Where the table's schema is.
+    /// The location of the table's schema (Table Schema v1).
     pub schema: Text,
 }
 
 /// The options of `serve`.
 #[derive(Drop)]
 pub struct ServeOptions {
-    /// Where the portal file is.
+    /// The location of the portal file.
     pub portal: Option<Text>,
-    /// How many links are served, from 1 to 1,000,000,000.
+    /// The most links to serve, from 1 to 1,000,000,000.
     pub links: u64,
 }
 
-/// Why words say no command. `OutOfMemory` says nothing of the words.
+/// Why words name no command. `OutOfMemory` says nothing about the words.
 #[derive(Clone, Copy, Debug, PartialEq, Eq, Error)]
 pub enum WordsFault {
     #[error("bad words")]
@@ -91,10 +91,10 @@ static OPTIONS_OF_LOAD: [&str; 4] = ["portal", "as", "resource", "schema"];
 
 static OPTIONS_OF_SERVE: [&str; 2] = ["portal", "links"];
 
-/// The most links, and how many are served where none is said.
+/// The largest value of `--links`, which is also its default.
 const MOST_LINKS: u64 = 1_000_000_000;
 
-/// The command `play` with the options that the words say.
+/// The command `play` with the options in the words.
 fn play(alloc: Global, words: &[String]) -> Result<Command, WordsFault>
     ensures ok { IfOk result (λ command. option_and_then play_with (options_in (map string_bytes words.now))
         ≡ Some command) }
@@ -106,7 +106,7 @@ fn play(alloc: Global, words: &[String]) -> Result<Command, WordsFault>
     Ok(Command::Play(PlayOptions { portal }))
 }
 
-/// The command `load` with the options that the words say.
+/// The command `load` with the options in the words.
 fn load(alloc: Global, words: &[String]) -> Result<Command, WordsFault>
     ensures ok { IfOk result (λ command. option_and_then load_with (options_in (map string_bytes words.now))
         ≡ Some command) }
@@ -115,9 +115,9 @@ fn load(alloc: Global, words: &[String]) -> Result<Command, WordsFault>
 {
     let given = options_in(alloc, OPTIONS_OF_LOAD.as_slice(), words)?;
     let portal = text_of(alloc, given.get_str("portal"))?;
-    let caller = needed_text_of(alloc, given.get_str("as"))?;
-    let resource = needed_text_of(alloc, given.get_str("resource"))?;
-    let schema = needed_text_of(alloc, given.get_str("schema"))?;
+    let caller = required_text_of(alloc, given.get_str("as"))?;
+    let resource = required_text_of(alloc, given.get_str("resource"))?;
+    let schema = required_text_of(alloc, given.get_str("schema"))?;
     Ok(Command::Load(LoadOptions {
         portal,
         caller,
@@ -126,7 +126,7 @@ fn load(alloc: Global, words: &[String]) -> Result<Command, WordsFault>
     }))
 }
 
-/// The command `serve` with the options that the words say.
+/// The command `serve` with the options in the words.
 fn serve(alloc: Global, words: &[String]) -> Result<Command, WordsFault>
     ensures ok { IfOk result (λ command. option_and_then serve_with (options_in (map string_bytes words.now))
         ≡ Some command) }
@@ -142,8 +142,8 @@ fn serve(alloc: Global, words: &[String]) -> Result<Command, WordsFault>
 }
 
 impl Command {
-    /// The command that the words say, those behind the program's name. `BadWords` comes exactly where they say none,
-    /// but for want of memory.
+    /// Reads the command from the words after the program's name. If they name no command, the fault is `BadWords`,
+    /// unless memory runs out.
     pub fn read(alloc: Global, words: &[String]) -> Result<Command, WordsFault>
         ensures ok { IfOk result (λ command. command_of (map string_bytes words.now) ≡ Some command) }
         ensures bad { IsErrOf result WordsFault.BadWords → command_of (map string_bytes words.now) ≡ None }

@@ -1,7 +1,8 @@
-//! The words of the command line: which command they say, and with what options.
+//! The words of the command line: the command that they name, with its options.
 #![tactic(auto)]
 
 pub mod command;
+pub mod first_word;
 mod options;
 mod values;
 

@@ -1,10 +1,10 @@
-//! What the values of options are read as.
+//! The values of options.
 ghost use Rattle.std.specs.Prelude.{◌≡◌, ◌≤◌, ◌&&◌, ◌<◌, nat_lt, nat_le, length, option_map, Some, None, IfOk};
 ghost use Rattle.std.specs.Prelude.{IsErrOf};
 ghost use Rattle.std.specs.Char.{is_ascii_digit};
 ghost use Rattle.std.specs.List.{list_all};
-ghost use Rattle.portal_words.specs.Commands.{is_number, is_text, needed_text_for, number_for, number_in};
-ghost use Rattle.portal_words.specs.Commands.{number_spelled, text_for};
+ghost use Rattle.portal_words.specs.Commands.{is_number, is_text, required_text_for, number_for, number_in};
+ghost use Rattle.portal_words.specs.Commands.{number_of_digits, text_for};
 
 use crate::command::WordsFault;
 use portal_base::text::Text;
@@ -17,7 +17,7 @@ fn is_text(value: &str) -> bool
     !value.is_empty() && value != "-"
 }
 
-/// The text of an option that may be absent.
+/// The text of an optional option.
 pub fn text_of(alloc: Global, value: Option<&str>) -> Result<Option<Text>, WordsFault>
     ensures ok { IfOk result (λ text. text_for (option_map (λ v. v.now) value.entry) ≡ Some text) }
     ensures bad { IsErrOf result WordsFault.BadWords → text_for (option_map (λ v. v.now) value.entry) ≡ None }
@@ -31,11 +31,11 @@ pub fn text_of(alloc: Global, value: Option<&str>) -> Result<Option<Text>, Words
     Ok(Some(Text::from_str(alloc, value)?))
 }
 
-/// The text of an option that has to be there.
-pub fn needed_text_of(alloc: Global, value: Option<&str>) -> Result<Text, WordsFault>
-    ensures ok { IfOk result (λ text. needed_text_for (option_map (λ v. v.now) value.entry) ≡ Some text) }
+/// The text of a required option.
+pub fn required_text_of(alloc: Global, value: Option<&str>) -> Result<Text, WordsFault>
+    ensures ok { IfOk result (λ text. required_text_for (option_map (λ v. v.now) value.entry) ≡ Some text) }
     ensures bad { IsErrOf result WordsFault.BadWords
-        → needed_text_for (option_map (λ v. v.now) value.entry) ≡ None }
+        → required_text_for (option_map (λ v. v.now) value.entry) ≡ None }
 {
     match text_of(alloc, value)? {
         Some(text) => Ok(text),
@@ -43,7 +43,7 @@ pub fn needed_text_of(alloc: Global, value: Option<&str>) -> Result<Text, WordsF
     }
 }
 
-fn has_digits_alone(bytes: &[u8]) -> bool
+fn has_only_digits(bytes: &[u8]) -> bool
     ensures { result ≡ list_all is_ascii_digit bytes.now }
 {
     bytes.iter().all(|byte| byte.is_ascii_digit())
@@ -53,12 +53,12 @@ fn has_digits_alone(bytes: &[u8]) -> bool
 fn is_number(value: &str) -> bool
     ensures { result ≡ is_number value.now }
 {
-    !value.is_empty() && value.len() <= 10 && has_digits_alone(value.as_bytes())
+    !value.is_empty() && value.len() <= 10 && has_only_digits(value.as_bytes())
 }
 
 /// The number that 1 to 10 digits spell.
-fn number_spelled(value: &str) -> Option<u64>
-    ensures { result ≡ number_spelled value.now }
+fn number_of_digits(value: &str) -> Option<u64>
+    ensures { result ≡ number_of_digits value.now }
 {
     if !is_number(value) {
         return None;
@@ -70,7 +70,7 @@ fn number_spelled(value: &str) -> Option<u64>
 fn number_in(least: u64, most: u64, value: &str) -> Option<u64>
     ensures { result ≡ number_in least most value.now }
 {
-    let number = number_spelled(value)?;
+    let number = number_of_digits(value)?;
     if least <= number && number <= most {
         Some(number)
     } else {
@@ -78,7 +78,7 @@ fn number_in(least: u64, most: u64, value: &str) -> Option<u64>
     }
 }
 
-/// The number of an option, from `least` to `most`, or the default where it is absent.
+/// The number of an option, from `least` to `most`, or the default if the option is absent.
 pub fn number_of(least: u64, most: u64, default: u64, value: Option<&str>) -> Option<u64>
     ensures { result ≡ number_for least most default (option_map (λ v. v.now) value.entry) }
 {

@@ -1,5 +1,5 @@
-mod AheadLemmas
 mod CutLemmas
-mod GivingLemmas
+mod InsertsLemmas
 mod PieceLemmas
+mod RemainingLemmas
 mod SizeLemmas

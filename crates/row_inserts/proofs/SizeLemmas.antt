@@ -1,4 +1,4 @@
--- How long the body of an insert is: with one more record it is longer by that record, and by a comma behind others.
+-- The length of the body of an insert: one more record adds its own length, and a comma if it comes after others.
 use Rattle.std.proofs.Common.{◌≡◌, ◌≤◌, ℕ, ◌+◌, true, false, List, [], ◌∷◌, ◌++◌, length, map, codes, refl}
 use Rattle.std.proofs.Common.{ap, arith, rules, true≢false}
 use Rattle.std.proofs.lemmas.Bool.Decides.{nat_tests}
@@ -13,14 +13,14 @@ use Rattle.row_inserts.specs.Inserts.{fit, insert_body, insert_size, is_empty}
 
 -- ---- a list of data
 
-behind_others : (ds : List Data) (d : Data)
+after_others : (ds : List Data) (d : Data)
     → length (items_text true (items_of (ds ++ d ∷ [])))
     ≡ length (items_text true (items_of ds)) + 1 + length (compact_text d)
-behind_others [] d = omega (arith, length-append (compact_text d) (93 ∷ []))
-behind_others (e ∷ es) d =
+after_others [] d = omega (arith, length-append (compact_text d) (93 ∷ []))
+after_others (e ∷ es) d =
     omega (
       arith,
-      behind_others es d,
+      after_others es d,
       length-append (compact_text e) (items_text true (items_of (es ++ d ∷ []))),
       length-append (compact_text e) (items_text true (items_of es)),
     )
@@ -29,13 +29,13 @@ list_alone : (d : Data)
     → length (items_text false (items_of (d ∷ []))) ≡ length (items_text false (items_of [])) + length (compact_text d)
 list_alone d = omega (arith, length-append (compact_text d) (93 ∷ []))
 
-list_behind : (e : Data) (es : List Data) (d : Data)
+list_after : (e : Data) (es : List Data) (d : Data)
     → length (items_text false (items_of (e ∷ es ++ d ∷ [])))
     ≡ length (items_text false (items_of (e ∷ es))) + 1 + length (compact_text d)
-list_behind e es d =
+list_after e es d =
     omega (
       arith,
-      behind_others es d,
+      after_others es d,
       length-append (compact_text e) (items_text true (items_of (es ++ d ∷ []))),
       length-append (compact_text e) (items_text true (items_of es)),
     )
@@ -49,7 +49,7 @@ body_data : (resource : List ℕ) (records : List Json)
     (member (codes "resource_id") (string resource) no_members)))
 body_data resource records = search (rules, the_lemmas)
 
--- what is written, of the texts of the records and of what names the resource
+-- the text of the body, by the texts of the records and of the name of the resource
 abbrev body_pieces : List ℕ → List ℕ → List ℕ
 body_pieces list resource =
     codes "{\"method\":\"insert\",\"records\":[" ++ (list ++ (codes ",\"resource_id\":" ++ (resource ++ codes "}")))
@@ -60,23 +60,23 @@ body_is : (resource : List ℕ) (records : List Json)
 unfolding serde_json_on_literals
 body_is resource records = ap compact_text (body_data resource records)
 
-around : (before list behind : List ℕ) → length (before ++ (list ++ behind))
-    ≡ length before + length list + length behind
-around before list behind = omega (arith, length-append before (list ++ behind), length-append list behind)
+around : (before list after : List ℕ) → length (before ++ (list ++ after))
+    ≡ length before + length list + length after
+around before list after = omega (arith, length-append before (list ++ after), length-append list after)
 
--- the lists alone make bodies longer
+-- The lengths of bodies differ by those of their lists.
 sized : (resource : List ℕ) (records others : List Json)
     → insert_size resource records + length (items_text false (items_data others))
     ≡ insert_size resource others + length (items_text false (items_data records))
 sized resource records others =
     let before = codes "{\"method\":\"insert\",\"records\":[" in
-    let behind = codes ",\"resource_id\":" ++ (compact_text (string resource) ++ codes "}") in
+    let after = codes ",\"resource_id\":" ++ (compact_text (string resource) ++ codes "}") in
     omega (
       arith,
       ap length (body_is resource records),
       ap length (body_is resource others),
-      around before (items_text false (items_data records)) behind,
-      around before (items_text false (items_data others)) behind,
+      around before (items_text false (items_data records)) after,
+      around before (items_text false (items_data others)) after,
     )
 
 -- ---- one more record
@@ -86,16 +86,16 @@ pub size_alone : (resource : List ℕ) (added : Json)
 size_alone resource added =
     omega (arith, sized resource (added ∷ []) [], list_alone (data_of added))
 
-pub size_behind : (resource : List ℕ) (records : List Json) (added : Json) → is_empty records ≡ false
+pub size_after : (resource : List ℕ) (records : List Json) (added : Json) → is_empty records ≡ false
     → insert_size resource (records ++ added ∷ [])
     ≡ insert_size resource records + 1 + length (json_text added)
-size_behind resource [] added some = absurd (true≢false some)
-size_behind resource (first ∷ records) added some =
+size_after resource [] added some = absurd (true≢false some)
+size_after resource (first ∷ records) added some =
     omega (
       arith,
       sized resource (first ∷ records ++ added ∷ []) (first ∷ records),
       ap (λ ds. length (items_text false (items_of (data_of first ∷ ds)))) (map-append data_of records (added ∷ [])),
-      list_behind (data_of first) (map data_of records) (data_of added),
+      list_after (data_of first) (map data_of records) (data_of added),
     )
 
 -- ---- more records
@@ -103,9 +103,9 @@ size_behind resource (first ∷ records) added some =
 pub size_more : (resource : List ℕ) (records : List Json) (added : Json)
     → insert_size resource records ≤ insert_size resource (records ++ added ∷ [])
 size_more resource [] added = omega (arith, size_alone resource added)
-size_more resource (first ∷ records) added = omega (arith, size_behind resource (first ∷ records) added refl)
+size_more resource (first ∷ records) added = omega (arith, size_after resource (first ∷ records) added refl)
 
--- what fits with one more record fits
+-- Records that fit with one more record fit.
 pub fit_less : (resource : List ℕ) (records : List Json) (added : Json)
     → fit resource (records ++ added ∷ []) ≡ true → fit resource records ≡ true
 fit_less resource records added fits =

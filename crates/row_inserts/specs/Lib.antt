@@ -1,5 +1,5 @@
-pub mod Giving
 pub mod Inserts
+pub mod InsertsValue
 pub mod Laws
 pub mod Piece
 pub mod Records

@@ -1,4 +1,4 @@
--- A piece of records under way.
+-- The value of a piece of records, as contracts see it, and the effects of its calls.
 use Rattle.std.specs.Prelude.{◌≡◌, ℕ, Bool, true, false, ◌||◌, List, [], ◌∷◌, ◌++◌, Option, Some, None}
 use Rattle.portal_base.specs.declared.json_value.Json.{Json}
 use Rattle.row_inserts.specs.Inserts.{fit, insert_body, insert_size, is_empty}
@@ -10,14 +10,14 @@ pub record PieceValue : Type 0 where
   pub records : List Json
 
 -- The sizes are those of the insert of these records, and of one without records.
-pub record IsSized (resource : List ℕ) (records : List Json) (size bare_size : ℕ) : Type 0 where
-  pub whole : size ≡ insert_size resource records
-  pub bare : bare_size ≡ insert_size resource []
+pub record IsSized (resource : List ℕ) (records : List Json) (size empty_size : ℕ) : Type 0 where
+  pub with_records : size ≡ insert_size resource records
+  pub without_records : empty_size ≡ insert_size resource []
 
 abbrev pub piece_with : List ℕ → List Json → PieceValue
 piece_with resource records = record { resource = resource; records = records }
 
--- It takes this record: an empty one takes any.
+-- The piece takes this record. An empty piece takes any.
 abbrev pub takes : PieceValue → Json → Bool
 takes piece added = is_empty piece.records || fit piece.resource (piece.records ++ added ∷ [])
 
@@ -26,8 +26,8 @@ abbrev pub IsInsertOf : List ℕ → List Json → Insert → Type 0
 IsInsertOf resource records insert =
     (insert.body ≡ insert_body resource records) × (insert.size ≡ insert_size resource records)
 
--- The record was put to the others; or it didn't go with them, they were given as their insert, and it is the first of
--- the next.
+-- The record was appended; or it didn't fit, the records before it were returned as their insert, and it is the first
+-- of the next one.
 abbrev pub Puts : PieceValue → Json → Option Insert → PieceValue → Type 0
 Puts old added None new =
     (takes old added ≡ true) × (new ≡ piece_with old.resource (old.records ++ added ∷ []))
@@ -35,7 +35,7 @@ Puts old added (Some insert) new =
     (takes old added ≡ false) × IsInsertOf old.resource old.records insert
     × (new ≡ piece_with old.resource (added ∷ []))
 
--- No record is left, and those that there were are given as their insert.
+-- No record is left, and the records before are returned as their insert, if there were any.
 abbrev pub Clears : PieceValue → Option Insert → PieceValue → Type 0
 Clears old None new = (old.records ≡ []) × (new ≡ old)
 Clears old (Some insert) new =

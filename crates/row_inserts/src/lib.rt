@@ -1,4 +1,4 @@
-//! Rows of CSV as the inserts that load them into a table: each a piece of rows with a call's body.
+//! Rows of CSV as the inserts that load them into a table: each is the body of a call with a piece of the rows.
 #![tactic(auto)]
 
 mod inserts;

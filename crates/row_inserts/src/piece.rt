@@ -1,4 +1,4 @@
-//! A piece of records, which are inserted together.
+//! A piece of records that are inserted together.
 ghost use Rattle.std.specs.Prelude.{◌≡◌, ◌∷◌, [], ◌++◌, ◌≤◌, ◌^◌, None, OnOk, OnErr, IfOk, IfSome};
 ghost use Rattle.row_inserts.specs.Inserts.{fit, insert_body, insert_size, is_full};
 ghost use Rattle.row_inserts.specs.Piece.{Clears, IsInsertOf, Puts, piece_with, takes};
@@ -12,11 +12,11 @@ use std::alloc::{AllocError, Global};
 use std::marker::Model;
 use std::mem;
 
-/// The most records of a piece.
-const MOST_RECORDS: usize = 500;
+/// The maximum count of records in a piece.
+const MAX_RECORDS: usize = 500;
 
-/// The most bytes of the body of a piece's insert, but for a piece of one record.
-const MOST_BYTES: usize = 200_000;
+/// The maximum length of an insert's body in bytes. A piece of one record may be longer.
+const MAX_BYTES: usize = 200_000;
 
 /// The body of the insert of these records into the table of the resource.
 fn insert_body(alloc: Global, resource: &str, records: Seq<Json>) -> Result<Json, AllocError>
@@ -32,16 +32,16 @@ fn insert_body(alloc: Global, resource: &str, records: Seq<Json>) -> Result<Json
     )
 }
 
-/// Records that wait for their insert. A contract sees the text that names the resource, and the records.
+/// Records that wait for their insert. Contracts see the text that names the resource, and the records.
 #[derive(Drop)]
 pub struct Piece {
     alloc: Global,
     resource: Text,
     records: Seq<Json>,
-    /// How many bytes the insert's body has.
+    /// The length of the insert's body in bytes.
     size: usize,
-    /// How many it has without records.
-    bare_size: usize,
+    /// The length of the body without records in bytes.
+    empty_size: usize,
 }
 
 impl Model for Piece {
@@ -56,10 +56,10 @@ impl Model for Piece {
 
     ghost view = { λ p. record { resource = p.resource; records = p.records } };
 
-    ghost invariant = { λ p. IsSized p.resource p.records p.size p.bare_size };
+    ghost invariant = { λ p. IsSized p.resource p.records p.size p.empty_size };
 }
 
-/// An insert's body, and how many bytes its compact text has.
+/// The body of an insert, and the length of its compact text in bytes.
 #[derive(Drop)]
 pub struct Insert {
     pub body: Json,
@@ -71,18 +71,19 @@ impl Piece {
     pub fn new(alloc: Global, resource: &str) -> Result<Piece, AllocError>
         ensures { IfOk result (λ piece. piece ≡ piece_with resource.now []) }
     {
-        let bare = insert_body(alloc, resource, Seq::new(alloc))?;
-        let bare_size = bare.text(alloc)?.len();
+        let empty = insert_body(alloc, resource, Seq::new(alloc))?;
+        let empty_size = empty.text(alloc)?.len();
         Ok(Piece {
             alloc,
             resource: Text::from_str(alloc, resource)?,
             records: Seq::new(alloc),
-            size: bare_size,
-            bare_size,
+            size: empty_size,
+            empty_size,
         })
     }
 
-    /// How many bytes the insert's body has with this record behind the others, unless they are more than memory has.
+    /// The length of the insert's body in bytes with this record after the others. Returns none if it doesn't fit a
+    /// `usize`.
     fn size_with(&self, added: &Record) -> Option<usize>
         ensures size { IfSome result
             (λ size. size ≡ insert_size self.now.resource (self.now.records ++ added.now ∷ [])) }
@@ -96,34 +97,34 @@ impl Piece {
         }
     }
 
-    /// Whether the records fit with this one behind them.
+    /// Whether the records fit one insert with this record after them.
     fn fits(&self, added: &Record) -> bool
         ensures { result ≡ fit self.now.resource (self.now.records ++ added.now ∷ []) }
     {
         match self.size_with(added) {
-            Some(size) => self.records.len() < MOST_RECORDS && size <= MOST_BYTES,
+            Some(size) => self.records.len() < MAX_RECORDS && size <= MAX_BYTES,
             None => false,
         }
     }
 
-    /// Whether the piece takes this record: an empty one takes any.
+    /// Whether the piece takes this record. An empty piece takes any.
     fn takes(&self, added: &Record) -> bool
         ensures { result ≡ takes self.now added.now }
     {
         self.records.is_empty() || self.fits(added)
     }
 
-    /// Whether the piece waits for no record. An empty one waits for one.
+    /// Whether the piece is full, so that no further record fits. An empty piece is never full.
     pub fn is_full(&self) -> bool
         ensures { result ≡ is_full self.now.resource self.now.records }
     {
         if self.records.is_empty() {
             return false;
         }
-        self.records.len() >= MOST_RECORDS || self.size > MOST_BYTES
+        self.records.len() >= MAX_RECORDS || self.size > MAX_BYTES
     }
 
-    /// Puts a record behind the others. For want of memory nothing changes.
+    /// Appends a record. If memory runs out, nothing changes.
     fn add(&mut self, added: Record) -> Result<(), AllocError>
         ensures put { OnOk result (self.new ≡ piece_with self.old.resource (self.old.records ++ added ∷ [])) }
         ensures same { OnErr result (self.new ≡ self.old) }
@@ -138,19 +139,19 @@ impl Piece {
         Ok(())
     }
 
-    /// Takes all records out, as their insert. For want of memory they are lost.
+    /// Takes all records out, as their insert. If memory runs out, they are lost.
     pub fn take(&mut self) -> Result<Insert, AllocError>
         ensures insert { IfOk result (IsInsertOf self.old.resource self.old.records) }
         ensures empty { self.new ≡ piece_with self.old.resource [] }
     {
-        let size = mem::replace(&mut self.size, self.bare_size);
+        let size = mem::replace(&mut self.size, self.empty_size);
         let records = mem::replace(&mut self.records, Seq::new(self.alloc));
         let body = insert_body(self.alloc, self.resource.as_str(), records)?;
         Ok(Insert { body, size })
     }
 
-    /// Puts a record to the others. Where it doesn't go with them, they are given as their insert, and it is the first
-    /// of the next. For want of memory records may be lost.
+    /// Appends a record if it fits. Otherwise the records so far are returned as their insert, and the record is the
+    /// first of the next one. If memory runs out, records may be lost.
     pub fn put(&mut self, added: Record) -> Result<Option<Insert>, AllocError>
         ensures put { IfOk result (λ insert. Puts self.old added insert self.new) }
         ensures resource { self.new.resource ≡ self.old.resource }
@@ -164,7 +165,7 @@ impl Piece {
         Ok(Some(insert))
     }
 
-    /// Takes all records out, as their insert, if there are some. For want of memory they are lost.
+    /// Takes all records out, as their insert, if there are any. If memory runs out, they are lost.
     pub fn take_rest(&mut self) -> Result<Option<Insert>, AllocError>
         ensures cleared { IfOk result (λ insert. Clears self.old insert self.new) }
         ensures resource { self.new.resource ≡ self.old.resource }

@@ -1,4 +1,4 @@
-//! Rows as records: the dictionaries that the body of a call has for them.
+//! Rows as records: the dictionaries for rows in the body of a call.
 ghost use Rattle.std.specs.Prelude.{◌≡◌, All, IfOk, length, map};
 ghost use Rattle.portal_base.specs.Json.{json_text};
 ghost use Rattle.table_schema.specs.Printed.{IsValue};
@@ -25,7 +25,7 @@ fn names_of(alloc: Global, fields: &[Field]) -> Result<Seq<Text>, AllocError>
     Ok(Seq::from(names))
 }
 
-/// The columns of these fields, ascending by name.
+/// The columns of these fields, sorted by name.
 pub fn columns_of(alloc: Global, fields: &[Field]) -> Result<Vec<Column>, AllocError>
     ensures { IfOk result (λ columns. columns.items ≡ columns_of fields.now) }
 {
@@ -33,7 +33,7 @@ pub fn columns_of(alloc: Global, fields: &[Field]) -> Result<Vec<Column>, AllocE
     row_records::columns_of(alloc, names.as_slice())
 }
 
-/// A record, and how many bytes its compact text has.
+/// A record, and the length of its compact text in bytes.
 #[derive(Drop)]
 pub struct Record {
     value: Json,
@@ -67,7 +67,7 @@ impl Record {
         Ok(Record { value, size })
     }
 
-    /// How many bytes its compact text has.
+    /// The length of its compact text in bytes.
     pub fn size(&self) -> usize
         ensures { result ≡ length (json_text self.now) }
     {

@@ -1,4 +1,5 @@
-//! Rows of a table as records: the JSON dictionaries of their cells' values by the names of their columns.
+//! Rows of a table as records (CKAN 2.10, DataStore): JSON dictionaries from the names of columns to the values of
+//! cells.
 #![tactic(auto)]
 
 mod columns;

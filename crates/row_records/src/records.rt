@@ -1,4 +1,4 @@
-//! Rows as records.
+//! Writes rows as records.
 ghost use Rattle.std.specs.Prelude.{◌≡◌, All, IfOk, map};
 ghost use Rattle.table_schema.specs.Printed.{IsValue};
 ghost use Rattle.row_records.specs.Records.{member_at, record_of};
@@ -11,7 +11,8 @@ use portal_base::text::Text;
 use std::alloc::{AllocError, Global};
 use table_schema::{Cell, cell_json};
 
-/// The record of a row: the name of each column with its cell's value.
+/// The record of a row: the name of each column with the JSON value of its cell. The value is null if the row has no
+/// such cell.
 pub fn record_json(alloc: Global, columns: &[Column], cells: &[Cell]) -> Result<Json, AllocError>
     requires { All IsValue cells.now }
     ensures { IfOk result (λ made. made ≡ record_of columns.now cells.now) }
@@ -19,7 +20,7 @@ pub fn record_json(alloc: Global, columns: &[Column], cells: &[Cell]) -> Result<
     Ok(Json::Map(Seq::from(members_of(alloc, columns, cells)?)))
 }
 
-// The name of each column with its cell's value.
+// The name of each column with the value of its cell.
 fn members_of(
     alloc: Global,
     columns: &[Column],
@@ -35,12 +36,12 @@ fn members_of(
     Ok(members)
 }
 
-// The name of a column with its cell's value, which is null where the row has none.
+// The name of a column with the value of its cell, which is null if the row has no such cell.
 fn member_of(alloc: Global, column: &Column, cells: &[Cell]) -> Result<(Text, Json), AllocError>
     requires { All IsValue cells.now }
     ensures { IfOk result (λ member. member ≡ member_at cells.now column.now) }
 {
-    let value = match cells.get(column.place) {
+    let value = match cells.get(column.index) {
         Some(cell) => cell_json(alloc, cell)?,
         None => Json::Null,
     };

@@ -1,4 +1,4 @@
--- Cells that texts and values are read as, and printed cells that are read back.
+-- The cells that texts and values read as, and printed cells that read back as the same cells.
 use Rattle.std.proofs.Common.{◌≡◌, ℕ, zero, suc, ◌*◌, ◌^◌, ◌<◌, ◌≤◌, true, false, ◌&&◌, leb, ltb, refl, sym, ap, ◌∙◌}
 use Rattle.std.proofs.Common.{subst, arith, rules, Bool, List, length, take, drop, get_or, ℤ, pos, negsuc, ◌+ℤ◌, ◌-ℤ◌}
 use Rattle.std.proofs.Common.{◌*ℤ◌}
@@ -23,14 +23,14 @@ use Rattle.table_schema.specs.declared.form.Kind.TheVariants as kind
 use Rattle.lexical_forms.specs.declared.form.NumberForm.{NumberForm}
 use Rattle.portal_base.specs.Calendar.{date_reading, time_reading, year_reading, yearmonth_reading, has_month}
 use Rattle.portal_base.specs.Calendar.{moment_at}
-use Rattle.table_schema.specs.Stamp.{stamp_reading, is_time_mark, is_zone, zoned_moment}
+use Rattle.table_schema.specs.Stamp.{stamp_reading, is_time_designator, is_zone, zoned_moment}
 use Rattle.table_schema.specs.Constraint.{constraint_fault}
 use Rattle.table_schema.specs.Field.{FieldValue}
 use Rattle.lexical_forms.specs.Digits.{is_digits, spelled, is_negative, unsigned, signed}
 use Rattle.table_schema.specs.Form.{kind_of}
-use Rattle.lexical_forms.specs.Number.{is_i64, i64_only, whole_reading, integer_reading, parts_of, is_number}
-use Rattle.lexical_forms.specs.Number.{digits_of, exponent_of, scaled, in_size, billionths_of, unsigned_reading}
-use Rattle.lexical_forms.specs.Number.{bare_reading, number_reading, bare_part}
+use Rattle.lexical_forms.specs.Number.{is_i64, i64_only, integer_text_reading, integer_reading, parts_of, is_number}
+use Rattle.lexical_forms.specs.Number.{digits_of, exponent_of, scaled, in_range, billionths_of, unsigned_reading}
+use Rattle.lexical_forms.specs.Number.{number_text_reading, number_reading, numeric_part}
 use Rattle.table_schema.specs.Printed.{IsValue, cell_text, cell_value}
 use Rattle.table_schema.specs.Reading.{text_reading, whole_cell, truth_cell, value_in, value_reading, default_form}
 use Rattle.table_schema.specs.Reading.{kind_of_cell, kept, record_reading, record_reading_in, Accepts, IsFault}
@@ -40,7 +40,7 @@ use Rattle.lexical_forms.proofs.ReadingLemmas.{map-some, then-some, if-some}
 use Rattle.lexical_forms.proofs.NumberTextLemmas.{number_text-back}
 use Rattle.table_schema.proofs.PrintLemmas.{date_text-back, clock_text-back, stamp_reading-back, year_month_text-back}
 
--- ---- what is read is in range
+-- ---- readings are in range
 
 i64_only-some : (z w : ℤ) → i64_only z ≡ Some w → is_i64 w ≡ true
 i64_only-some z w e =
@@ -49,9 +49,9 @@ i64_only-some z w e =
     subst (λ (x : ℤ). is_i64 x ≡ true) same parts.0
 
 integer_reading-range : (bare : Bool) (cs : List ℕ) (z : ℤ) → integer_reading bare cs ≡ Some z → is_i64 z ≡ true
-unfolding whole_reading
+unfolding integer_text_reading
 integer_reading-range bare cs z e =
-    let digits = bare_part bare None cs in
+    let digits = numeric_part bare None cs in
     i64_only-some (signed (is_negative digits) (spelled (unsigned digits))) z
     (if-some (is_digits (unsigned digits)) (i64_only (signed (is_negative digits) (spelled (unsigned digits)))) z
     e).1
@@ -63,14 +63,14 @@ signed-size false n = refl
 
 number_reading-size : (spelling : NumberForm) (cs : List ℕ) (z : ℤ) → number_reading spelling cs ≡ Some z
     → unsigned_abs z < 10 ^ 27
-unfolding bare_reading
+unfolding number_text_reading
 number_reading-size spelling cs z e =
-    let text = bare_part spelling.bare (Some spelling.decimal) cs in
+    let text = numeric_part spelling.bare (Some spelling.decimal) cs in
     let parts = parts_of spelling (unsigned text) in
     let read = map-some (signed (is_negative text)) (unsigned_reading spelling parts) z e in
     let size = (if-some (is_number spelling parts) (billionths_of parts) read.0 read.1).1 in
     let scaled_size =
-    then-some in_size
+    then-some in_range
     (scaled (spelled (digits_of parts)) (pos 9 +ℤ exponent_of parts.exponent -ℤ pos (length parts.fraction)))
     read.0 size in
     let small = if-some (ltb scaled_size.0 (10 ^ 27)) (Some scaled_size.0) read.0 scaled_size.2 in
@@ -81,8 +81,9 @@ number_reading-size spelling cs z e =
 stamp_reading-IsMoment : (text : List ℕ) (z : ℤ) → stamp_reading text ≡ Some z → IsMoment z
 unfolding stamp_reading
 stamp_reading-IsMoment text z e =
-    let marked = (if-some (is_time_mark (get_or text 10 0)) (zoned_moment (take 10 text) (drop 11 text)) z e).1 in
-    let zoned = (if-some (is_zone (drop 8 (drop 11 text))) (moment_at (take 10 text) (take 8 (drop 11 text))) z marked).1 in
+    let marked = (if-some (is_time_designator (get_or text 10 0)) (zoned_moment (take 10 text) (drop 11 text)) z e).1 in
+    let zoned =
+    (if-some (is_zone (drop 8 (drop 11 text))) (moment_at (take 10 text) (take 8 (drop 11 text))) z marked).1 in
     moment_at-IsMoment (take 10 text) (take 8 (drop 11 text)) z zoned
 
 year_in-small : (text : List ℕ) → (get_or text 0 0 ≤ 57) → (get_or text 1 0 ≤ 57) → (get_or text 2 0 ≤ 57)
@@ -147,7 +148,7 @@ pub record IsOf (k : Kind) (c : Cell) : Type 0 where
   pub fits : Fits c
   pub kind : kind_of_cell c ≡ Some k
 
--- What is read in a type is a value of the type.
+-- A reading by a type is a value of the type.
 pub text_reading-IsOf : (f : Form) (text : List ℕ) (c : Cell) → text_reading f text ≡ Some c → IsOf (kind_of f) c
 text_reading-IsOf form.Text text c e =
     let same : cell.Text text ≡ c = cc in
@@ -241,9 +242,9 @@ value_in-IsOf k (Json-F.Map entries) c e = cc
 pub value_reading-IsOf : (k : Kind) (value : Json) (c : Cell) → value_reading k value ≡ Some c → IsOf k c
 value_reading-IsOf k value c e = value_in-IsOf k (out-Json value) c e
 
--- ---- printed cells are read back
+-- ---- printed cells read back as the same cells
 
--- The value of a cell is read as the cell in its type.
+-- The JSON value of a cell reads as the same cell in its type.
 pub cell_value-back : (k : Kind) (c : Cell) → Fits c → kind_of_cell c ≡ Some k → value_reading k (cell_value c) ≡ Some c
 unfolding cell_text out-Json denote.Hole.Carrier.out
 cell_value-back k cell.Null h e = cc
@@ -272,14 +273,14 @@ cell_value-back k (cell.YearMonth year month) h e = let same : kind.YearMonth �
     subst (λ (x : Kind). value_reading x (cell_value (cell.YearMonth year month)) ≡ Some (cell.YearMonth year month))
     same (ap (option_map (λ (m : ℕ × ℕ). cell.YearMonth m.0 m.1)) (year_month_text-back year month h.0 h.1 h.2))
 
--- A cell that a value is read as is read again from its own value.
+-- The cell of a value reads back from its own JSON value.
 pub value_reading-cell_value : (k : Kind) (value : Json) (c : Cell) → value_reading k value ≡ Some c
     → value_reading k (cell_value c) ≡ Some c
 value_reading-cell_value k value c e =
     let of = value_reading-IsOf k value c e in
     cell_value-back k c of.fits of.kind
 
--- What a value is read as is a value of some type.
+-- A reading of a value is a value of some type.
 pub value_reading-IsValue : (k : Kind) (value : Json) (c : Cell) → value_reading k value ≡ Some c → IsValue c
 value_reading-IsValue k value c e = Fits-IsValue c (value_reading-IsOf k value c e).fits
 
@@ -330,7 +331,7 @@ kept-same constraints c read e = by_fault (constraint_fault constraints c) refl
     by_fault None none = let same = kept-some constraints c none in cc
     by_fault (Some fault) some = let refused : kept constraints (Some c) ≡ Err fault = rw some refl in cc
 
--- What is kept is a value, where what was read is one.
+-- A cell that keeps the constraints is a value, if the reading is one.
 pub kept-IsValue : (result : Result Cell CellError) (constraints : Constraints) (read : Option Cell)
     → IfOk result (λ c. kept constraints read ≡ Ok c) → ((c : Cell) → read ≡ Some c → IsValue c) → IfOk result IsValue
 kept-IsValue (Err error) constraints read h values = tt
@@ -349,7 +350,7 @@ value_read-IsValue k value read e c h = value_reading-IsValue k value c (sym e �
 null_back : (value : Json) → out-Json value ≡ Json-F.Null → value ≡ json.Null
 null_back value e = search (rules, the_lemmas)
 
--- A value that isn't null is read in the field's type.
+-- A value that isn't null is read by the field's type.
 pub record_reading-other : (field : FieldValue) (value : Json) → (value ≡ json.Null → ⊥)
     → record_reading field value ≡ kept field.constraints (value_reading (kind_of field.form) value)
 record_reading-other field value some = by_value (out-Json value) refl

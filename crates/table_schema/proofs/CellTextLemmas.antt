@@ -1,4 +1,4 @@
--- Texts read as cells, and fail, exactly where they are of the form.
+-- Texts read as cells if and only if they have the form of them, and fail otherwise.
 use Rattle.std.proofs.Common.{◌≡◌, ◌⊎◌, inl, inr, ℕ, suc, true, false, ◌||◌, not, cond, refl, sym, ap}
 use Rattle.std.proofs.Common.{◌∙◌, subst, arith, Bool, List, [], ◌∷◌}
 use Rattle.std.specs.Prelude.{◌↔◌, Option, Some, None, Ok, Err, Contains, option_map}
@@ -32,7 +32,7 @@ use Rattle.table_schema.specs.declared.form.Truths.{Truths}
 use Rattle.table_schema.proofs.TextLemmas.{date_where_of_form, time_where_of_form, stamp_where_of_form}
 use Rattle.table_schema.proofs.TextLemmas.{year_where_of_form, month_where_of_form}
 
--- ---- one of a list
+-- ---- membership in a list
 
 among-Contains : (texts : List (List ℕ)) (text : List ℕ) → is_among texts text ≡ true → Contains texts text
 among-Contains [] text h = cc
@@ -140,7 +140,7 @@ not-true : (b : Bool) → not b ≡ true → b ≡ false
 not-true true e = cc
 not-true false e = refl
 
--- the first constraint that is broken, by the three tests
+-- the first broken constraint, by the three tests
 abbrev first_broken : Bool → Bool → Bool → Option CellFault
 first_broken l r a =
     cond (not l) (Some fault.Length) (cond (not r) (Some fault.Range) (cond (not a) (Some fault.NotInEnum) None))
@@ -190,7 +190,7 @@ null_reading-err true k f e = (inl refl, cc (e))
 null_reading-err false true f e = (inr refl, cc (e))
 null_reading-err false false f e = cc (e)
 
--- how a text is read, as it is a missing value or isn't
+-- the reading of a text, by whether it is a missing value
 missing_reads : (field : FieldValue) (text : List ℕ) → IsMissing field text
     → cell_reading field text ≡ null_reading (field.constraints.required || field.in_key)
 missing_reads field text h = cond-true _ _ _ (Contains-among field.missing text h)
@@ -242,7 +242,7 @@ pub reads_where_of_form : (field : FieldValue) (text : List ℕ) (c : Cell) → 
     → Reads field text c ↔ IsReading field text c
 reads_where_of_form field text c spelled = (read_cell field text c spelled, cell_reads field text c spelled)
 
--- ---- why a text fails
+-- ---- the faults of texts
 
 read_fault : (field : FieldValue) (text : List ℕ) (f : CellFault) → IsSpelled field.form → Fails field text f
     → IsFailure field text f

@@ -2,7 +2,7 @@
 use Rattle.std.proofs.Common.{◌≡◌, ◌∙◌, sym, subst, suc, ◌+◌, get_or, drop, append_assoc, length-append, ℕ, ◌<◌, ◌≤◌}
 use Rattle.std.proofs.Common.{nat_le, Bool, true, ◌||◌, refl, ap, List, [], ◌∷◌, ◌++◌, map, length, codes, arith}
 use Rattle.std.proofs.lemmas.Bool.Decides.{nat_tests}
-use Rattle.std.proofs.lemmas.List.{at_drop_more, append-nil}
+use Rattle.std.proofs.lemmas.List.{at_drop_more}
 use Rattle.std.specs.Prelude.{Some, Result, Ok, Err}
 use Rattle.std.specs.Result.{IsErrAnd}
 use Rattle.std.specs.List.{list_any, list_all}
@@ -32,7 +32,7 @@ field_items-of value fields items dictionary there list some few all =
 
 -- ---- one field after another
 
--- the fields that these items add to those before them
+-- the fields before, followed by those of these items
 abbrev pub columns_on : List Column → List Json → Result (List Column) SchemaFault
 columns_on before items =
     columns_reading (suc (length before)) (map (λ (c : Column). c.name) before) items >>> λ rest. Ok (before ++ rest)
@@ -47,10 +47,6 @@ names-more : (before : List Column) (column : Column)
     → map (λ (c : Column). c.name) (before ++ column ∷ []) ≡ map (λ (c : Column). c.name) before ++ column.name ∷ []
 names-more [] column = refl
 names-more (c ∷ before) column = ap (λ names. c.name ∷ names) (names-more before column)
-
-pub columns_on-start : (items : List Json) → columns_reading 1 [] items ≡ columns_on [] items
-columns_on-start items = elim (columns_reading 1 [] items) as (λ r. r ≡ (r >>> λ rest. Ok ([] ++ rest)))
-    [ Err fault ↦ refl | Ok columns ↦ refl ]
 
 pub columns_on-next : (before : List Column) (items : List Json) (i : ℕ) (item : Json) (column : Column)
     → i ≡ length before → i < length items → item ≡ get_or items i item
@@ -88,10 +84,7 @@ columns_on-fault before items i item fault at lt is e =
     (r >>> λ c. (columns_reading (suc (suc (length before))) (names ++ c.name ∷ []) rest >>> λ cs. Ok (c ∷ cs)))
     >>> λ cs. Ok (before ++ cs)) read
 
-pub columns_on-end : (before : List Column) → columns_on before [] ≡ Ok before
-columns_on-end before = ap Ok (append-nil before)
-
--- A fault of one reading is that of another.
+-- The error of one reading is that of another.
 pub refused : {A B : Type 0} (fault : SchemaFault) (one : Result A SchemaFault) (other : Result B SchemaFault)
     → (one ≡ Err fault → other ≡ Err fault) → IsRefused fault one → IsRefused fault other
 refused OutOfMemory one other then h = tt
@@ -104,7 +97,7 @@ refused BadKey one other then h = then h
 refused (Unsupported text) one other then h = then h
 refused (BadName n) one other then h = then h
 
--- A call gave up with this fault, which is that of a reading.
+-- A call that returns this error has the error of the reading.
 pub gives_err : {X Y : Type 0} (view : X → Y) (result : Result X SchemaFault) (reading : Result Y SchemaFault)
     (fault : SchemaFault) → IsErrAnd result (λ e. e ≡ fault) → IsRefused fault reading → Gives view result reading
 gives_err view (Ok x) reading fault e h = absurd e

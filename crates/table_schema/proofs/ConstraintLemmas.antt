@@ -1,4 +1,4 @@
--- The constraints of a field are read back from the dictionary that they are written as.
+-- The constraints of a field read back from the dictionary that they are written as.
 use Rattle.std.proofs.Common.{◌≡◌, ℕ, zero, suc, arith, Bool, true, false, refl, ap, ◌∙◌, subst, List, [], ◌∷◌, ◌++◌}
 use Rattle.std.proofs.Common.{map, codes}
 use Rattle.std.specs.Prelude.{if◌then◌else◌, Option, Some, None, option_map, ℤ, pos, negsuc, IfSome, All}
@@ -23,7 +23,7 @@ use Rattle.table_schema.proofs.ValueLemmas.{bind-some, bind-same, map-some, gate
 use Rattle.table_schema.proofs.ValueLemmas.{present-Map, whole_in-Whole, truth_in-Truth, list_in-List, full-Truth}
 use Rattle.table_schema.proofs.ValueLemmas.{full-List}
 
--- ---- members of a dictionary that is written part by part
+-- ---- members of a dictionary that is written in parts
 
 pub first_of-append : (key : List ℕ) (xs ys : MemberList)
     → first_of key (xs ++ ys) ≡ option_or (first_of key xs) (first_of key ys)
@@ -81,7 +81,7 @@ present-constraint : (key : List ℕ) (c : Constraints)
 present-constraint key c =
     present-Map key _ ∙ ap non_null (simp (first_of-append, first_of-where, first_of-if, first_of-allowed))
 
--- ---- what was read
+-- ---- the readings
 
 whole_in_kept : (j : Json-F Json) (z : ℤ) → whole_of j ≡ Some z → is_null_in j ≡ false
 whole_in_kept Json-F.Null z e = cc
@@ -148,7 +148,7 @@ cells-values k (item ∷ items) cells e =
     (All-more IsValue first.0 rest.0 (value_reading-IsValue k item first.0 first.1.0)
     (cells-values k items rest.0 rest.1.0))
 
--- each of the constraints is read again where it is written, and is a value of the type
+-- Each constraint reads back if it is written, and is a value of the type.
 pub record IsKept (k : Kind) (c : Constraints) : Type 0 where
   pub min_length : optional (length_in k) (non_null (option_map json.Whole c.min_length)) ≡ Some c.min_length
   pub max_length : optional (length_in k) (non_null (option_map json.Whole c.max_length)) ≡ Some c.max_length
@@ -157,7 +157,7 @@ pub record IsKept (k : Kind) (c : Constraints) : Type 0 where
   pub allowed : all_of (value_reading k) (map cell_value c.allowed) ≡ Some c.allowed
   pub values : HasValues c
 
--- the readings of the constraints, one behind the other
+-- the readings of the constraints in order
 abbrev after_maximum : Kind → Json → Bool → Bool → Option ℤ → Option ℤ → Option Cell → Option Cell → Option Constraints
 after_maximum k value required unique min_length max_length minimum maximum =
     or_default (allowed_in k) [] (present (codes "enum") value) >>= λ allowed.
@@ -271,11 +271,11 @@ kept-present k (Some value) c e =
     let dictionary = bind-some (dictionary_in value) (constraints_in k) c e in
     kept-dictionary k dictionary.0 c dictionary.1.1
 
--- The constraints that were read are kept where they are written.
+-- The constraints of a reading stay the same when they are written and read.
 pub kept-constraints : (k : Kind) (item : Json) (c : Constraints) → constraints_of k item ≡ Some c → IsKept k c
 kept-constraints k item c e = kept-present k (present (codes "constraints") item) c e
 
--- ---- what is written is read
+-- ---- written constraints read back
 
 truth-back : (b : Bool) → or_default truth_in false (non_null (if b then Some (json.Truth true) else None)) ≡ Some b
 truth-back true = ap (or_default truth_in false) (full-Truth true) ∙ truth_in-Truth true

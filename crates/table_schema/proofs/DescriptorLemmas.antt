@@ -1,4 +1,4 @@
--- A field is read back from the dictionary that it is written as.
+-- A field reads back from the dictionary that it is written as.
 use Rattle.std.proofs.Common.{◌≡◌, ◌≢◌, ℕ, suc, Bool, true, false, refl, ap, sym, ◌∙◌, subst, List, [], ◌∷◌, ◌++◌, map}
 use Rattle.std.proofs.Common.{length, codes}
 use Rattle.std.specs.Prelude.{if◌then◌else◌, Option, Some, None, option_map, is_some, Result, Ok, Err, IfSome, All}
@@ -19,7 +19,7 @@ use Rattle.table_schema.specs.declared.form.Form.TheVariants as form
 use Rattle.table_schema.specs.declared.form.Kind.{Kind}
 use Rattle.table_schema.specs.declared.form.Kind.TheVariants as kind
 use Rattle.table_schema.specs.declared.form.Truths.{Truths}
-use Rattle.table_schema.specs.Descriptor.{mark_in, spelling_of, bare_in, spelling_in, truths_in, form_in}
+use Rattle.table_schema.specs.Descriptor.{mark_in, spelling_of, bare_number_in, spelling_in, truths_in, form_in}
 use Rattle.table_schema.specs.Descriptor.{no_constraints, constraints_in, constraints_of, named, name_reading}
 use Rattle.table_schema.specs.Descriptor.{new_name, kind_named, kind_reading, default_format, format_reading}
 use Rattle.table_schema.specs.Descriptor.{pattern_reading, column_of, column_reading, columns_reading}
@@ -27,8 +27,8 @@ use Rattle.table_schema.specs.Field.{FieldValue}
 use Rattle.table_schema.specs.Form.{kind_of}
 use Rattle.table_schema.specs.Keys.{field_of, fields_from}
 use Rattle.lexical_forms.specs.FieldName.{is_field_name}
-use Rattle.lexical_forms.specs.Mark.{is_mark, mark_of}
-use Rattle.lexical_forms.specs.Number.{is_that}
+use Rattle.lexical_forms.specs.Separator.{is_separator, separator_of}
+use Rattle.lexical_forms.specs.Number.{is_same_character}
 use Rattle.table_schema.specs.Texts.{IsSpelled}
 use Rattle.table_schema.specs.Truth.{is_among, default_trues, default_falses}
 use Rattle.portal_base.specs.Kinds.{present, text_in}
@@ -47,7 +47,7 @@ abbrev pub given : List ℕ → Form → Constraints → List (List ℕ) → Boo
 given name spelling constraints missing in_key =
     record { name = name; form = spelling; constraints = constraints; missing = missing; in_key = in_key }
 
--- ---- what stands under each key
+-- ---- the value of each key
 
 present-name : (name : List ℕ) (f : Form) (c : Constraints) (missing : List (List ℕ)) (in_key : Bool)
     → present (codes "name") (field_value (given name f c missing in_key)) ≡ Some (json.Text name)
@@ -113,36 +113,37 @@ present-constraints name form.YearMonth c m k = present-Map (codes "constraints"
 
 -- ---- the options
 
-mark-back : (c : ℕ) → is_mark c ≡ true → mark_in (character_value c) ≡ Some c
+mark-back : (c : ℕ) → is_separator c ≡ true → mark_in (character_value c) ≡ Some c
 mark-back c h =
     let scalar : all_scalars (c ∷ []) ≡ true =
     (and_parts (all_scalars (c ∷ [])) _ (and_parts _ _ (and_parts _ _ h).0).0).0 in
     let one : chars (encode_utf8 c) ≡ c ∷ [] = ap chars (sym (append-nil (encode_utf8 c)))
     ∙ chars-encodes (c ∷ []) scalar in
-    ap (λ o. o >>= λ text. mark_of (chars text)) (text_in-Text (encode_utf8 c)) ∙ ap mark_of one ∙ (rw h refl)
+    ap (λ o. o >>= λ text. separator_of (chars text)) (text_in-Text (encode_utf8 c)) ∙ ap separator_of one ∙ (rw h refl)
 
-mark_of-mark : (cs : List ℕ) (c : ℕ) → mark_of cs ≡ Some c → is_mark c ≡ true
-mark_of-mark [] c e = cc
-mark_of-mark (b ∷ []) c e = let kept = if_some (is_mark b) b c e in subst (λ x. is_mark x ≡ true) kept.1 kept.0
-mark_of-mark (a ∷ b ∷ cs) c e = cc
+separator_of-mark : (cs : List ℕ) (c : ℕ) → separator_of cs ≡ Some c → is_separator c ≡ true
+separator_of-mark [] c e = cc
+separator_of-mark (b ∷ []) c e =
+    let kept = if_some (is_separator b) b c e in subst (λ x. is_separator x ≡ true) kept.1 kept.0
+separator_of-mark (a ∷ b ∷ cs) c e = cc
 
-mark_in-mark : (value : Json) (c : ℕ) → mark_in value ≡ Some c → is_mark c ≡ true
+mark_in-mark : (value : Json) (c : ℕ) → mark_in value ≡ Some c → is_separator c ≡ true
 mark_in-mark value c e =
-    let text = bind-some (text_in value) (λ text. mark_of (chars text)) c e in
-    mark_of-mark (chars text.0) c text.1.1
+    let text = bind-some (text_in value) (λ text. separator_of (chars text)) c e in
+    separator_of-mark (chars text.0) c text.1.1
 
-decimal-mark : (o : Option Json) (c : ℕ) → or_default mark_in 46 o ≡ Some c → is_mark c ≡ true
-decimal-mark None c e = let same : 46 ≡ c = cc in subst (λ x. is_mark x ≡ true) same refl
+decimal-mark : (o : Option Json) (c : ℕ) → or_default mark_in 46 o ≡ Some c → is_separator c ≡ true
+decimal-mark None c e = let same : 46 ≡ c = cc in subst (λ x. is_separator x ≡ true) same refl
 decimal-mark (Some value) c e = mark_in-mark value c e
 
-group-mark : (o : Option Json) (g : Option ℕ) → optional mark_in o ≡ Some g → IfSome g (λ c. is_mark c ≡ true)
-group-mark None g e = let same : None ≡ g = cc in subst (λ x. IfSome x (λ c. is_mark c ≡ true)) same tt
+group-mark : (o : Option Json) (g : Option ℕ) → optional mark_in o ≡ Some g → IfSome g (λ c. is_separator c ≡ true)
+group-mark None g e = let same : None ≡ g = cc in subst (λ x. IfSome x (λ c. is_separator c ≡ true)) same tt
 group-mark (Some value) g e =
     let got = map-some Some (mark_in value) g e in
-    subst (λ x. IfSome x (λ c. is_mark c ≡ true)) got.1.1 (mark_in-mark value got.0 got.1.0)
+    subst (λ x. IfSome x (λ c. is_separator c ≡ true)) got.1.1 (mark_in-mark value got.0 got.1.0)
 
 number-back : (name : List ℕ) (c : Constraints) (missing : List (List ℕ)) (in_key : Bool) (d : ℕ) (g : Option ℕ)
-    (b : Bool) → is_mark d ≡ true → IfSome g (λ x. is_mark x ≡ true) → is_that g d ≡ false
+    (b : Bool) → is_separator d ≡ true → IfSome g (λ x. is_separator x ≡ true) → is_same_character g d ≡ false
     → spelling_in
     (field_value (given name (form.Number (record { decimal = d; group = g; bare = b })) c missing in_key))
     ≡ Some (record { decimal = d; group = g; bare = b })
@@ -151,17 +152,18 @@ number-back name c m k d g b point between apart =
     let decimal : or_default mark_in 46 (present (codes "decimalChar") value) ≡ Some d =
     ap (or_default mark_in 46) (present-Map (codes "decimalChar") _ ∙ full-Text (encode_utf8 d)) ∙ mark-back d point in
     let group : optional mark_in (present (codes "groupChar") value) ≡ Some g = group_back g between in
-    let bare : bare_in value ≡ Some b =
+    let bare : bare_number_in value ≡ Some b =
     ap (or_default truth_in true) (present-Map (codes "bareNumber") _ ∙ full-Truth b) ∙ truth_in-Truth b in
     bind-same (or_default mark_in 46 (present (codes "decimalChar") value))
     (λ x. optional mark_in (present (codes "groupChar") value) >>= λ y.
-    (bare_in value >>= λ z. spelling_of x y z)) d decimal
-    ∙ bind-same (optional mark_in (present (codes "groupChar") value)) (λ y. bare_in value >>= λ z. spelling_of d y z)
+    (bare_number_in value >>= λ z. spelling_of x y z)) d decimal
+    ∙ bind-same (optional mark_in (present (codes "groupChar") value))
+    (λ y. bare_number_in value >>= λ z. spelling_of d y z)
     g group
-    ∙ bind-same (bare_in value) (λ z. spelling_of d g z) b bare
+    ∙ bind-same (bare_number_in value) (λ z. spelling_of d g z) b bare
     ∙ ap (λ t. if t then None else Some (record { decimal = d; group = g; bare = b })) apart
   where
-    group_back : (y : Option ℕ) → IfSome y (λ x. is_mark x ≡ true)
+    group_back : (y : Option ℕ) → IfSome y (λ x. is_separator x ≡ true)
         → optional mark_in
         (present (codes "groupChar")
         (field_value (given name (form.Number (record { decimal = d; group = y; bare = b })) c m k))) ≡ Some y
@@ -189,15 +191,15 @@ truths-back name c m k t =
     ∙ bind-same (or_default texts_in default_falses (present (codes "falseValues") value))
     (λ y. Some (form.Boolean (record { true_values = t.true_values; false_values = y }))) t.false_values falses
 
--- the type, and the options that are read again
+-- the type, and the options that read back
 pub record IsForm (k : Kind) (f : Form) : Type 0 where
   pub kind : kind_of f ≡ k
   pub spelled : IsSpelled f
   pub back : (name : List ℕ) (c : Constraints) (missing : List (List ℕ)) (in_key : Bool)
       → form_in k (field_value (given name f c missing in_key)) ≡ Some f
 
--- The group character is another than the decimal one.
-group-apart : (g : Option ℕ) (d : ℕ) → is_that g d ≡ false → IfSome g (λ c. c ≢ d)
+-- The group character differs from the decimal character.
+group-apart : (g : Option ℕ) (d : ℕ) → is_same_character g d ≡ false → IfSome g (λ c. c ≢ d)
 group-apart None d h = tt
 group-apart (Some c) d h = λ e. eqb-false d c h (sym e)
 
@@ -206,13 +208,14 @@ form-Number item f e =
     let got = map-some form.Number (spelling_in item) f e in
     let s = got.0 in
     let decimal = bind-some (or_default mark_in 46 (present (codes "decimalChar") item))
-    (λ x. optional mark_in (present (codes "groupChar") item) >>= λ y. (bare_in item >>= λ z. spelling_of x y z))
+    (λ x. optional mark_in (present (codes "groupChar") item) >>= λ y. (bare_number_in item >>= λ z. spelling_of x y z))
     s got.1.0 in
     let group =
     bind-some (optional mark_in (present (codes "groupChar") item))
-    (λ y. bare_in item >>= λ z. spelling_of decimal.0 y z) s decimal.1.1 in
-    let bare = bind-some (bare_in item) (λ z. spelling_of decimal.0 group.0 z) s group.1.1 in
-    let apart = if_none (is_that group.0 decimal.0) (record { decimal = decimal.0; group = group.0; bare = bare.0 }) s
+    (λ y. bare_number_in item >>= λ z. spelling_of decimal.0 y z) s decimal.1.1 in
+    let bare = bind-some (bare_number_in item) (λ z. spelling_of decimal.0 group.0 z) s group.1.1 in
+    let apart =
+    if_none (is_same_character group.0 decimal.0) (record { decimal = decimal.0; group = group.0; bare = bare.0 }) s
     bare.1.1 in
     let whole : form.Number (record { decimal = decimal.0; group = group.0; bare = bare.0 }) ≡ f =
     ap form.Number apart.1 ∙ got.1.1 in
@@ -229,9 +232,9 @@ form-Number item f e =
           (group-mark (present (codes "groupChar") item) group.0 group.1.0) apart.0);
     })
 
-form-Integer : (item : Json) (f : Form) → option_map form.Integer (bare_in item) ≡ Some f → IsForm kind.Integer f
+form-Integer : (item : Json) (f : Form) → option_map form.Integer (bare_number_in item) ≡ Some f → IsForm kind.Integer f
 form-Integer item f e =
-    let got = map-some form.Integer (bare_in item) f e in
+    let got = map-some form.Integer (bare_number_in item) f e in
     subst (IsForm kind.Integer) got.1.1 (record {
       kind = refl;
       spelled = tt;
@@ -255,7 +258,7 @@ form-Boolean item f e =
           (record { true_values = trues.0; false_values = falses.0 });
     })
 
--- The type and the options that were read are read again.
+-- The type and the options of a reading read back.
 pub form-back : (k : Kind) (item : Json) (f : Form) → form_in k item ≡ Some f → IsForm k f
 form-back kind.Text item f e = let same : form.Text ≡ f = cc in
     subst (IsForm kind.Text) same (record { kind = refl; spelled = tt; back = λ name c missing in_key. refl })
@@ -275,7 +278,7 @@ form-back kind.YearMonth item f e = let same : form.YearMonth ≡ f = cc in
 
 -- ---- the field
 
--- a field that may stand behind those of these names
+-- a field that may come after fields of these names
 pub record IsColumn (names : List (List ℕ)) (column : Column) : Type 0 where
   pub is_name : is_field_name column.name ≡ true
   pub is_new : is_among names column.name ≡ false
@@ -284,10 +287,10 @@ pub record IsColumn (names : List (List ℕ)) (column : Column) : Type 0 where
   pub constraints : IsKept kind column.constraints
 
 abbrev pub after_pattern : ℕ → List ℕ → Kind → Json → Bool → Result Column SchemaFault
-after_pattern number name k item unpatterned = or_fault (BadConstraint number) (column_of name k item)
+after_pattern number name k item pattern = or_fault (BadConstraint number) (column_of name k item)
 
 abbrev pub after_format : ℕ → List ℕ → Kind → Json → Bool → Result Column SchemaFault
-after_format number name k item plain = pattern_reading item >>> after_pattern number name k item
+after_format number name k item format = pattern_reading item >>> after_pattern number name k item
 
 abbrev pub after_kind : ℕ → List ℕ → Json → Kind → Result Column SchemaFault
 after_kind number name item k = format_reading item >>> after_format number name k item
@@ -301,7 +304,7 @@ with_constraints name f constraints = Some (record { name = name; form = f; cons
 abbrev with_form : List ℕ → Kind → Json → Form → Option Column
 with_form name k item f = constraints_of k item >>= with_constraints name f
 
--- What was read is such a field.
+-- A reading is such a field.
 pub column-is : (number : ℕ) (names : List (List ℕ)) (item : Json) (column : Column)
     → column_reading number names item ≡ Ok column → IsColumn names column
 unfolding column_reading
@@ -313,9 +316,9 @@ column-is number names item column e =
     inner.1.0 in
     let fit = if_ok (BadName number) (is_field_name raw.0) raw.0 inner.0 raw.1.1 in
     let k = bind-ok (kind_reading number item) (after_kind number outer.0 item) column outer.1.1 in
-    let plain = bind-ok (format_reading item) (after_format number outer.0 k.0 item) column k.1.1 in
-    let unpatterned = bind-ok (pattern_reading item) (after_pattern number outer.0 k.0 item) column plain.1.1 in
-    let some = or_fault-ok (BadConstraint number) (column_of outer.0 k.0 item) column unpatterned.1.1 in
+    let format = bind-ok (format_reading item) (after_format number outer.0 k.0 item) column k.1.1 in
+    let pattern = bind-ok (pattern_reading item) (after_pattern number outer.0 k.0 item) column format.1.1 in
+    let some = or_fault-ok (BadConstraint number) (column_of outer.0 k.0 item) column pattern.1.1 in
     let f = bind-some (form_in k.0 item) (with_form outer.0 k.0 item) column some in
     let c = bind-some (constraints_of k.0 item) (with_constraints outer.0 f.0) column f.1.1 in
     let same : record { name = outer.0; form = f.0; constraints = c.0 } ≡ column = cc (c.1.1) in
@@ -338,7 +341,7 @@ kind-named number kind.Datetime = refl
 kind-named number kind.Year = refl
 kind-named number kind.YearMonth = refl
 
--- Such a field is read where it is written.
+-- Such a field reads back when it is written.
 pub column-written : (number : ℕ) (names : List (List ℕ)) (column : Column) (missing : List (List ℕ)) (in_key : Bool)
     → IsColumn names column
     → column_reading number names (field_value (given column.name column.form column.constraints missing in_key))
@@ -396,24 +399,24 @@ after_first number names items column = columns_reading (suc number) (names ++ c
     >>> with_rest column
 
 pub columns-back : (number : ℕ) (names : List (List ℕ)) (items : List Json) (columns : List Column)
-    (missing : List (List ℕ)) (key : List ℕ) (place : ℕ) → columns_reading number names items ≡ Ok columns
-    → columns_reading number names (map field_value (fields_from missing key place columns)) ≡ Ok columns
-columns-back number names [] columns missing key place e =
+    (missing : List (List ℕ)) (key : List ℕ) (index : ℕ) → columns_reading number names items ≡ Ok columns
+    → columns_reading number names (map field_value (fields_from missing key index columns)) ≡ Ok columns
+columns-back number names [] columns missing key index e =
     let none : [] ≡ columns = cc in
-    subst (λ l. columns_reading number names (map field_value (fields_from missing key place l)) ≡ Ok l) none refl
-columns-back number names (item ∷ items) columns missing key place e =
+    subst (λ l. columns_reading number names (map field_value (fields_from missing key index l)) ≡ Ok l) none refl
+columns-back number names (item ∷ items) columns missing key index e =
     let first = bind-ok (column_reading number names item) (after_first number names items) columns e in
     let column = first.0 in
-    let behind = names ++ column.name ∷ [] in
-    let rest = bind-ok (columns_reading (suc number) behind items) (with_rest column) columns first.1.1 in
+    let after = names ++ column.name ∷ [] in
+    let rest = bind-ok (columns_reading (suc number) after items) (with_rest column) columns first.1.1 in
     let same : column ∷ rest.0 ≡ columns = cc (rest.1.1) in
-    let field = field_of missing key place column in
-    let values = map field_value (fields_from missing key (suc place) rest.0) in
-    subst (λ l. columns_reading number names (map field_value (fields_from missing key place l)) ≡ Ok l) same (
+    let field = field_of missing key index column in
+    let values = map field_value (fields_from missing key (suc index) rest.0) in
+    subst (λ l. columns_reading number names (map field_value (fields_from missing key index l)) ≡ Ok l) same (
     ok-same (column_reading number names (field_value field)) (after_first number names values) column
     (column-written number names column missing field.in_key (column-is number names item column first.1.0))
-    ∙ ok-same (columns_reading (suc number) behind values) (with_rest column) rest.0
-    (columns-back (suc number) behind items rest.0 missing key (suc place) rest.1.0))
+    ∙ ok-same (columns_reading (suc number) after values) (with_rest column) rest.0
+    (columns-back (suc number) after items rest.0 missing key (suc index) rest.1.0))
 
 pub columns-length : (number : ℕ) (names : List (List ℕ)) (items : List Json) (columns : List Column)
     → columns_reading number names items ≡ Ok columns → length columns ≡ length items
@@ -428,25 +431,25 @@ columns-length number names (item ∷ items) columns e =
 
 -- The bounds and the allowed cells of each field are values.
 pub columns-all : (P : FieldValue → Type 0) (missing : List (List ℕ)) (key : List ℕ)
-    → ((names : List (List ℕ)) (place : ℕ) (column : Column) → IsColumn names column
-    → P (field_of missing key place column))
-    → (number : ℕ) (names : List (List ℕ)) (items : List Json) (columns : List Column) (place : ℕ)
-    → columns_reading number names items ≡ Ok columns → All P (fields_from missing key place columns)
-columns-all P missing key each number names [] columns place e =
+    → ((names : List (List ℕ)) (index : ℕ) (column : Column) → IsColumn names column
+    → P (field_of missing key index column))
+    → (number : ℕ) (names : List (List ℕ)) (items : List Json) (columns : List Column) (index : ℕ)
+    → columns_reading number names items ≡ Ok columns → All P (fields_from missing key index columns)
+columns-all P missing key each number names [] columns index e =
     let none : [] ≡ columns = cc (e) in
-    subst (λ l. All P (fields_from missing key place l)) none (All-none P)
-columns-all P missing key each number names (item ∷ items) columns place e =
+    subst (λ l. All P (fields_from missing key index l)) none (All-none P)
+columns-all P missing key each number names (item ∷ items) columns index e =
     let first = bind-ok (column_reading number names item) (after_first number names items) columns e in
     let column = first.0 in
-    let behind = names ++ column.name ∷ [] in
-    let rest = bind-ok (columns_reading (suc number) behind items) (with_rest column) columns first.1.1 in
+    let after = names ++ column.name ∷ [] in
+    let rest = bind-ok (columns_reading (suc number) after items) (with_rest column) columns first.1.1 in
     let same : column ∷ rest.0 ≡ columns = cc (rest.1.1) in
-    subst (λ l. All P (fields_from missing key place l)) same
-    (All-more P (field_of missing key place column) (fields_from missing key (suc place) rest.0)
-    (each names place column (column-is number names item column first.1.0))
-    (columns-all P missing key each (suc number) behind items rest.0 (suc place) rest.1.0))
+    subst (λ l. All P (fields_from missing key index l)) same
+    (All-more P (field_of missing key index column) (fields_from missing key (suc index) rest.0)
+    (each names index column (column-is number names item column first.1.0))
+    (columns-all P missing key each (suc number) after items rest.0 (suc index) rest.1.0))
 
--- ---- the readings one behind the other, with the first fault
+-- ---- the readings in order, with the first error
 
 pub name_fault : (number : ℕ) (names : List (List ℕ)) (item : Json) (fault : SchemaFault)
     → name_reading number item ≡ Err fault → column_reading number names item ≡ Err fault

@@ -89,7 +89,7 @@ a_last_second = record {
   value = refl;
 }
 
--- these two, with a space between them and `Z` behind
+-- these two, with a space between them and `Z` after them
 a_stamp : IsStampText (codes "2024-02-29 23:59:59Z") (days_from_civil (pos 2024) 2 29 *ℤ pos 86400 +ℤ pos 86399)
 a_stamp = record {
   date = codes "2024-02-29";
@@ -120,8 +120,8 @@ a_true_text : IsTruthText one_text (codes "x") true
 a_true_text = yes (codes "x") (0, lit< tt, refl)
 
 -- the integer `7` in the field above, and the missing value in it
-abbrev plain_seven : IsIntegerText (codes "7") (pos 7)
-plain_seven = record {
+abbrev seven_text : IsIntegerText (codes "7") (pos 7)
+seven_text = record {
   sign = [];
   negative = false;
   digits = codes "7";
@@ -135,7 +135,7 @@ seven : IsCellText (form.Integer true) (codes "7") (cell.Int (pos 7))
 seven = integer true (codes "7") (pos 7) (record {
   middle = codes "7";
   part = sym (chars-IsAscii (codes "7") (IsAscii-cons 55 [] (lit< tt) IsAscii-nil));
-  form = plain_seven;
+  form = seven_text;
   range = record { low = omega (arith, ints); high = omega (arith, ints) };
 })
 
@@ -146,6 +146,6 @@ a_seven_is_read = value (cell.Int (pos 7)) (among-other optional_field.missing (
 a_dash_is_null : IsReading optional_field (codes "-") cell.Null
 a_dash_is_null = null (0, lit< tt, refl) refl refl
 
--- in the key it is missed
+-- In the key the missing value is an error.
 a_dash_is_missed : IsFailure (record optional_field { in_key = true }) (codes "-") Required
 a_dash_is_missed = required (0, lit< tt, refl) (inr refl)

@@ -1,4 +1,4 @@
--- Printed dates, times and months are read back.
+-- Printed dates, times and months read back as the same.
 use Rattle.std.proofs.Common.{◌≡◌, ℕ, ◌+◌, ◌-◌, ◌*◌, ◌/◌, ◌%◌, ◌<◌, ◌≤◌, true, false, ◌&&◌, cond, leb, ltb}
 use Rattle.std.proofs.Common.{refl, sym, ap, ◌∙◌, arith, Bool, List, [], ◌∷◌, ◌++◌, length, get_or, take, drop, ℤ}
 use Rattle.std.proofs.Common.{pos, negsuc, ◌+ℤ◌, ◌-ℤ◌, ◌*ℤ◌, ◌≤ℤ◌, length-drop}
@@ -12,7 +12,7 @@ use Rattle.std.proofs.lemmas.Bool.{and_parts, and_from, cond-true, le-leb, ltb-t
 use Rattle.std.proofs.lemmas.Bool.Decides.{nat_tests}
 use Rattle.std.proofs.lemmas.Str.{IsCharBoundary-from_ascii}
 use Rattle.portal_base.specs.Moment.{IsMoment, first_moment}
-use Rattle.portal_base.specs.MomentReading.{fits_form, fits_place, moment_form, number_at, year_in}
+use Rattle.portal_base.specs.MomentReading.{fits_form, fits_character, moment_form, number_at, year_in}
 use Rattle.portal_base.specs.MomentReading.{names_moment, seconds_in, moment_reading}
 use Rattle.portal_base.specs.MomentText.{moment_text, clock_text, day_text, calendar_seconds}
 use Rattle.portal_base.proofs.FormLemmas.{fits_form-at, fits_form-length}
@@ -20,7 +20,7 @@ use Rattle.portal_base.proofs.ReadingBack.{reading-moment_text}
 use Rattle.portal_base.proofs.CalendarLemmas.{time_reading-bound, moment_at-parts, moment_at-read, moment_reading-at}
 use Rattle.portal_base.proofs.CalendarLemmas.{IsMoment-seconds_of}
 use Rattle.portal_base.specs.Calendar.{IsDay, date_reading, time_reading, yearmonth_reading, has_month, seconds_of}
-use Rattle.table_schema.specs.Stamp.{stamp_reading, is_zone, is_time_mark}
+use Rattle.table_schema.specs.Stamp.{stamp_reading, is_zone, is_time_designator}
 use Rattle.table_schema.specs.Printed.{date_text, year_month_text}
 use Rattle.lexical_forms.proofs.ReadingLemmas.{if-some}
 use Rattle.lexical_forms.proofs.NumberTextLemmas.{IsAscii-cons, IsAscii-nil}
@@ -66,13 +66,13 @@ moment_reading-Split text seconds e =
 pub moment_text-Split : (seconds : ℤ) → IsMoment seconds → Split (moment_text seconds) seconds
 moment_text-Split seconds h = moment_reading-Split (moment_text seconds) seconds (reading-moment_text seconds h)
 
--- The text of a moment is read as a date-time.
+-- The text of a moment reads as a date-time.
 pub stamp_reading-back : (seconds : ℤ) → IsMoment seconds → stamp_reading (moment_text seconds) ≡ Some seconds
 unfolding stamp_reading
 stamp_reading-back seconds h =
     let split = moment_text-Split seconds h in
     let text = moment_text seconds in
-    let mark : is_time_mark (get_or text 10 0) ≡ true = rw split.mark refl in
+    let mark : is_time_designator (get_or text 10 0) ≡ true = rw split.mark refl in
     let ends : drop 8 (drop 11 text) ≡ [] =
     nil_from_length (drop 8 (drop 11 text)) (omega (arith, length-drop {A = ℕ}, split.long)) in
     let zone : is_zone (drop 8 (drop 11 text)) ≡ true = rw ends refl in
@@ -120,19 +120,19 @@ read_back day second h lt =
       ap (λ t. time_reading (take 8 (drop 11 t))) (sym text) ∙ split.time ∙ ap Some same.1,
     )
 
--- A printed date is read as that date.
+-- A printed date reads as that date.
 pub date_text-back : (day : ℤ) → IsDay day → date_reading (date_text day) ≡ Some day
 date_text-back day h = (read_back day 0 h (omega arith)).0
 
--- A printed time of day is read as that time.
+-- A printed time of day reads as that time.
 pub clock_text-back : (second : ℕ) → second < 86400 → time_reading (clock_text second) ≡ Some second
 clock_text-back second h = (read_back (pos 0) second (omega (arith, ints), omega (arith, ints)) h).1
 
--- Two digits are read as their number.
+-- Two digits read as their number.
 two_digits-back : (n : ℕ) → n < 100 → (48 + n / 10 - 48) * 10 + (48 + n % 10 - 48) ≡ n
 two_digits-back n h = omega arith
 
--- A printed year and month is read as that year and month.
+-- A printed year and month reads as that year and month.
 pub year_month_text-back : (year month : ℕ) → year ≤ 9999 → 1 ≤ month → month ≤ 12
     → yearmonth_reading (year_month_text year month) ≡ Some (year, month)
 unfolding yearmonth_reading
@@ -152,11 +152,11 @@ year_month_text-back year month h low high =
     and_from (leb 1 month) (leb month 12) (le-leb 1 month low) (le-leb month 12 high) in
     rw (form, month_at, there, named) refl
   where
-    digit : (x : ℕ) → x < 10 → fits_place 48 (48 + x) ≡ true
+    digit : (x : ℕ) → x < 10 → fits_character 48 (48 + x) ≡ true
     digit x lt = and_from (leb 48 (48 + x)) (leb (48 + x) 57) (le-leb 48 (48 + x) (omega arith))
         (le-leb (48 + x) 57 (omega arith))
 
--- ---- the texts of dates and times of day, as they are cut off the text of a moment
+-- ---- the texts of dates and times of day, as parts of the text of a moment
 
 fits_form-IsAscii : (form text : List ℕ) → fits_form form text ≡ true → list_all (λ p. ltb p 128) form ≡ true
     → IsAscii text
@@ -164,12 +164,12 @@ fits_form-IsAscii [] [] h k = IsAscii-nil
 fits_form-IsAscii [] (c ∷ text) h k = cc
 fits_form-IsAscii (p ∷ form) [] h k = cc
 fits_form-IsAscii (p ∷ form) (c ∷ text) h k =
-    let fits = and_parts (fits_place p c) (fits_form form text) h in
+    let fits = and_parts (fits_character p c) (fits_form form text) h in
     let low = and_parts (ltb p 128) (list_all (λ p. ltb p 128) form) k in
-    IsAscii-cons c text (place p c fits.0 (ltb-true p 128 low.0)) (fits_form-IsAscii form text fits.1 low.1)
+    IsAscii-cons c text (position p c fits.0 (ltb-true p 128 low.0)) (fits_form-IsAscii form text fits.1 low.1)
   where
-    place : (p c : ℕ) → fits_place p c ≡ true → p < 128 → c < 128
-    place p c h lt = grind (arith, nat_tests)
+    position : (p c : ℕ) → fits_character p c ≡ true → p < 128 → c < 128
+    position p c h lt = grind (arith, nat_tests)
 
 moment_reading-IsAscii : (text : List ℕ) (seconds : ℤ) → moment_reading text ≡ Some seconds
     → IsAscii text × (length text ≡ 19)
@@ -181,12 +181,12 @@ moment_reading-IsAscii text seconds e = by_form (fits_form moment_form text) ref
     by_form true fits h = (fits_form-IsAscii moment_form text fits refl, fits_form-length moment_form text fits)
     by_form false fits h = cc
 
--- The text of a moment may be cut at these places.
-pub moment-boundary : (text : List ℕ) (seconds : ℤ) (place : ℕ) → moment_reading text ≡ Some seconds → place ≤ 19
-    → IsCharBoundary text place
-moment-boundary text seconds place e h =
+-- The text of a moment may be split at these positions.
+pub moment-boundary : (text : List ℕ) (seconds : ℤ) (position : ℕ) → moment_reading text ≡ Some seconds → position ≤ 19
+    → IsCharBoundary text position
+moment-boundary text seconds position e h =
     let ascii = moment_reading-IsAscii text seconds e in
-    IsCharBoundary-from_ascii text place ascii.0 (omega (arith, ascii.1))
+    IsCharBoundary-from_ascii text position ascii.0 (omega (arith, ascii.1))
 
 pub date-cut : (day moment : ℤ) (text : List ℕ) → IsDay day → moment ≡ day *ℤ pos 86400 → text ≡ moment_text moment
     → take 10 text ≡ date_text day

@@ -26,7 +26,7 @@ months-of y m d t =
       (leb-true 1 d first.1, leb-true d (days_in_month (pos y) m) last.1),
     )
 
--- a day and a time of day that are there are printed as their parts
+-- a valid day and a valid time of day are printed as their parts
 printed-parts : (y m d h n s second : ℕ) → y ≤ 9999 → has_day y m d ≡ true → h < 24 → n < 60 → s < 60
     → second ≡ h * 3600 + n * 60 + s
     → parts_text y m d h n s ≡ moment_text (seconds_of (days_from_civil (pos y) m d) second)

@@ -1,4 +1,4 @@
--- Texts of dates and times of day are read exactly where they are of the form.
+-- Texts read as dates and times of day if and only if they have the form of them.
 use Rattle.std.proofs.Common.{◌≡◌, ◌⊎◌, inl, inr, ℕ, ◌+◌, ◌-◌, ◌*◌, ◌/◌, ◌%◌, ◌<◌, ◌≤◌, true, false, ◌&&◌, ◌||◌}
 use Rattle.std.proofs.Common.{nat_le, nat_lt, cond, eqb, leb, refl, sym, ap, ◌∙◌, subst, arith, Bool, List, []}
 use Rattle.std.proofs.Common.{◌∷◌, ◌++◌}
@@ -10,27 +10,27 @@ use Rattle.std.proofs.lemmas.List.{take-append-drop}
 use Rattle.jiff_core.specs.Calendar.{days_in_month, days_from_civil}
 use Rattle.jiff_core.proofs.CalendarLemmas.{days_in_month_bounds}
 use Rattle.lexical_forms.proofs.ReadingLemmas.{if-some}
-use Rattle.portal_base.specs.MomentReading.{fits_form, fits_place, number_at, year_in, has_day, has_time}
+use Rattle.portal_base.specs.MomentReading.{fits_form, fits_character, number_at, year_in, has_day, has_time}
 use Rattle.portal_base.specs.MomentText.{two_digits, four_digits}
-use Rattle.portal_base.proofs.FormLemmas.{fits_place-digit}
+use Rattle.portal_base.proofs.FormLemmas.{fits_character-digit}
 use Rattle.portal_base.specs.Calendar.{date_reading, day_in, time_reading, second_in, year_reading, yearmonth_reading}
 use Rattle.portal_base.specs.Calendar.{has_month, moment_at}
 use Rattle.portal_base.proofs.CalendarLemmas.{moment_at-parts, moment_at-read}
-use Rattle.table_schema.specs.Stamp.{is_time_mark, is_zone, zoned_moment, stamp_reading}
+use Rattle.table_schema.specs.Stamp.{is_time_designator, is_zone, zoned_moment, stamp_reading}
 use Rattle.table_schema.specs.Texts.{IsDateText, IsTimeText, IsStampText, IsYearText, IsYearMonthText}
 
--- ---- digits at the front of a text
+-- ---- digits at the start of a text
 
-fits_digit : (x : ℕ) → x < 10 → fits_place 48 (48 + x) ≡ true
+fits_digit : (x : ℕ) → x < 10 → fits_character 48 (48 + x) ≡ true
 fits_digit x lt =
     and_from (leb 48 (48 + x)) (leb (48 + x) 57) (le-leb 48 (48 + x) (omega arith)) (le-leb (48 + x) 57 (omega arith))
 
 fits_two : (n : ℕ) (form text : List ℕ) → n < 100 → fits_form form text ≡ true
     → fits_form (48 ∷ 48 ∷ form) (two_digits n ++ text) ≡ true
 fits_two n form text h fits =
-    and_from (fits_place 48 (48 + n / 10)) (fits_place 48 (48 + n % 10) && fits_form form text)
+    and_from (fits_character 48 (48 + n / 10)) (fits_character 48 (48 + n % 10) && fits_form form text)
     (fits_digit (n / 10) (omega arith))
-    (and_from (fits_place 48 (48 + n % 10)) (fits_form form text) (fits_digit (n % 10) (omega arith)) fits)
+    (and_from (fits_character 48 (48 + n % 10)) (fits_form form text) (fits_digit (n % 10) (omega arith)) fits)
 
 fits_four : (n : ℕ) (form text : List ℕ) → n ≤ 9999 → fits_form form text ≡ true
     → fits_form (48 ∷ 48 ∷ 48 ∷ 48 ∷ form) (four_digits n ++ text) ≡ true
@@ -44,7 +44,7 @@ two_back n h = omega arith
 four_back : (n century in_century : ℕ) → century ≡ n / 100 → in_century ≡ n % 100 → century * 100 + in_century ≡ n
 four_back n century in_century e f = omega arith
 
--- a text that begins with two digits
+-- a text that starts with two digits
 record TwoIn (form text : List ℕ) : Type 0 where
   pub number : ℕ
   pub rest : List ℕ
@@ -54,15 +54,15 @@ record TwoIn (form text : List ℕ) : Type 0 where
 
 two_in : (form text : List ℕ) → fits_form (48 ∷ 48 ∷ form) text ≡ true → TwoIn form text
 two_in form [] h = cc
-two_in form (a ∷ []) h = absurd (never (and_parts (fits_place 48 a) false h).1)
+two_in form (a ∷ []) h = absurd (never (and_parts (fits_character 48 a) false h).1)
   where
     never : false ≡ true → ⊥
     never e = cc
 two_in form (a ∷ b ∷ rest) h =
-    let outer = and_parts (fits_place 48 a) (fits_place 48 b && fits_form form rest) h in
-    let inner = and_parts (fits_place 48 b) (fits_form form rest) outer.1 in
-    let tens = fits_place-digit 48 a outer.0 refl in
-    let units = fits_place-digit 48 b inner.0 refl in
+    let outer = and_parts (fits_character 48 a) (fits_character 48 b && fits_form form rest) h in
+    let inner = and_parts (fits_character 48 b) (fits_form form rest) outer.1 in
+    let tens = fits_character-digit 48 a outer.0 refl in
+    let units = fits_character-digit 48 b inner.0 refl in
     record {
       number = (a - 48) * 10 + (b - 48);
       rest = rest;
@@ -112,12 +112,12 @@ four_in form text h =
     bound : (a b : ℕ) → a < 100 → b < 100 → a * 100 + b ≤ 9999
     bound a b h k = omega arith
 
--- a text that begins with what the form has there
+-- a text that starts with the character of the form
 mark_in : (m : ℕ) (form text : List ℕ) → eqb m 48 ≡ false → fits_form (m ∷ form) text ≡ true
     → (rest : List ℕ) × (text ≡ m ∷ rest) × (fits_form form rest ≡ true)
 mark_in m form [] other h = cc
 mark_in m form (c ∷ rest) other h =
-    let parts = and_parts (fits_place m c) (fits_form form rest) h in
+    let parts = and_parts (fits_character m c) (fits_form form rest) h in
     let same : eqb c m ≡ true = rw other at parts.0 in
     (rest, ap (λ n. n ∷ rest) (eqb-true c m same), parts.1)
 
@@ -422,16 +422,12 @@ is_zone-form [] h = inl refl
 is_zone-form (c ∷ []) h = inr (ap (λ n. n ∷ []) (eqb-true c 90 h))
 is_zone-form (c ∷ d ∷ cs) h = cc
 
-time_mark-form : (c : ℕ) → is_time_mark c ≡ true → (c ∷ [] ≡ codes "T") ⊎ (c ∷ [] ≡ codes " ")
+time_mark-form : (c : ℕ) → is_time_designator c ≡ true → (c ∷ [] ≡ codes "T") ⊎ (c ∷ [] ≡ codes " ")
 time_mark-form c h = by_mark (eqb c 84) refl h
   where
     by_mark : (b : Bool) → eqb c 84 ≡ b → (b || eqb c 32) ≡ true → (c ∷ [] ≡ codes "T") ⊎ (c ∷ [] ≡ codes " ")
     by_mark true e h = inl (ap (λ n. n ∷ []) (eqb-true c 84 e))
     by_mark false e h = inr (ap (λ n. n ∷ []) (eqb-true c 32 h))
-
--- a text that is read has the length of the form
-date-length : (text : List ℕ) (z : ℤ) → IsDateText text z → length text ≡ 10
-date-length text z h = ap length h.cut
 
 time-length : (text : List ℕ) (n : ℕ) → IsTimeText text n → length text ≡ 8
 time-length text n h = ap length h.cut
@@ -439,8 +435,9 @@ time-length text n h = ap length h.cut
 read_stamp : (text : List ℕ) (z : ℤ) → stamp_reading text ≡ Some z → IsStampText text z
 unfolding stamp_reading
 read_stamp text z e =
-    let marked = if-some (is_time_mark (get_or text 10 0)) (zoned_moment (take 10 text) (drop 11 text)) z e in
-    let zoned = if-some (is_zone (drop 8 (drop 11 text))) (moment_at (take 10 text) (take 8 (drop 11 text))) z marked.1 in
+    let marked = if-some (is_time_designator (get_or text 10 0)) (zoned_moment (take 10 text) (drop 11 text)) z e in
+    let zoned =
+    if-some (is_zone (drop 8 (drop 11 text))) (moment_at (take 10 text) (take 8 (drop 11 text))) z marked.1 in
     let parts = moment_at-parts (take 10 text) (take 8 (drop 11 text)) z zoned.1 in
     let time = read_time (take 8 (drop 11 text)) parts.1 parts.3 in
     let long : length (take 8 (drop 11 text)) ≡ 8 = time-length (take 8 (drop 11 text)) parts.1 time in
@@ -483,7 +480,7 @@ zoned_at date time zone n h w =
     by_zone (inr e) = ap (λ zs. zoned_moment date (clock_form h.hour h.minute h.second ++ zs)) e
 
 -- the parts of a date-time, as they are read
-stamp_at : (y m d mark : ℕ) (rest : List ℕ) → is_time_mark mark ≡ true
+stamp_at : (y m d mark : ℕ) (rest : List ℕ) → is_time_designator mark ≡ true
     → stamp_reading (date_form y m d ++ mark ∷ [] ++ rest) ≡ zoned_moment (date_form y m d) rest
 unfolding stamp_reading
 stamp_at y m d mark rest h = cond-true _ _ _ h

@@ -1,4 +1,4 @@
--- Values that are read one after another, and what a reading that succeeds took.
+-- Values that are read in order, and the steps of a successful reading.
 use Rattle.std.proofs.Common.{◌≡◌, ℕ, ◌+◌, ◌<◌, Bool, true, false, refl, ap, sym, ◌∙◌, subst, List, [], ◌∷◌, ◌++◌}
 use Rattle.std.proofs.Common.{map, length, get_or, drop, append_assoc, rules}
 use Rattle.std.specs.Prelude.{if◌then◌else◌, Option, Some, None, option_map, Result, Ok, Err, ℤ}
@@ -68,7 +68,7 @@ present-Map key entries = ap (λ j. non_null (member_in key j)) (out-Map entries
 
 -- ---- lists of values
 
--- what these items add to those that were read
+-- the values that were read, followed by those of these items
 abbrev pub read_on : {A : Type 0} → (Json → Option A) → List A → List Json → Option (List A)
 read_on read before items = option_map (λ xs. before ++ xs) (all_of read items)
 
@@ -85,7 +85,7 @@ read_on-some read before items i item x lt is e =
     at_drop_more (read_on read before) items i item lt
     ∙ (rw (← is) (rw e (joined before x (all_of read (drop (i + 1) items)))))
 
--- ---- what was taken, where a reading succeeded
+-- ---- the steps of a successful reading
 
 pub bind-some : {A B : Type 0} (o : Option A) (f : A → Option B) (y : B) → (o >>= f) ≡ Some y
     → (x : A) × ((o ≡ Some x) × (f x ≡ Some y))
@@ -136,7 +136,7 @@ pub if_err : {A : Type 0} (fault : SchemaFault) (b : Bool) (x y : A) → (if b t
 if_err fault true x y e = absurd (cc)
 if_err fault false x y e = (refl, cc)
 
--- ---- what was read is read again where it is written
+-- ---- a reading reads back when it is written
 
 pub all_of-back : {A : Type 0} (read : Json → Option A) (write : A → Json)
     → ((value : Json) (x : A) → read value ≡ Some x → read (write x) ≡ Some x) → (items : List Json) (xs : List A)

@@ -1,4 +1,4 @@
--- A schema is read back from the descriptor that it is written as.
+-- A schema reads back from the descriptor that it is written as.
 use Rattle.std.proofs.Common.{◌≡◌, ℕ, suc, ◌<◌, ◌≤◌, nat_le, ◌==◌, arith, Bool, true, false, ◌&&◌, ◌||◌, not, refl}
 use Rattle.std.proofs.Common.{ap, sym, ◌∙◌, subst, List, [], ◌∷◌, ◌++◌, map, length, codes}
 use Rattle.std.specs.Prelude.{if◌then◌else◌, Option, Some, None, option_map, Result, Ok, Err, All}
@@ -15,15 +15,18 @@ use Rattle.table_schema.specs.declared.fault.SchemaFault.TheVariants.{NotJson, N
 use Rattle.table_schema.specs.declared.foreign.Foreign.{Foreign}
 use Rattle.table_schema.specs.Descriptor.{dictionaries, field_items, columns_reading}
 use Rattle.lexical_forms.specs.Digits.{is_empty}
-use Rattle.table_schema.specs.Field.{FieldValue, SchemaValue, shown}
-use Rattle.table_schema.specs.Keys.{field_of, missing_in, place_of, is_new, places_from, places_of, places_in, key_in}
-use Rattle.table_schema.specs.Keys.{refers_to_key, foreign_of, reference_in, resource_in, target_in, foreign_in}
-use Rattle.table_schema.specs.Keys.{foreigns_in, fields_from, schema_of, keyed, columns_in, schema_reading}
+use Rattle.table_schema.specs.Field.{FieldValue, SchemaValue, schema_from}
+use Rattle.table_schema.specs.Keys.{field_of, missing_in, index_of, is_new, indices_from, indices_of, indices_in}
+use Rattle.table_schema.specs.Keys.{key_in}
+use Rattle.table_schema.specs.Keys.{refers_to_key, foreign_key_of, reference_in, resource_in, target_in, foreign_key_in}
+use Rattle.table_schema.specs.Keys.{foreign_keys_in, fields_from, schema_of, schema_with_keys, columns_in}
+use Rattle.table_schema.specs.Keys.{schema_reading}
 use Rattle.table_schema.specs.Printed.{HasValues}
 use Rattle.portal_base.specs.Kinds.{present, text_in, list_in}
 use Rattle.table_schema.specs.Values.{◌>>=◌, ◌>>>◌, or_fault, or_default, is_map, dictionary_in, texts_in, names_of}
 use Rattle.table_schema.specs.Values.{names_in, all_of}
-use Rattle.table_schema.specs.Written.{texts_value, field_value, name_at, reference_value, foreign_value, schema_value}
+use Rattle.table_schema.specs.Written.{texts_value, field_value, name_at, reference_value, foreign_key_value}
+use Rattle.table_schema.specs.Written.{schema_value}
 use Rattle.table_schema.proofs.ColumnLemmas.{field_items-of}
 use Rattle.table_schema.specs.Texts.{IsSpelled}
 use Rattle.table_schema.proofs.DescriptorLemmas.{texts_in-back, columns-back, columns-length, columns-all, IsColumn}
@@ -34,52 +37,53 @@ use Rattle.table_schema.proofs.ValueLemmas.{present-Map}
 
 -- ---- names of fields
 
--- The field at the place of a name has the name.
-place_named : (columns : List Column) (name : List ℕ) (p : ℕ) (missing : List (List ℕ)) (key : List ℕ) (q : ℕ)
-    → place_of columns name ≡ Some p → name_at (fields_from missing key q columns) p ≡ name
-place_named [] name p missing key q e = cc
-place_named (column ∷ columns) name p missing key q e =
-    chosen (bytes_eq column.name name) refl e (λ place found. place_named columns name place missing key (suc q) found)
+-- The field at the index of a name has the name.
+index_named : (columns : List Column) (name : List ℕ) (p : ℕ) (missing : List (List ℕ)) (key : List ℕ) (q : ℕ)
+    → index_of columns name ≡ Some p → name_at (fields_from missing key q columns) p ≡ name
+index_named [] name p missing key q e = cc
+index_named (column ∷ columns) name p missing key q e =
+    chosen (bytes_eq column.name name) refl e (λ index found. index_named columns name index missing key (suc q) found)
   where
     chosen : (b : Bool) → bytes_eq column.name name ≡ b
-        → (if b then Some 0 else option_map suc (place_of columns name)) ≡ Some p
-        → ((place : ℕ) → place_of columns name ≡ Some place
-        → name_at (fields_from missing key (suc q) columns) place ≡ name)
+        → (if b then Some 0 else option_map suc (index_of columns name)) ≡ Some p
+        → ((index : ℕ) → index_of columns name ≡ Some index
+        → name_at (fields_from missing key (suc q) columns) index ≡ name)
         → name_at (fields_from missing key q (column ∷ columns)) p ≡ name
     chosen true is h rest = let first : 0 ≡ p = cc in
         subst (λ x. name_at (fields_from missing key q (column ∷ columns)) x ≡ name) first
         ((bytes_eq-Decides column.name name).0 is)
     chosen false is h rest =
-        let later = map-some suc (place_of columns name) p h in
+        let later = map-some suc (index_of columns name) p h in
         subst (λ x. name_at (fields_from missing key q (column ∷ columns)) x ≡ name) later.1.1 (rest later.0 later.1.0)
 
-abbrev next_places : List Column → List ℕ → List (List ℕ) → ℕ → Option (List ℕ)
-next_places columns before names place =
-    if is_new before place then option_map (λ places. place ∷ places)
-    (places_from columns (before ++ place ∷ []) names) else None
+abbrev next_indices : List Column → List ℕ → List (List ℕ) → ℕ → Option (List ℕ)
+next_indices columns before names index =
+    if is_new before index then option_map (λ indices. index ∷ indices)
+    (indices_from columns (before ++ index ∷ []) names) else None
 
-places-back : (columns : List Column) (missing : List (List ℕ)) (key before : List ℕ) (names : List (List ℕ))
-    (places : List ℕ) → places_from columns before names ≡ Some places
-    → places_from columns before (map (name_at (fields_from missing key 0 columns)) places) ≡ Some places
-places-back columns missing key before [] places e =
-    let none : [] ≡ places = cc in
-    subst (λ l. places_from columns before (map (name_at (fields_from missing key 0 columns)) l) ≡ Some l) none refl
-places-back columns missing key before (name ∷ names) places e =
+indices-back : (columns : List Column) (missing : List (List ℕ)) (key before : List ℕ) (names : List (List ℕ))
+    (indices : List ℕ) → indices_from columns before names ≡ Some indices
+    → indices_from columns before (map (name_at (fields_from missing key 0 columns)) indices) ≡ Some indices
+indices-back columns missing key before [] indices e =
+    let none : [] ≡ indices = cc in
+    subst (λ l. indices_from columns before (map (name_at (fields_from missing key 0 columns)) l) ≡ Some l) none refl
+indices-back columns missing key before (name ∷ names) indices e =
     let fields = fields_from missing key 0 columns in
-    let found = bind-some (place_of columns name) (next_places columns before names) places e in
-    let place = found.0 in
+    let found = bind-some (index_of columns name) (next_indices columns before names) indices e in
+    let index = found.0 in
     let new =
-    gated (is_new before place) (option_map (λ ps. place ∷ ps) (places_from columns (before ++ place ∷ []) names))
-    places found.1.1 in
-    let rest = map-some (λ ps. place ∷ ps) (places_from columns (before ++ place ∷ []) names) places new.1 in
-    let again : place_of columns (name_at fields place) ≡ Some place =
-    ap (place_of columns) (place_named columns name place missing key 0 found.1.0) ∙ found.1.0 in
+    gated (is_new before index) (option_map (λ ps. index ∷ ps) (indices_from columns (before ++ index ∷ []) names))
+    indices found.1.1 in
+    let rest = map-some (λ ps. index ∷ ps) (indices_from columns (before ++ index ∷ []) names) indices new.1 in
+    let again : index_of columns (name_at fields index) ≡ Some index =
+    ap (index_of columns) (index_named columns name index missing key 0 found.1.0) ∙ found.1.0 in
     let others = map (name_at fields) rest.0 in
-    subst (λ l. places_from columns before (map (name_at fields) l) ≡ Some l) rest.1.1 (
-    bind-same (place_of columns (name_at fields place)) (next_places columns before others) place again
-    ∙ ap (λ b. if b then option_map (λ ps. place ∷ ps) (places_from columns (before ++ place ∷ []) others) else None)
+    subst (λ l. indices_from columns before (map (name_at fields) l) ≡ Some l) rest.1.1 (
+    bind-same (index_of columns (name_at fields index)) (next_indices columns before others) index again
+    ∙ ap (λ b. if b then option_map (λ ps. index ∷ ps) (indices_from columns (before ++ index ∷ []) others) else None)
     new.0
-    ∙ ap (option_map (λ ps. place ∷ ps)) (places-back columns missing key (before ++ place ∷ []) names rest.0 rest.1.0))
+    ∙ ap (option_map (λ ps. index ∷ ps))
+    (indices-back columns missing key (before ++ index ∷ []) names rest.0 rest.1.0))
 
 names_in-back : (names : List (List ℕ)) → names_in (texts_value names) ≡ Some names
 names_in-back names = ap names_of (out-List (map json.Text names)) ∙ texts-back names
@@ -87,73 +91,77 @@ names_in-back names = ap names_of (out-List (map json.Text names)) ∙ texts-bac
 -- ---- the keys
 
 key-back : (columns : List Column) (missing : List (List ℕ)) (all : List ℕ) (o : Option Json) (key : List ℕ)
-    → or_default (places_in columns) [] o ≡ Some key
-    → places_of columns (map (name_at (fields_from missing all 0 columns)) key) ≡ Some key
+    → or_default (indices_in columns) [] o ≡ Some key
+    → indices_of columns (map (name_at (fields_from missing all 0 columns)) key) ≡ Some key
 key-back columns missing all None key e =
     let none : [] ≡ key = cc in
-    subst (λ l. places_of columns (map (name_at (fields_from missing all 0 columns)) l) ≡ Some l) none refl
+    subst (λ l. indices_of columns (map (name_at (fields_from missing all 0 columns)) l) ≡ Some l) none refl
 key-back columns missing all (Some value) key e =
-    let names = bind-some (names_in value) (places_of columns) key e in
-    places-back columns missing all [] names.0 key names.1.1
+    let names = bind-some (names_in value) (indices_of columns) key e in
+    indices-back columns missing all [] names.0 key names.1.1
 
 abbrev after_resource : List Column → List ℕ → List ℕ → Json → List ℕ → Option Foreign
-after_resource columns key places reference resource = target_in reference >>= foreign_of columns key places resource
+after_resource columns key indices reference resource =
+    target_in reference >>= foreign_key_of columns key indices resource
 
 abbrev after_reference : List Column → List ℕ → List ℕ → Json → Option Foreign
-after_reference columns key places reference = resource_in reference >>= after_resource columns key places reference
+after_reference columns key indices reference = resource_in reference >>= after_resource columns key indices reference
 
-abbrev after_places : List Column → List ℕ → Json → List ℕ → Option Foreign
-after_places columns key item places = reference_in item >>= after_reference columns key places
+abbrev after_indices : List Column → List ℕ → Json → List ℕ → Option Foreign
+after_indices columns key item indices = reference_in item >>= after_reference columns key indices
 
 abbrev fits_together : List Column → List ℕ → List ℕ → List ℕ → List (List ℕ) → Bool
-fits_together columns key places resource target =
-    (length places == length target) && (not (is_empty resource) || refers_to_key columns places key target)
+fits_together columns key indices resource target =
+    (length indices == length target) && (not (is_empty resource) || refers_to_key columns indices key target)
 
 foreign-back : (columns : List Column) (missing : List (List ℕ)) (key : List ℕ) (item : Json) (f : Foreign)
-    → foreign_in columns key item ≡ Some f
-    → foreign_in columns key (foreign_value (fields_from missing key 0 columns) f) ≡ Some f
+    → foreign_key_in columns key item ≡ Some f
+    → foreign_key_in columns key (foreign_key_value (fields_from missing key 0 columns) f) ≡ Some f
 foreign-back columns missing key item f e =
     let fields = fields_from missing key 0 columns in
-    let p = bind-some (present (codes "fields") item >>= places_in columns) (after_places columns key item) f e in
-    let places = p.0 in
-    let v = bind-some (present (codes "fields") item) (places_in columns) places p.1.0 in
-    let n = bind-some (names_in v.0) (places_of columns) places v.1.1 in
-    let r = bind-some (reference_in item) (after_reference columns key places) f p.1.1 in
-    let s = bind-some (resource_in r.0) (after_resource columns key places r.0) f r.1.1 in
+    let p = bind-some (present (codes "fields") item >>= indices_in columns) (after_indices columns key item) f e in
+    let indices = p.0 in
+    let v = bind-some (present (codes "fields") item) (indices_in columns) indices p.1.0 in
+    let n = bind-some (names_in v.0) (indices_of columns) indices v.1.1 in
+    let r = bind-some (reference_in item) (after_reference columns key indices) f p.1.1 in
+    let s = bind-some (resource_in r.0) (after_resource columns key indices r.0) f r.1.1 in
     let resource = s.0 in
-    let t = bind-some (target_in r.0) (foreign_of columns key places resource) f s.1.1 in
+    let t = bind-some (target_in r.0) (foreign_key_of columns key indices resource) f s.1.1 in
     let target = t.0 in
-    let whole : Foreign = record { fields = places; resource = resource; target = target } in
-    let fit = if_some (fits_together columns key places resource target) whole f t.1.1 in
-    let value = foreign_value fields whole in
+    let whole : Foreign = record { fields = indices; resource = resource; target = target } in
+    let fit = if_some (fits_together columns key indices resource target) whole f t.1.1 in
+    let value = foreign_key_value fields whole in
     let reference = reference_value whole in
-    let places_so : (present (codes "fields") value >>= places_in columns) ≡ Some places =
-    ap (λ o. o >>= places_in columns) (present-Map (codes "fields") _ ∙ full-List _)
-    ∙ ap (λ o. o >>= places_of columns) (names_in-back (map (name_at fields) places))
-    ∙ places-back columns missing key [] n.0 places n.1.1 in
+    let indices_so : (present (codes "fields") value >>= indices_in columns) ≡ Some indices =
+    ap (λ o. o >>= indices_in columns) (present-Map (codes "fields") _ ∙ full-List _)
+    ∙ ap (λ o. o >>= indices_of columns) (names_in-back (map (name_at fields) indices))
+    ∙ indices-back columns missing key [] n.0 indices n.1.1 in
     let reference_so : reference_in value ≡ Some reference =
     ap (λ o. o >>= dictionary_in) (present-Map (codes "reference") _ ∙ full-Map _) ∙ dictionary_in-Map _ in
     let resource_so : resource_in reference ≡ Some resource =
     ap (or_default text_in []) (present-Map (codes "resource") _ ∙ full-Text resource) ∙ text_in-Text resource in
     let target_so : target_in reference ≡ Some target =
     ap (λ o. o >>= names_in) (present-Map (codes "fields") _ ∙ full-List _) ∙ names_in-back target in
-    subst (λ x. foreign_in columns key (foreign_value fields x) ≡ Some x) fit.1 (
-    bind-same (present (codes "fields") value >>= places_in columns) (after_places columns key value) places places_so
-    ∙ bind-same (reference_in value) (after_reference columns key places) reference reference_so
-    ∙ bind-same (resource_in reference) (after_resource columns key places reference) resource resource_so
-    ∙ bind-same (target_in reference) (foreign_of columns key places resource) target target_so
+    subst (λ x. foreign_key_in columns key (foreign_key_value fields x) ≡ Some x) fit.1 (
+    bind-same (present (codes "fields") value >>= indices_in columns) (after_indices columns key value) indices
+    indices_so
+    ∙ bind-same (reference_in value) (after_reference columns key indices) reference reference_so
+    ∙ bind-same (resource_in reference) (after_resource columns key indices reference) resource resource_so
+    ∙ bind-same (target_in reference) (foreign_key_of columns key indices resource) target target_so
     ∙ ap (λ b. if b then Some whole else None) fit.0)
 
-foreigns-back : (columns : List Column) (missing : List (List ℕ)) (key : List ℕ) (o : Option Json) (fs : List Foreign)
-    → or_default (λ items. list_in items >>= all_of (foreign_in columns key)) [] o ≡ Some fs
-    → all_of (foreign_in columns key) (map (foreign_value (fields_from missing key 0 columns)) fs) ≡ Some fs
-foreigns-back columns missing key None fs e =
+foreign_keys-back : (columns : List Column) (missing : List (List ℕ)) (key : List ℕ) (o : Option Json)
+    (fs : List Foreign)
+    → or_default (λ items. list_in items >>= all_of (foreign_key_in columns key)) [] o ≡ Some fs
+    → all_of (foreign_key_in columns key) (map (foreign_key_value (fields_from missing key 0 columns)) fs) ≡ Some fs
+foreign_keys-back columns missing key None fs e =
     let none : [] ≡ fs = cc in
-    subst (λ l. all_of (foreign_in columns key) (map (foreign_value (fields_from missing key 0 columns)) l) ≡ Some l)
+    subst (λ l. all_of (foreign_key_in columns key) (map (foreign_key_value (fields_from missing key 0 columns)) l)
+    ≡ Some l)
     none refl
-foreigns-back columns missing key (Some value) fs e =
-    let items = bind-some (list_in value) (all_of (foreign_in columns key)) fs e in
-    all_of-back (foreign_in columns key) (foreign_value (fields_from missing key 0 columns))
+foreign_keys-back columns missing key (Some value) fs e =
+    let items = bind-some (list_in value) (all_of (foreign_key_in columns key)) fs e in
+    all_of-back (foreign_key_in columns key) (foreign_key_value (fields_from missing key 0 columns))
     (foreign-back columns missing key) items.0 fs items.1.1
 
 -- ---- the list of fields
@@ -186,10 +194,10 @@ columns_few value columns e =
     let as_many : length columns ≡ length items.0 = columns-length 1 [] items.0 columns items.1.1 in
     omega (arith, as_many, (items_size value items.0 items.1.0).1)
 
-values-length : (columns : List Column) (missing : List (List ℕ)) (key : List ℕ) (place : ℕ)
-    → length (map field_value (fields_from missing key place columns)) ≡ length columns
-values-length [] missing key place = refl
-values-length (column ∷ columns) missing key place = ap suc (values-length columns missing key (suc place))
+values-length : (columns : List Column) (missing : List (List ℕ)) (key : List ℕ) (index : ℕ)
+    → length (map field_value (fields_from missing key index columns)) ≡ length columns
+values-length [] missing key index = refl
+values-length (column ∷ columns) missing key index = ap suc (values-length columns missing key (suc index))
 
 values-maps : (fields : List FieldValue) → list_all is_map (map field_value fields) ≡ true
 values-maps [] = refl
@@ -200,17 +208,18 @@ values-maps (field ∷ fields) = and_from (is_map (field_value field)) (list_all
 
 abbrev after_key : List Column → List (List ℕ) → Json → List ℕ → Option SchemaValue
 after_key columns missing value key =
-    foreigns_in columns key value >>= λ foreign. Some (schema_of columns missing key foreign)
+    foreign_keys_in columns key value >>= λ foreign. Some (schema_of columns missing key foreign)
 
 abbrev after_missing : List Column → Json → List (List ℕ) → Option SchemaValue
 after_missing columns value missing = key_in columns value >>= after_key columns missing value
 
-keyed-back : (columns : List Column) (value : Json) (items : List Json) (missing : List (List ℕ)) (key : List ℕ)
+schema_with_keys-back : (columns : List Column) (value : Json) (items : List Json) (missing : List (List ℕ))
+    (key : List ℕ)
     (foreign : List Foreign) → field_items value ≡ Ok items → columns_reading 1 [] items ≡ Ok columns
-    → key_in columns value ≡ Some key → foreigns_in columns key value ≡ Some foreign
+    → key_in columns value ≡ Some key → foreign_keys_in columns key value ≡ Some foreign
     → schema_reading (schema_value (schema_of columns missing key foreign)) ≡ Ok (schema_of columns missing key foreign)
 unfolding schema_reading schema_value
-keyed-back columns value items missing key foreign there read keys references =
+schema_with_keys-back columns value items missing key foreign there read keys references =
     let schema = schema_of columns missing key foreign in
     let fields = fields_from missing key 0 columns in
     let values = map field_value fields in
@@ -227,56 +236,54 @@ keyed-back columns value items missing key foreign there read keys references =
     let missing_so : missing_in back ≡ Some missing =
     ap (or_default texts_in ([] ∷ [])) (present-Map (codes "missingValues") _ ∙ full-List _) ∙ texts_in-back missing in
     let key_so : key_in columns back ≡ Some key =
-    ap (or_default (places_in columns) []) (present-Map (codes "primaryKey") _ ∙ full-List _)
-    ∙ ap (λ o. o >>= places_of columns) (names_in-back (map (name_at fields) key))
+    ap (or_default (indices_in columns) []) (present-Map (codes "primaryKey") _ ∙ full-List _)
+    ∙ ap (λ o. o >>= indices_of columns) (names_in-back (map (name_at fields) key))
     ∙ key-back columns missing key (present (codes "primaryKey") value) key keys in
-    let foreign_so : foreigns_in columns key back ≡ Some foreign =
-    ap (or_default (λ list. list_in list >>= all_of (foreign_in columns key)) [])
+    let foreign_so : foreign_keys_in columns key back ≡ Some foreign =
+    ap (or_default (λ list. list_in list >>= all_of (foreign_key_in columns key)) [])
     (present-Map (codes "foreignKeys") _ ∙ full-List _)
-    ∙ ap (λ o. o >>= all_of (foreign_in columns key)) (list_in-List (map (foreign_value fields) foreign))
-    ∙ foreigns-back columns missing key (present (codes "foreignKeys") value) foreign references in
-    let keyed_so : keyed columns back ≡ Some schema =
+    ∙ ap (λ o. o >>= all_of (foreign_key_in columns key)) (list_in-List (map (foreign_key_value fields) foreign))
+    ∙ foreign_keys-back columns missing key (present (codes "foreignKeys") value) foreign references in
+    let schema_with_keys_so : schema_with_keys columns back ≡ Some schema =
     bind-same (missing_in back) (after_missing columns back) missing missing_so
     ∙ bind-same (key_in columns back) (after_key columns missing back) key key_so
-    ∙ bind-same (foreigns_in columns key back) (λ f. Some (schema_of columns missing key f)) foreign foreign_so in
-    ok-same (field_items back >>> columns_reading 1 []) (λ cs. or_fault BadKey (keyed cs back)) columns columns_so
-    ∙ ap (or_fault BadKey) keyed_so
+    ∙ bind-same (foreign_keys_in columns key back) (λ f. Some (schema_of columns missing key f)) foreign foreign_so in
+    ok-same (field_items back >>> columns_reading 1 []) (λ cs. or_fault BadKey (schema_with_keys cs back)) columns
+    columns_so
+    ∙ ap (or_fault BadKey) schema_with_keys_so
 
--- The schema of fields that were read is read back from its own descriptor.
-pub keyed_back : (columns : List Column) (value : Json) (schema : SchemaValue) → columns_in value ≡ Ok columns
-    → keyed columns value ≡ Some schema → schema_reading (schema_value schema) ≡ Ok schema
-keyed_back columns value schema e whole =
+-- The schema of fields that were read reads back from its own descriptor.
+pub schema_with_keys_back : (columns : List Column) (value : Json) (schema : SchemaValue)
+    → columns_in value ≡ Ok columns
+    → schema_with_keys columns value ≡ Some schema → schema_reading (schema_value schema) ≡ Ok schema
+schema_with_keys_back columns value schema e whole =
     let items = bind-ok (field_items value) (columns_reading 1 []) columns e in
     let missing = bind-some (missing_in value) (after_missing columns value) schema whole in
     let key = bind-some (key_in columns value) (after_key columns missing.0 value) schema missing.1.1 in
-    let foreign = bind-some (foreigns_in columns key.0 value) (λ f. Some (schema_of columns missing.0 key.0 f)) schema
+    let foreign =
+    bind-some (foreign_keys_in columns key.0 value) (λ f. Some (schema_of columns missing.0 key.0 f)) schema
     key.1.1 in
     let same : schema_of columns missing.0 key.0 foreign.0 ≡ schema = cc (foreign.1.1) in
     subst (λ s. schema_reading (schema_value s) ≡ Ok s) same
-    (keyed-back columns value items.0 missing.0 key.0 foreign.0 items.1.0 items.1.1 key.1.0 foreign.1.0)
+    (schema_with_keys-back columns value items.0 missing.0 key.0 foreign.0 items.1.0 items.1.1 key.1.0 foreign.1.0)
 
--- A schema that was read is read back from its own descriptor.
-pub schema-back : (value : Json) (schema : SchemaValue) → schema_reading value ≡ Ok schema
-    → schema_reading (schema_value schema) ≡ Ok schema
-unfolding schema_reading
-schema-back value schema e =
-    let read = bind-ok (field_items value >>> columns_reading 1 []) (λ cs. or_fault BadKey (keyed cs value)) schema e in
-    keyed_back read.0 value schema read.1.0 (or_fault-ok BadKey (keyed read.0 value) schema read.1.1)
-
--- What holds of each field that is read holds of the schema's fields.
+-- A property of each field that was read holds of the schema's fields.
 schema-all : (P : FieldValue → Type 0) (value : Json) (schema : SchemaValue)
-    → ((missing : List (List ℕ)) (key : List ℕ) (names : List (List ℕ)) (place : ℕ) (column : Column)
-    → IsColumn names column → P (field_of missing key place column))
+    → ((missing : List (List ℕ)) (key : List ℕ) (names : List (List ℕ)) (index : ℕ) (column : Column)
+    → IsColumn names column → P (field_of missing key index column))
     → schema_reading value ≡ Ok schema → All P schema.fields
 unfolding schema_reading
 schema-all P value schema each e =
-    let read = bind-ok (field_items value >>> columns_reading 1 []) (λ cs. or_fault BadKey (keyed cs value)) schema e in
+    let read =
+    bind-ok (field_items value >>> columns_reading 1 []) (λ cs. or_fault BadKey (schema_with_keys cs value)) schema
+    e in
     let columns = read.0 in
     let items = bind-ok (field_items value) (columns_reading 1 []) columns read.1.0 in
-    let whole = or_fault-ok BadKey (keyed columns value) schema read.1.1 in
+    let whole = or_fault-ok BadKey (schema_with_keys columns value) schema read.1.1 in
     let missing = bind-some (missing_in value) (after_missing columns value) schema whole in
     let key = bind-some (key_in columns value) (after_key columns missing.0 value) schema missing.1.1 in
-    let foreign = bind-some (foreigns_in columns key.0 value) (λ f. Some (schema_of columns missing.0 key.0 f)) schema
+    let foreign =
+    bind-some (foreign_keys_in columns key.0 value) (λ f. Some (schema_of columns missing.0 key.0 f)) schema
     key.1.1 in
     let same : schema_of columns missing.0 key.0 foreign.0 ≡ schema = cc (foreign.1.1) in
     subst (λ s. All P s.fields) same
@@ -287,51 +294,27 @@ pub schema-values : (value : Json) (schema : SchemaValue) → schema_reading val
     → All (λ (f : FieldValue). HasValues f.constraints) schema.fields
 schema-values value schema e =
     schema-all (λ (f : FieldValue). HasValues f.constraints) value schema
-    (λ missing key names place column is. is.constraints.values) e
+    (λ missing key names index column is. is.constraints.values) e
 
--- Its numbers are spelled as descriptors can have them spelled.
+-- Its number fields have spellings that a descriptor can give.
 pub schema-spelled : (value : Json) (schema : SchemaValue) → schema_reading value ≡ Ok schema
     → All (λ (f : FieldValue). IsSpelled f.form) schema.fields
 schema-spelled value schema e =
     schema-all (λ (f : FieldValue). IsSpelled f.form) value schema
-    (λ missing key names place column is. is.form.spelled) e
+    (λ missing key names index column is. is.form.spelled) e
 
--- A schema of these parts is what its keys are read as.
-pub keyed_shown : (columns : List Column) (value : Json) (fields : List FieldValue) (missing : List (List ℕ))
+-- The schema of these parts is the reading of the keys.
+pub schema_with_keys_parts : (columns : List Column) (value : Json) (fields : List FieldValue) (missing : List (List ℕ))
     (key : List ℕ) (foreign : List Foreign) → missing_in value ≡ Some missing → key_in columns value ≡ Some key
-    → foreigns_in columns key value ≡ Some foreign → fields ≡ fields_from missing key 0 columns
-    → keyed columns value ≡ Some (shown fields key foreign missing)
-keyed_shown columns value fields missing key foreign missing_so key_so foreign_so fields_so =
+    → foreign_keys_in columns key value ≡ Some foreign → fields ≡ fields_from missing key 0 columns
+    → schema_with_keys columns value ≡ Some (schema_from fields key foreign missing)
+schema_with_keys_parts columns value fields missing key foreign missing_so key_so foreign_so fields_so =
     bind-same (missing_in value) (after_missing columns value) missing missing_so
     ∙ bind-same (key_in columns value) (after_key columns missing value) key key_so
-    ∙ bind-same (foreigns_in columns key value) (λ f. Some (schema_of columns missing key f)) foreign foreign_so
-    ∙ ap (λ fs. Some (shown fs key foreign missing)) (sym fields_so)
+    ∙ bind-same (foreign_keys_in columns key value) (λ f. Some (schema_of columns missing key f)) foreign foreign_so
+    ∙ ap (λ fs. Some (schema_from fs key foreign missing)) (sym fields_so)
 
--- What the fields and then the keys are read as, or the fault.
+-- The reading of the fields.
 pub columns_so : (value : Json) (items : List Json) (columns : List Column) → field_items value ≡ Ok items
     → columns_reading 1 [] items ≡ Ok columns → columns_in value ≡ Ok columns
 columns_so value items columns there read = ok-same (field_items value) (columns_reading 1 []) items there ∙ read
-
-pub schema_so : (value : Json) (columns : List Column) (schema : SchemaValue) → columns_in value ≡ Ok columns
-    → keyed columns value ≡ Some schema → schema_reading value ≡ Ok schema
-unfolding schema_reading
-schema_so value columns schema read whole =
-    ok-same (columns_in value) (λ cs. or_fault BadKey (keyed cs value)) columns read ∙ ap (or_fault BadKey) whole
-
-pub bad_key_so : (value : Json) (columns : List Column) → columns_in value ≡ Ok columns → keyed columns value ≡ None
-    → schema_reading value ≡ Err BadKey
-unfolding schema_reading
-bad_key_so value columns read none =
-    ok-same (columns_in value) (λ cs. or_fault BadKey (keyed cs value)) columns read ∙ ap (or_fault BadKey) none
-
-pub items_fault_so : (value : Json) (fault : SchemaFault) → field_items value ≡ Err fault
-    → schema_reading value ≡ Err fault
-unfolding schema_reading
-items_fault_so value fault e = ap (λ r. r >>> columns_reading 1 [] >>> λ cs. or_fault BadKey (keyed cs value)) e
-
-pub columns_fault_so : (value : Json) (items : List Json) (fault : SchemaFault) → field_items value ≡ Ok items
-    → columns_reading 1 [] items ≡ Err fault → schema_reading value ≡ Err fault
-unfolding schema_reading
-columns_fault_so value items fault there e =
-    ap (λ r. r >>> columns_reading 1 [] >>> λ cs. or_fault BadKey (keyed cs value)) there
-    ∙ ap (λ r. r >>> λ cs. or_fault BadKey (keyed cs value)) e

@@ -11,7 +11,7 @@ use Rattle.table_schema.specs.declared.constraint.Constraints.{Constraints}
 use Rattle.lexical_forms.specs.Digits.{is_empty}
 use Rattle.table_schema.specs.Order.{rank_of, same_cell}
 
--- how many characters a text has; what is no text has none
+-- the length of a text in characters, and 0 for other cells
 abbrev pub length_of : Cell → ℕ
 length_of (cell.Text text) = length (chars text)
 length_of other = 0
@@ -35,11 +35,11 @@ keeps_range constraints c =
     is_at_least (option_map rank_of constraints.minimum) (rank_of c)
     && is_at_most (option_map rank_of constraints.maximum) (rank_of c)
 
--- `enum`, which allows every cell where there is none
+-- `enum`; without one every cell is allowed
 abbrev pub keeps_enum : Constraints → Cell → Bool
 keeps_enum constraints c = is_empty constraints.allowed || list_any (λ a. same_cell a c) constraints.allowed
 
--- The first constraint that a cell breaks, which isn't Null.
+-- The first constraint that a cell other than Null breaks.
 unfoldable pub constraint_fault : Constraints → Cell → Option CellFault
 constraint_fault constraints c =
     if not (keeps_length constraints c) then Some Length

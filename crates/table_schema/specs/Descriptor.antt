@@ -1,4 +1,4 @@
--- A descriptor's fields (Table Schema v1, "Field descriptors"), and their faults in order.
+-- The fields of a descriptor (Table Schema v1, "Field descriptors"), and their errors in order.
 use Rattle.std.specs.Prelude.{ℕ, suc, nat_le, Bool, true, false, ◌&&◌, if◌then◌else◌, List, [], ◌∷◌, ◌++◌, length}
 use Rattle.std.specs.Prelude.{codes, Option, Some, None, option_map, is_some, Result, Ok, Err, ℤ, pos, negsuc}
 use Rattle.std.specs.List.{list_all}
@@ -16,8 +16,8 @@ use Rattle.table_schema.specs.declared.form.Kind.{Kind}
 use Rattle.table_schema.specs.declared.form.Kind.TheVariants as kind
 use Rattle.lexical_forms.specs.declared.form.NumberForm.{NumberForm}
 use Rattle.lexical_forms.specs.FieldName.{is_field_name}
-use Rattle.lexical_forms.specs.Mark.{mark_of}
-use Rattle.lexical_forms.specs.Number.{is_that}
+use Rattle.lexical_forms.specs.Separator.{separator_of}
+use Rattle.lexical_forms.specs.Number.{is_same_character}
 use Rattle.table_schema.specs.Reading.{value_reading}
 use Rattle.table_schema.specs.Truth.{is_among, default_trues, default_falses}
 use Rattle.portal_base.specs.Kinds.{present, text_in, list_in}
@@ -75,18 +75,18 @@ kind_fault number name = if is_among unsupported_types name then Unsupported nam
 abbrev pub kind_named : ℕ → List ℕ → Result Kind SchemaFault
 kind_named number name = or_fault (kind_fault number name) (supported name)
 
--- The type is `string` where none is given.
+-- The type is `string` by default.
 abbrev pub kind_reading : ℕ → Json → Result Kind SchemaFault
 kind_reading number item =
     or_fault (UnknownKind number) (or_default text_in (codes "string") (present (codes "type") item))
     >>> kind_named number
 
--- ---- what isn't supported besides
+-- ---- formats and patterns, which aren't supported
 
 abbrev pub default_format : List ℕ → Result Bool SchemaFault
 default_format format = if bytes_eq format (codes "default") then Ok true else Err (Unsupported format)
 
--- every format but `default`
+-- Every format but `default` is unsupported.
 abbrev pub format_reading : Json → Result Bool SchemaFault
 format_reading item =
     or_fault (Unsupported (codes "format")) (or_default text_in (codes "default") (present (codes "format") item))
@@ -101,22 +101,22 @@ pattern_reading item = if has_pattern item then Err (Unsupported (codes "pattern
 
 -- ---- its options
 
--- a text of one character that is no digit, no sign and neither `e` nor `E`
+-- A text of one character that is no digit, no sign and neither `e` nor `E`.
 abbrev pub mark_in : Json → Option ℕ
-mark_in value = text_in value >>= λ text. mark_of (chars text)
+mark_in value = text_in value >>= λ text. separator_of (chars text)
 
 abbrev pub spelling_of : ℕ → Option ℕ → Bool → Option NumberForm
 spelling_of decimal group bare =
-    if is_that group decimal then None else Some (record { decimal = decimal; group = group; bare = bare })
+    if is_same_character group decimal then None else Some (record { decimal = decimal; group = group; bare = bare })
 
-abbrev pub bare_in : Json → Option Bool
-bare_in item = or_default truth_in true (present (codes "bareNumber") item)
+abbrev pub bare_number_in : Json → Option Bool
+bare_number_in item = or_default truth_in true (present (codes "bareNumber") item)
 
 abbrev pub spelling_in : Json → Option NumberForm
 spelling_in item =
     or_default mark_in 46 (present (codes "decimalChar") item) >>= λ decimal.
     (optional mark_in (present (codes "groupChar") item) >>= λ group.
-    (bare_in item >>= λ bare. spelling_of decimal group bare))
+    (bare_number_in item >>= λ bare. spelling_of decimal group bare))
 
 abbrev pub truths_in : Json → Option Form
 truths_in item =
@@ -127,7 +127,7 @@ truths_in item =
 -- Options of other types are ignored.
 abbrev pub form_in : Kind → Json → Option Form
 form_in kind.Text item = Some form.Text
-form_in kind.Integer item = option_map form.Integer (bare_in item)
+form_in kind.Integer item = option_map form.Integer (bare_number_in item)
 form_in kind.Number item = option_map form.Number (spelling_in item)
 form_in kind.Boolean item = truths_in item
 form_in kind.Date item = Some form.Date
@@ -151,11 +151,11 @@ abbrev pub count_of : ℤ → Option ℤ
 count_of (pos n) = Some (pos n)
 count_of (negsuc n) = None
 
--- a whole number from 0, at a type that has lengths
+-- a whole number from 0, for a type that has lengths
 abbrev pub length_in : Kind → Json → Option ℤ
 length_in k value = if has_length k then (whole_in value >>= count_of) else None
 
--- a value of the type, where that has an order
+-- a value of the type, if the type has an order
 abbrev pub bound_in : Kind → Json → Option Cell
 bound_in k value = if has_order k then value_reading k value else None
 
@@ -209,17 +209,17 @@ column_of name k item =
     (constraints_of k item >>= λ constraints.
     Some (record { name = name; form = spelling; constraints = constraints }))
 
--- The field of this number, counted from 1, where these are the names before it. The faults come in this order: its
--- name, a repeated name, its type, what isn't supported, and its options and constraints.
+-- The field of this number, counted from 1, after fields of these names. The errors come in this order: its name, a
+-- repeated name, its type, an unsupported format or pattern, and its options and constraints.
 unfoldable pub column_reading : ℕ → List (List ℕ) → Json → Result Column SchemaFault
 column_reading number names item =
     name_reading number item >>> new_name number names >>> λ name.
     (kind_reading number item >>> λ k.
-    (format_reading item >>> λ plain.
-    (pattern_reading item >>> λ unpatterned.
+    (format_reading item >>> λ format.
+    (pattern_reading item >>> λ pattern.
     or_fault (BadConstraint number) (column_of name k item))))
 
--- the fields from this number on
+-- the fields, the first of which has this number, after fields of these names
 abbrev pub columns_reading : ℕ → List (List ℕ) → List Json → Result (List Column) SchemaFault
 columns_reading number names [] = Ok []
 columns_reading number names (item ∷ items) =

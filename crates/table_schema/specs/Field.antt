@@ -1,4 +1,4 @@
--- What contracts see of a field and of a schema.
+-- The values of fields and of schemas, as contracts see them.
 use Rattle.std.specs.Prelude.{ℕ, Bool, List}
 use Rattle.table_schema.specs.declared.constraint.Constraints.{Constraints}
 use Rattle.table_schema.specs.declared.form.Form.{Form}
@@ -13,13 +13,13 @@ pub record FieldValue : Type 0 where
   pub missing : List (List ℕ)
   pub in_key : Bool
 
--- A schema: its fields, the places of the primary key's fields, its foreign keys, and the texts that are missing
--- values. Places are counted from 0.
+-- A schema: its fields, the indices of the primary key's fields, its foreign keys, and the texts that are missing
+-- values. Indices are counted from 0.
 pub record SchemaValue : Type 0 where
   pub fields : List FieldValue
   pub key : List ℕ
   pub foreign : List Foreign
   pub missing : List (List ℕ)
 
-abbrev pub shown : List FieldValue → List ℕ → List Foreign → List (List ℕ) → SchemaValue
-shown fields key foreign missing = record { fields = fields; key = key; foreign = foreign; missing = missing }
+abbrev pub schema_from : List FieldValue → List ℕ → List Foreign → List (List ℕ) → SchemaValue
+schema_from fields key foreign missing = record { fields = fields; key = key; foreign = foreign; missing = missing }

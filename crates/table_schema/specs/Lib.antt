@@ -12,7 +12,4 @@ pub mod Texts
 pub mod Truth
 pub mod Values
 pub mod Written
-pub use Rattle.lexical_forms.specs.FieldName
-pub use Rattle.lexical_forms.specs.Mark
 pub use Rattle.lexical_forms.specs.Number
-pub use Rattle.lexical_forms.specs.NumberText

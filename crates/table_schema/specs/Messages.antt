@@ -1,4 +1,4 @@
--- The texts of faults, as users read them.
+-- The messages of errors.
 use Rattle.std.specs.Prelude.{ℕ, List, ◌++◌, codes, decimal}
 use Rattle.table_schema.specs.declared.cell.CellError.{CellError}
 use Rattle.table_schema.specs.declared.cell.CellError.TheVariants as error

@@ -1,4 +1,4 @@
--- Cells among themselves: which are equal, and how they are ordered.
+-- The equality and the order of cells.
 use Rattle.std.specs.Prelude.{ℕ, ◌+◌, ◌*◌, ◌==◌, Bool, true, false, ◌&&◌, not, if◌then◌else◌, List, [], ℤ, pos}
 use Rattle.std.specs.declared.cmp.Ordering.{Ordering}
 use Rattle.std.specs.Ordering.{nat_cmp, int_cmp, int_eq, on, then_cmp}
@@ -8,7 +8,7 @@ use Rattle.std.specs.Str.{bytes_eq}
 use Rattle.table_schema.specs.declared.cell.Cell.{Cell}
 use Rattle.table_schema.specs.declared.cell.Cell.TheVariants as cell
 
--- whether two cells are equal
+-- the two cells are equal
 abbrev pub same_cell : Cell → Cell → Bool
 same_cell cell.Null cell.Null = true
 same_cell (cell.Text a) (cell.Text b) = bytes_eq a b
@@ -22,8 +22,8 @@ same_cell (cell.Year a) (cell.Year b) = a == b
 same_cell (cell.YearMonth a m) (cell.YearMonth b n) = (a == b) && (m == n)
 same_cell a b = false
 
--- The place of a cell among the cells of its type: false before true, and months counted on through the years. Texts
--- have one place, and so has Null.
+-- The rank of a cell among the cells of its type: false before true, and months counted through the years. All texts
+-- have the same rank, and Null has one rank.
 abbrev pub rank_of : Cell → ℤ
 rank_of cell.Null = pos 0
 rank_of (cell.Text text) = pos 0
@@ -36,30 +36,30 @@ rank_of (cell.Stamp seconds) = seconds
 rank_of (cell.Year year) = pos year
 rank_of (cell.YearMonth year month) = pos (year * 12 + month)
 
--- the bytes of a text; what is no text has none
+-- the bytes of a text, and none for other cells
 abbrev pub bytes_of : Cell → List ℕ
 bytes_of (cell.Text text) = text
 bytes_of other = []
 
--- the place of a cell's type in the order of all cells; Null comes last
-abbrev pub type_place : Cell → ℕ
-type_place (cell.Text text) = 0
-type_place (cell.Int z) = 1
-type_place (cell.Number billionths) = 2
-type_place (cell.Truth b) = 3
-type_place (cell.Date day) = 4
-type_place (cell.Time second) = 5
-type_place (cell.Stamp seconds) = 6
-type_place (cell.Year year) = 7
-type_place (cell.YearMonth year month) = 8
-type_place cell.Null = 9
+-- the rank of a cell's type in the order of all cells; Null comes last
+abbrev pub type_rank : Cell → ℕ
+type_rank (cell.Text text) = 0
+type_rank (cell.Int z) = 1
+type_rank (cell.Number billionths) = 2
+type_rank (cell.Truth b) = 3
+type_rank (cell.Date day) = 4
+type_rank (cell.Time second) = 5
+type_rank (cell.Stamp seconds) = 6
+type_rank (cell.Year year) = 7
+type_rank (cell.YearMonth year month) = 8
+type_rank cell.Null = 9
 
--- cells by their types, in a type by their ranks, and texts by their bytes
+-- The order of cells: by their types, in a type by their ranks, and texts by their bytes.
 unfoldable pub cell_cmp : Cell → Cell → Ordering
-cell_cmp = then_cmp (on type_place nat_cmp) (then_cmp (on rank_of int_cmp) (on bytes_of (slice_cmp nat_cmp)))
+cell_cmp = then_cmp (on type_rank nat_cmp) (then_cmp (on rank_of int_cmp) (on bytes_of (slice_cmp nat_cmp)))
 
 pub cell_cmp_total : IsTotalOrder cell_cmp
 unfolding cell_cmp
 cell_cmp_total =
-    then_total (on_total type_place nat_cmp_total)
+    then_total (on_total type_rank nat_cmp_total)
     (then_total (on_total rank_of int_cmp_total) (on_total bytes_of nat_list_cmp_total))

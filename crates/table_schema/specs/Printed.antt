@@ -1,4 +1,4 @@
--- How cells are printed, as texts and in JSON.
+-- The texts and the JSON values that cells are printed as.
 use Rattle.std.specs.Prelude.{◌≤◌, ◌<◌, ℕ, ◌^◌, Bool, if◌then◌else◌, List, ◌++◌, codes, All, IfSome, decimal, ℤ, pos}
 use Rattle.std.specs.Prelude.{◌+ℤ◌, unsigned_abs}
 use Rattle.std.specs.Fmt.{signed_decimal}
@@ -25,7 +25,7 @@ IsValue (cell.Stamp seconds) = IsMoment seconds
 IsValue (cell.Year year) = year ≤ 9999
 IsValue (cell.YearMonth year month) = (year ≤ 9999) × (1 ≤ month) × (month ≤ 12)
 
--- the bounds and the allowed cells of a field are such values
+-- The bounds and the allowed cells of a field are such values.
 abbrev pub HasValues : Constraints → Type 0
 HasValues constraints =
     IfSome constraints.minimum IsValue × IfSome constraints.maximum IsValue × All IsValue constraints.allowed

@@ -38,7 +38,7 @@ text_reading form.Datetime text = option_map cell.Stamp (stamp_reading text)
 text_reading form.Year text = option_map cell.Year (year_reading text)
 text_reading form.YearMonth text = option_map (λ m. cell.YearMonth m.0 m.1) (yearmonth_reading text)
 
--- a type with the options that it has where none are given
+-- a type with its default options
 abbrev pub default_form : Kind → Form
 default_form kind.Text = form.Text
 default_form kind.Integer = form.Integer true
@@ -50,7 +50,7 @@ default_form kind.Datetime = form.Datetime
 default_form kind.Year = form.Year
 default_form kind.YearMonth = form.YearMonth
 
--- The cell of a JSON whole number: of an integer in 64 bits, of a number of at most 18 digits, and of a year.
+-- The cell of a JSON whole number: an integer of 64 bits, a number of at most 18 digits, or a year.
 abbrev pub whole_cell : Kind → ℤ → Option Cell
 whole_cell kind.Integer z = option_map cell.Int (i64_only z)
 whole_cell kind.Number z =
@@ -62,7 +62,7 @@ abbrev pub truth_cell : Kind → Bool → Option Cell
 truth_cell kind.Boolean b = Some (cell.Truth b)
 truth_cell other b = None
 
--- The cell of a JSON value, by the type alone. Texts are read without the field's options.
+-- The cell of a JSON value of the type. Texts are read by the default options.
 abbrev pub value_in : Kind → Json-F Json → Option Cell
 value_in k Json-F.Null = None
 value_in k (Json-F.Truth b) = truth_cell k b
@@ -76,11 +76,11 @@ value_reading k value = value_in k (out-Json value)
 
 -- ---- in a field
 
--- Null, unless a value is wanted
+-- Null, unless a value is required
 abbrev pub null_reading : Bool → Result Cell CellFault
-null_reading wanted = if wanted then Err Required else Ok cell.Null
+null_reading required = if required then Err Required else Ok cell.Null
 
--- the cell, if there is one and it keeps the constraints
+-- the cell, if there is one and it keeps the constraints of the field
 abbrev pub kept : Constraints → Option Cell → Result Cell CellFault
 kept constraints None = Err NotOfType
 kept constraints (Some c) = or_fault c (constraint_fault constraints c)
@@ -89,7 +89,7 @@ kept constraints (Some c) = or_fault c (constraint_fault constraints c)
     or_fault cell None = Ok cell
     or_fault cell (Some fault) = Err fault
 
--- A text, as it stands in a file. A missing value is refused where the field is required or in the primary key.
+-- The cell of a text in a file. A missing value is an error if the field is required or in the primary key.
 abbrev pub cell_reading : FieldValue → List ℕ → Result Cell CellFault
 cell_reading field text =
     if is_among field.missing text then null_reading (field.constraints.required || field.in_key)
@@ -99,7 +99,7 @@ abbrev pub record_reading_in : FieldValue → Json → Json-F Json → Result Ce
 record_reading_in field value Json-F.Null = null_reading field.constraints.required
 record_reading_in field value other = kept field.constraints (value_reading (kind_of field.form) value)
 
--- A value, as it stands in a record.
+-- The cell of a JSON value in a record.
 abbrev pub record_reading : FieldValue → Json → Result Cell CellFault
 record_reading field value = record_reading_in field value (out-Json value)
 
@@ -116,13 +116,13 @@ kind_of_cell (cell.Stamp seconds) = Some kind.Datetime
 kind_of_cell (cell.Year year) = Some kind.Year
 kind_of_cell (cell.YearMonth year month) = Some kind.YearMonth
 
--- The field may have the cell: no value where none is required, or one of its type that keeps the constraints.
+-- The field accepts the cell: it is Null and no value is required, or it has the type and keeps the constraints.
 abbrev pub Accepts : FieldValue → Cell → Type 0
 Accepts field cell.Null = field.constraints.required ≡ false
 Accepts field c =
     (kind_of_cell c ≡ Some (kind_of field.form)) × (constraint_fault field.constraints c ≡ None)
 
--- The text reads as the cell, and it fails with the fault.
+-- The text reads as the cell, or it fails with the fault.
 abbrev pub Reads : FieldValue → List ℕ → Cell → Type 0
 Reads field text cell = cell_reading field text ≡ Ok cell
 
@@ -145,7 +145,7 @@ abbrev pub HasOneAnswer : FieldValue → List ℕ → Type 0
 HasOneAnswer field text = ((cell : Cell) × ReadsOnly field text cell)
     ⊎ ((fault : CellFault) × FailsOnly field text fault)
 
--- What a reader answers but for want of memory: the fault that is read.
+-- The error is the fault of the reading, unless memory ran out.
 abbrev pub IsFault : Result Cell CellFault → CellError → Type 0
 IsFault reading OutOfMemory = Unit {0}
 IsFault reading (Fault fault) = reading ≡ Err fault

@@ -1,6 +1,6 @@
--- The texts of cells by their types (Table Schema v1, "Types and formats"), in generative form: of which characters a
--- text of a type is made, and which cell it is. Dates and times are in the extended format of ISO 8601, on the
--- proleptic Gregorian calendar, with years of four digits. What holds of whole numbers and of numbers stands in
+-- The grammar of the texts of cells by their types (Table Schema v1, "Types and formats"), as productions: the
+-- characters that a text of a type consists of, and its cell. Dates and times have the extended format of ISO 8601, on
+-- the proleptic Gregorian calendar, with years of four digits. The grammar of whole numbers and of numbers is in
 -- lexical_forms.
 use Rattle.std.specs.Prelude.{◌≡◌, ◌⊎◌, ℕ, ◌+◌, ◌*◌, ◌<◌, ◌≤◌, Bool, true, false, List, [], ◌++◌, Contains, codes}
 use Rattle.std.specs.Prelude.{ℤ, pos, ◌+ℤ◌, ◌*ℤ◌}
@@ -73,7 +73,7 @@ pub record IsYearMonthText (text : List ℕ) (year month : ℕ) : Type 0 where
 
 -- ---- truth values
 
--- One of the true texts, or one of the false texts and none of the true ones.
+-- One of the true texts, or one of the false texts that isn't one of the true ones.
 pub data IsTruthText (truths : Truths) : List ℕ → Bool → Type 0 where
   yes : (text : List ℕ) → Contains truths.true_values text → IsTruthText truths text true
   no : (text : List ℕ) → (Contains truths.true_values text → ⊥) → Contains truths.false_values text
@@ -81,7 +81,8 @@ pub data IsTruthText (truths : Truths) : List ℕ → Bool → Type 0 where
 
 -- ---- cells
 
--- A text of the type is this cell. Whole numbers and numbers are texts of characters, the others of bytes.
+-- A text of the type is a text of this cell. Texts of whole numbers and of numbers are lists of characters, and the
+-- others are lists of bytes.
 pub data IsCellText : Form → List ℕ → Cell → Type 0 where
   string : (text : List ℕ) → IsCellText form.Text text (cell.Text text)
   integer : (bare : Bool) (text : List ℕ) (z : ℤ) → IsInteger bare (chars text) z
@@ -98,7 +99,7 @@ pub data IsCellText : Form → List ℕ → Cell → Type 0 where
   yearmonth : (text : List ℕ) (year month : ℕ) → IsYearMonthText text year month
       → IsCellText form.YearMonth text (cell.YearMonth year month)
 
--- The numbers of the type are spelled as a descriptor can have them spelled.
+-- If the type is that of numbers, its spelling is one that a descriptor can give.
 abbrev pub IsSpelled : Form → Type 0
 IsSpelled (form.Number spelling) = IsSpelling spelling
 IsSpelled other = Unit {0}
@@ -115,16 +116,16 @@ pub record Keeps (constraints : Constraints) (c : Cell) : Type 0 where
   pub range : keeps_range constraints c ≡ true
   pub allowed : keeps_enum constraints c ≡ true
 
--- What a text reads as: Null, where it is a missing value and the field neither requires a value nor is in the primary
--- key, and else the cell of its type, which keeps the constraints.
+-- The cell that a text reads as: Null if it is a missing value and the field is neither required nor in the primary
+-- key, and otherwise the cell of its type, if that keeps the constraints.
 pub data IsReading (field : FieldValue) (text : List ℕ) : Cell → Type 0 where
   null : IsMissing field text → field.constraints.required ≡ false → field.in_key ≡ false
       → IsReading field text cell.Null
   value : (c : Cell) → (IsMissing field text → ⊥) → IsCellText field.form text c → Keeps field.constraints c
       → IsReading field text c
 
--- What a text fails with: a missing value where one is required, a text that is no cell of the type, and else the
--- first constraint that its cell breaks.
+-- The fault that a text fails with: it is a missing value and a value is required, it isn't a text of the type, or its
+-- cell breaks a constraint, of which the first counts.
 pub data IsFailure (field : FieldValue) (text : List ℕ) : CellFault → Type 0 where
   required : IsMissing field text → (field.constraints.required ≡ true) ⊎ (field.in_key ≡ true)
       → IsFailure field text fault.Required

@@ -1,4 +1,4 @@
--- The values of a descriptor's keys, by their kinds, beside those that every body has.
+-- The values of a descriptor's keys that are specific to descriptors. Those that every body has are in portal_base.
 use Rattle.std.specs.Prelude.{◌≡◌, ℕ, Bool, true, false, if◌then◌else◌, List, [], ◌∷◌, Option, Some, None, option_map}
 use Rattle.std.specs.Prelude.{Result, Ok, Err, ℤ}
 use Rattle.portal_base.specs.Kinds.{list_in, text_in}
@@ -17,7 +17,7 @@ abbrev pub ◌>>>◌ : {A B : Type 0} → Result A SchemaFault → (A → Result
 (Err fault) >>> f = Err fault
 (Ok x) >>> f = f x
 
--- the value, or this fault where there is none
+-- the value, or this error if there is none
 abbrev pub or_fault : {A : Type 0} → SchemaFault → Option A → Result A SchemaFault
 or_fault fault None = Err fault
 or_fault fault (Some x) = Ok x
@@ -46,7 +46,7 @@ whole_of other = None
 abbrev pub whole_in : Json → Option ℤ
 whole_in value = whole_of (out-Json value)
 
--- what each of the items is read as, where all are read
+-- the values that the items read as, if all of them are readable
 abbrev pub all_of : {A : Type 0} → (Json → Option A) → List Json → Option (List A)
 all_of read [] = Some []
 all_of read (item ∷ items) = read item >>= λ x. option_map (λ xs. x ∷ xs) (all_of read items)
@@ -64,21 +64,22 @@ names_of other = None
 abbrev pub names_in : Json → Option (List (List ℕ))
 names_in value = names_of (out-Json value)
 
--- what a value is read as, or this where it is absent
+-- the value that a JSON value reads as, or the default if it is absent
 abbrev pub or_default : {A : Type 0} → (Json → Option A) → A → Option Json → Option A
 or_default read otherwise None = Some otherwise
 or_default read otherwise (Some value) = read value
 
--- what a value is read as, where it is there
+-- the value that a JSON value reads as, if it is present
 abbrev pub optional : {A : Type 0} → (Json → Option A) → Option Json → Option (Option A)
 optional read None = Some None
 optional read (Some value) = option_map Some (read value)
 
--- What a call returned, seen by view, is what is read, unless memory ran out.
+-- The error is that of the reading, unless memory ran out.
 abbrev pub IsRefused : {Y : Type 0} → SchemaFault → Result Y SchemaFault → Type 0
 IsRefused OutOfMemory reading = Unit {0}
 IsRefused fault reading = reading ≡ Err fault
 
+-- The result, seen through the view, is that of the reading, unless memory ran out.
 abbrev pub Gives : {X Y : Type 0} → (X → Y) → Result X SchemaFault → Result Y SchemaFault → Type 0
 Gives view (Ok x) reading = reading ≡ Ok (view x)
 Gives view (Err fault) reading = IsRefused fault reading

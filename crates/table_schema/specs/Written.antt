@@ -1,4 +1,4 @@
--- The descriptor that a schema is written as. Its keys ascend by bytes.
+-- The descriptor that a schema is written as. The keys ascend by their bytes.
 use Rattle.std.specs.Prelude.{ℕ, Bool, true, if◌then◌else◌, List, [], ◌∷◌, ◌++◌, map, codes, slice_get, Option, Some}
 use Rattle.std.specs.Prelude.{None, option_map, unwrap_or}
 use Rattle.std.specs.Char.{encode_utf8}
@@ -33,12 +33,12 @@ kind_name kind.Datetime = codes "datetime"
 kind_name kind.Year = codes "year"
 kind_name kind.YearMonth = codes "yearmonth"
 
--- a member, where there is a value
+-- a member, if there is a value
 abbrev pub member_where : {A : Type 0} → List ℕ → (A → Json) → Option A → MemberList
 member_where key value None = []
 member_where key value (Some x) = (key, value x) ∷ []
 
--- a truth value that is written only where it is true
+-- a truth value that is written only if it is true
 abbrev pub member_if : List ℕ → Bool → MemberList
 member_if key b = if b then (key, json.Truth true) ∷ [] else []
 
@@ -57,12 +57,12 @@ constraints_value constraints = json.Map (
     ++ member_if (codes "required") constraints.required
     ++ member_if (codes "unique") constraints.unique)
 
--- The options of a type stand before `constraints`, between that and `format`, between `format` and `name`, and
--- between `name` and `type`.
-abbrev pub bare_member : Form → MemberList
-bare_member (form.Integer bare) = (codes "bareNumber", json.Truth bare) ∷ []
-bare_member (form.Number spelling) = (codes "bareNumber", json.Truth spelling.bare) ∷ []
-bare_member other = []
+-- By the order of keys, the options of a type come before `constraints`, between `constraints` and `format`, between
+-- `format` and `name`, or between `name` and `type`.
+abbrev pub bare_number_member : Form → MemberList
+bare_number_member (form.Integer bare) = (codes "bareNumber", json.Truth bare) ∷ []
+bare_number_member (form.Number spelling) = (codes "bareNumber", json.Truth spelling.bare) ∷ []
+bare_number_member other = []
 
 abbrev pub character_value : ℕ → Json
 character_value c = json.Text (encode_utf8 c)
@@ -82,7 +82,7 @@ options_before_type other = []
 
 abbrev pub field_value : FieldValue → Json
 field_value field = json.Map (
-    bare_member field.form
+    bare_number_member field.form
     ++ (codes "constraints", constraints_value field.constraints) ∷ []
     ++ options_before_format field.form
     ++ (codes "format", json.Text (codes "default")) ∷ []
@@ -91,12 +91,12 @@ field_value field = json.Map (
     ++ options_before_type field.form
     ++ (codes "type", json.Text (kind_name (kind_of field.form))) ∷ [])
 
--- the name of the field at a place
+-- the name of the field at an index, and the empty text if there is none
 abbrev pub name_at : List FieldValue → ℕ → List ℕ
-name_at fields place = unwrap_or (option_map (λ field. field.name) (slice_get fields place)) []
+name_at fields index = unwrap_or (option_map (λ field. field.name) (slice_get fields index)) []
 
 abbrev pub names_value : List FieldValue → List ℕ → Json
-names_value fields places = texts_value (map (name_at fields) places)
+names_value fields indices = texts_value (map (name_at fields) indices)
 
 abbrev pub reference_value : Foreign → Json
 reference_value foreign = json.Map (
@@ -104,8 +104,8 @@ reference_value foreign = json.Map (
     ∷ (codes "resource", json.Text foreign.resource)
     ∷ [])
 
-abbrev pub foreign_value : List FieldValue → Foreign → Json
-foreign_value fields foreign = json.Map (
+abbrev pub foreign_key_value : List FieldValue → Foreign → Json
+foreign_key_value fields foreign = json.Map (
     (codes "fields", names_value fields foreign.fields)
     ∷ (codes "reference", reference_value foreign)
     ∷ [])
@@ -113,7 +113,7 @@ foreign_value fields foreign = json.Map (
 unfoldable pub schema_value : SchemaValue → Json
 schema_value schema = json.Map (
     (codes "fields", json.List (map field_value schema.fields))
-    ∷ (codes "foreignKeys", json.List (map (foreign_value schema.fields) schema.foreign))
+    ∷ (codes "foreignKeys", json.List (map (foreign_key_value schema.fields) schema.foreign))
     ∷ (codes "missingValues", texts_value schema.missing)
     ∷ (codes "primaryKey", names_value schema.fields schema.key)
     ∷ [])

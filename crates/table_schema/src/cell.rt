@@ -1,4 +1,4 @@
-//! Typed cells, and why a text or a value is none.
+//! Typed cells, and the errors of texts and JSON values that aren't cells.
 
 use portal_base::copy::TryClone;
 use portal_base::moment::Moment;
@@ -8,14 +8,14 @@ use std::cmp::Ordering;
 use std::error::Error;
 use std::fmt;
 
-/// A value of a table.
+/// A value in a table.
 #[derive(Drop, PartialEq, Eq)]
 pub enum Cell {
     /// No value.
     Null,
     Text(Text),
     Int(i64),
-    /// A number in whole billionths.
+    /// A number, in billionths. Its magnitude is below 10^27 billionths.
     Number(i128),
     Truth(bool),
     /// Days since 1970-01-01.
@@ -31,7 +31,7 @@ pub enum Cell {
 impl Cell {
     ghost use Rattle.std.specs.Prelude.{◌≡◌, ◌↔◌, IsTrue};
     ghost use Rattle.std.specs.declared.cmp.Ordering.TheVariants.{Equal};
-    ghost use Rattle.table_schema.specs.Order.{rank_of, same_cell, cell_cmp, type_place, bytes_of};
+    ghost use Rattle.table_schema.specs.Order.{rank_of, same_cell, cell_cmp, type_rank, bytes_of};
     ghost use Rattle.table_schema.specs.Printed.{IsValue};
 
     /// Whether two cells are equal.
@@ -42,20 +42,20 @@ impl Cell {
         self.is_same_value(other)
     }
 
-    /// How the cell stands to another. Cells of one type are ordered by their values: texts by their bytes, and false
-    /// before true. Null comes behind all others.
+    /// Compares two cells. Cells of one type are ordered by their values: texts by their bytes, and false before true.
+    /// Null comes after all other cells.
     #[tactic(auto, unfolding(crate::specs::Order::cell_cmp))]
     pub fn order(&self, other: &Cell) -> Ordering
         ensures order { result ≡ cell_cmp self.now other.now }
         ensures equal { IsValue self.now → IsValue other.now → ((result ≡ Equal) ↔ (self.now ≡ other.now)) }
     {
-        self.type_place()
-            .cmp(&other.type_place())
+        self.type_rank()
+            .cmp(&other.type_rank())
             .then(self.rank().cmp(&other.rank()))
             .then(self.text().cmp(other.text()))
     }
 
-    /// The place among the cells of its type, of which those of `Null` and `Text` have one place.
+    /// The rank among the cells of its type. All texts have the same rank, and `Null` has one rank.
     pub fn rank(&self) -> i128
         ensures { result ≡ rank_of self.now }
     {
@@ -92,9 +92,9 @@ impl Cell {
         }
     }
 
-    // The place of its type in the order of all cells.
-    fn type_place(&self) -> u8
-        ensures { result ≡ type_place self.now }
+    // The rank of its type in the order of all cells.
+    fn type_rank(&self) -> u8
+        ensures { result ≡ type_rank self.now }
     {
         match self {
             Cell::Text(_) => 0,
@@ -110,7 +110,7 @@ impl Cell {
         }
     }
 
-    // A text's text; what is no text has none.
+    // The text of a text cell, and the empty text for other cells.
     fn text(&self) -> &str
         ensures { result.now ≡ bytes_of self.now }
     {
@@ -138,18 +138,18 @@ impl TryClone for Cell {
     }
 }
 
-/// Which rule a text or a value breaks first.
+/// The first rule that a text or a JSON value breaks.
 #[derive(Clone, Copy, Debug, Drop, PartialEq, Eq)]
 pub enum CellFault {
-    /// It is no text or value of the field's type.
+    /// It isn't a text or value of the field's type.
     NotOfType,
-    /// It is missing, and the field wants a value.
+    /// It is missing, and the field requires a value.
     Required,
     /// It has fewer characters than `minLength`, or more than `maxLength`.
     Length,
     /// It is below `minimum`, or above `maximum`.
     Range,
-    /// It is none of the values of `enum`.
+    /// It isn't one of the values of `enum`.
     NotInEnum,
 }
 
@@ -172,7 +172,7 @@ impl fmt::Display for CellFault {
 
 impl Error for CellFault {}
 
-/// Why a cell is not read.
+/// The error of reading a cell.
 #[derive(Clone, Copy, Debug, Drop, PartialEq, Eq)]
 pub enum CellError {
     Fault(CellFault),

@@ -1,4 +1,4 @@
-//! The fields of a descriptor.
+//! Reads the fields of a descriptor (Table Schema v1, "Field descriptors").
 ghost use Rattle.std.specs.Prelude.{◌≡◌, ◌+◌, ◌≤◌, ◌⊎◌, [], map, length, true, IfOk, Ok, Err, codes};
 ghost use Rattle.std.specs.List.{list_all, list_any};
 ghost use Rattle.std.specs.Str.{bytes_eq};
@@ -20,10 +20,10 @@ use portal_base::seq::Seq;
 use portal_base::text::Text;
 use std::alloc::{AllocError, Global};
 
-/// The most fields of a descriptor.
-const MOST_FIELDS: usize = 500;
+/// The maximum count of fields in a descriptor.
+const MAX_FIELDS: usize = 500;
 
-/// A field as its descriptor tells it.
+/// A field as its descriptor gives it.
 #[derive(Drop)]
 pub struct Column {
     pub name: Text,
@@ -31,7 +31,9 @@ pub struct Column {
     pub constraints: Constraints,
 }
 
-/// The descriptor's fields, which are 1 to 500 dictionaries.
+/// The list `fields` of a descriptor, which must have 1 to 500 dictionaries.
+///
+/// The errors are `NotJson` and `NoFields`.
 pub(crate) fn field_items(value: &Json) -> Result<&Seq<Json>, SchemaFault>
     ensures { Gives (λ items. items.now) result (field_items value.now) }
 {
@@ -45,7 +47,7 @@ pub(crate) fn field_items(value: &Json) -> Result<&Seq<Json>, SchemaFault>
         return Err(SchemaFault::NoFields);
     };
     let listed = items.as_slice();
-    if listed.is_empty() || listed.len() > MOST_FIELDS || !are_maps(listed) {
+    if listed.is_empty() || listed.len() > MAX_FIELDS || !are_maps(listed) {
         return Err(SchemaFault::NoFields);
     }
     Ok(items)
@@ -57,14 +59,14 @@ fn are_maps(items: &[Json]) -> bool
     items.iter().all(is_map)
 }
 
-/// The fields.
+/// Reads the fields in order. Returns the first error.
 pub(crate) fn columns_of(alloc: Global, items: &[Json]) -> Result<Vec<Column>, SchemaFault>
     requires { length items.now ≤ 500 }
     ensures { Gives (λ columns. columns.items) result (columns_reading 1 [] items.now) }
 {
     let mut columns = Vec::new(alloc);
-    for (place, item) in items.iter().enumerate() {
-        let column = column_of(alloc, place as u32 + 1, columns.as_slice(), item)?;
+    for (index, item) in items.iter().enumerate() {
+        let column = column_of(alloc, index as u32 + 1, columns.as_slice(), item)?;
         if columns.push(column).is_err() {
             return Err(SchemaFault::OutOfMemory);
         }
@@ -72,7 +74,7 @@ pub(crate) fn columns_of(alloc: Global, items: &[Json]) -> Result<Vec<Column>, S
     Ok(columns)
 }
 
-// The field of this number, which has these before it.
+// Reads the field with this number, counted from 1. `before` has the fields before it.
 fn column_of(
     alloc: Global,
     number: u32,
@@ -86,16 +88,16 @@ fn column_of(
         return Err(SchemaFault::RepeatedName(number));
     }
     let kind = kind_of(alloc, number, item)?;
-    refuse_format(alloc, item)?;
-    refuse_pattern(alloc, item)?;
-    match described(alloc, name, kind, item)? {
+    validate_format(alloc, item)?;
+    validate_pattern(alloc, item)?;
+    match column_with_options(alloc, name, kind, item)? {
         Some(column) => Ok(column),
         None => Err(SchemaFault::BadConstraint(number)),
     }
 }
 
-// The field of this name and type, if its options and constraints are in order.
-fn described(
+// The field of this name and type, if its options and constraints are valid.
+fn column_with_options(
     alloc: Global,
     name: &Text,
     kind: Kind,
@@ -170,7 +172,7 @@ fn kind_named(name: &str) -> Option<Kind>
     }
 }
 
-// Whether it is a type of Table Schema that isn't supported.
+// Whether the name is that of a type of Table Schema v1 that isn't supported.
 fn is_unsupported(name: &str) -> bool
     ensures { result ≡ is_among unsupported_types name.now }
 {
@@ -180,7 +182,7 @@ fn is_unsupported(name: &str) -> bool
     )
 }
 
-// The fault that names it.
+// The error that names the unsupported type, format or constraint.
 fn unsupported(alloc: Global, name: &str) -> SchemaFault
     ensures { (result ≡ SchemaFault.OutOfMemory) ⊎ (result ≡ SchemaFault.Unsupported name.now) }
 {
@@ -190,7 +192,7 @@ fn unsupported(alloc: Global, name: &str) -> SchemaFault
     }
 }
 
-fn refuse_format(alloc: Global, item: &Json) -> Result<(), SchemaFault>
+fn validate_format(alloc: Global, item: &Json) -> Result<(), SchemaFault>
     ensures { Gives (λ _. true) result (format_reading item.now) }
 {
     let Some(value) = present(item, "format") else {
@@ -203,7 +205,7 @@ fn refuse_format(alloc: Global, item: &Json) -> Result<(), SchemaFault>
     }
 }
 
-fn refuse_pattern(alloc: Global, item: &Json) -> Result<(), SchemaFault>
+fn validate_pattern(alloc: Global, item: &Json) -> Result<(), SchemaFault>
     ensures { Gives (λ _. true) result (pattern_reading item.now) }
 {
     if has_pattern(item) {

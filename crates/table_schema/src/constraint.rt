@@ -1,4 +1,4 @@
-//! The constraints of a field, and which of them a cell breaks first.
+//! The constraints of a field (Table Schema v1, "Constraints"), and the first of them that a cell breaks.
 ghost use Rattle.std.specs.Prelude.{◌≡◌, length, option_map};
 ghost use Rattle.std.specs.Option.{option_copied};
 ghost use Rattle.std.specs.List.{list_any};
@@ -9,25 +9,24 @@ ghost use Rattle.table_schema.specs.Order.{rank_of, same_cell};
 use crate::cell::{Cell, CellFault};
 use portal_base::seq::Seq;
 
-/// The constraints of a field. Each of them holds for cells other than `Null`, but `required`, which such a cell
-/// breaks.
+/// The constraints of a field. They apply to cells other than `Null`, except for `required`, which only `Null` breaks.
 #[derive(Drop)]
 pub struct Constraints {
     pub required: bool,
     /// Whether no two rows may have equal cells other than `Null`.
     pub unique: bool,
-    /// The fewest characters of a text.
+    /// The minimum length of a text in characters.
     pub min_length: Option<i128>,
-    /// The most characters of a text.
+    /// The maximum length of a text in characters.
     pub max_length: Option<i128>,
     pub minimum: Option<Cell>,
     pub maximum: Option<Cell>,
-    /// The cells that `enum` allows, or none where it isn't there.
+    /// The cells that `enum` allows. The list is empty if there is no `enum`.
     pub allowed: Seq<Cell>,
 }
 
 impl Constraints {
-    /// The first constraint that the cell breaks, which isn't `Null`.
+    /// The first constraint that a cell other than `Null` breaks, or none if it breaks none.
     #[tactic(auto, unfolding(crate::specs::Constraint::constraint_fault))]
     pub fn fault_of(&self, cell: &Cell) -> Option<CellFault>
         ensures { result ≡ constraint_fault self.now cell.now }
@@ -100,7 +99,7 @@ fn is_at_most(bound: Option<i128>, value: i128) -> bool
     }
 }
 
-// How many characters a text has.
+// The length of a text in characters, and 0 for cells that aren't texts.
 fn length_of(cell: &Cell) -> usize
     ensures { result ≡ length_of cell.now }
 {

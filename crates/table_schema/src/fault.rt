@@ -1,29 +1,29 @@
-//! Why a descriptor is not read.
+//! The errors of a descriptor.
 
 use portal_base::text::Text;
 use std::alloc::AllocError;
 use std::error::Error;
 use std::fmt;
 
-/// The first fault of a descriptor. Fields are counted from 1.
+/// The first error of a descriptor. Fields are counted from 1.
 #[derive(Debug, Drop)]
 pub enum SchemaFault {
-    /// It is no JSON dictionary.
+    /// It isn't a JSON dictionary.
     NotJson,
-    /// `fields` is no list of 1 to 500 dictionaries.
+    /// `fields` isn't a list of 1 to 500 dictionaries.
     NoFields,
-    /// `type` names no type.
+    /// `type` isn't the name of a type.
     UnknownKind(u32),
-    /// A constraint or an option has a value that it can't have, or doesn't fit the type.
+    /// A constraint or an option has an invalid value, or doesn't apply to the type.
     BadConstraint(u32),
-    /// An earlier field has the name.
+    /// An earlier field has the same name.
     RepeatedName(u32),
-    /// `missingValues`, `primaryKey` or `foreignKeys` has a value that it can't have, or names no field or one twice,
-    /// or a self reference isn't to the primary key.
+    /// `missingValues`, `primaryKey` or `foreignKeys` has an invalid value or names an unknown or repeated field, or a
+    /// foreign key to the same table doesn't refer to the whole primary key.
     BadKey,
-    /// A type, a format or a constraint of Table Schema that isn't supported.
+    /// A type, a format or a constraint of Table Schema isn't supported. The text names it.
     Unsupported(Text),
-    /// `name` is no name of a field.
+    /// `name` isn't a valid field name.
     BadName(u32),
     OutOfMemory,
 }

@@ -1,4 +1,4 @@
-//! Fields, which read texts and values as cells.
+//! Fields, which read texts and JSON values as cells.
 ghost use Rattle.std.specs.Prelude.{◌≡◌, IfOk, IfErr, Ok, Err};
 ghost use Rattle.std.specs.Arc.{arc_value};
 ghost use Rattle.table_schema.specs.Printed.{IsValue};
@@ -23,7 +23,7 @@ pub struct Field {
     name: Text,
     form: Form,
     constraints: Constraints,
-    /// The fields of a schema share one list, which may be long.
+    /// The texts that are missing values. The fields of a schema share one list, which may be long.
     missing: Arc<Seq<Text>>,
     in_key: bool,
 }
@@ -50,7 +50,7 @@ impl Field {
         &self.name
     }
 
-    /// Its type, with the options that hold for it.
+    /// The type with the options that apply to it.
     pub fn form(&self) -> &Form
         ensures { result.now ≡ self.now.form }
     {
@@ -63,7 +63,8 @@ impl Field {
         &self.constraints
     }
 
-    /// Reads a text, as it stands in a file.
+    /// Reads a text of a file as a cell. A missing value is `Null`, or the error `Required` if the field is required or
+    /// in the primary key.
     pub fn read_cell(&self, alloc: Global, text: &str) -> Result<Cell, CellError>
         ensures cell { IfOk result (Reads self.now text.now) }
         ensures value { IfOk result IsValue }
@@ -75,7 +76,7 @@ impl Field {
         kept(&self.constraints, cell_of(alloc, &self.form, text)?)
     }
 
-    /// Reads a value, as it stands in a record.
+    /// Reads a JSON value of a record as a cell. The options and missing values of the field don't apply.
     pub fn of_json(&self, alloc: Global, value: &Json) -> Result<Cell, CellError>
         ensures cell { IfOk result (λ cell. record_reading self.now value.now ≡ Ok cell) }
         ensures value { IfOk result IsValue }
@@ -89,7 +90,7 @@ impl Field {
 }
 
 impl Field {
-    /// The field of these parts.
+    /// The field of a descriptor, with the parts that the whole schema gives it.
     pub(crate) fn of_column(column: Column, missing: Arc<Seq<Text>>, in_key: bool) -> Field
         ensures { result
             ≡ record {
@@ -110,19 +111,19 @@ impl Field {
     }
 }
 
-// No value, unless one is wanted.
-fn null_of(wanted: bool) -> Result<Cell, CellError>
-    ensures cell { IfOk result (λ cell. null_reading wanted ≡ Ok cell) }
-    ensures fault { IfErr result (IsFault (null_reading wanted)) }
+// `Null`, unless a value is required.
+fn null_of(required: bool) -> Result<Cell, CellError>
+    ensures cell { IfOk result (λ cell. null_reading required ≡ Ok cell) }
+    ensures fault { IfErr result (IsFault (null_reading required)) }
 {
-    if wanted {
+    if required {
         Err(CellError::Fault(CellFault::Required))
     } else {
         Ok(Cell::Null)
     }
 }
 
-// The cell, if there is one and it keeps the constraints.
+// The cell, if there is one and it keeps the constraints of the field.
 fn kept(constraints: &Constraints, cell: Option<Cell>) -> Result<Cell, CellError>
     ensures cell { IfOk result (λ read. kept constraints.now cell ≡ Ok read) }
     ensures fault { IfErr result (IsFault (kept constraints.now cell)) }

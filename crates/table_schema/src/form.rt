@@ -1,4 +1,4 @@
-//! The types of fields, and how their texts are spelled.
+//! The types of fields, and the options of their texts.
 ghost use Rattle.std.specs.Prelude.{◌≡◌};
 ghost use Rattle.table_schema.specs.Form.{kind_of};
 
@@ -6,7 +6,7 @@ use lexical_forms::NumberForm;
 use portal_base::seq::Seq;
 use portal_base::text::Text;
 
-/// A type of fields (Table Schema v1, "Types and formats"). The type `any` is `Text`.
+/// A type of fields (Table Schema v1, "Types and formats"). The type `any` reads as `Text`.
 #[derive(Clone, Copy, Debug, PartialEq, Eq)]
 pub enum Kind {
     Text,
@@ -20,18 +20,18 @@ pub enum Kind {
     YearMonth,
 }
 
-/// How truth values are spelled: `trueValues` and `falseValues`.
+/// The spelling of truth values: `trueValues` and `falseValues`.
 #[derive(Drop)]
 pub struct Truths {
     pub true_values: Seq<Text>,
     pub false_values: Seq<Text>,
 }
 
-/// A type with the options that hold for it.
+/// A type with the options that apply to it.
 #[derive(Drop)]
 pub enum Form {
     Text,
-    /// Whether nothing else may stand around the number.
+    /// `bareNumber`: whether the text must be the number alone, without other characters before or after it.
     Integer(bool),
     Number(NumberForm),
     Boolean(Truths),

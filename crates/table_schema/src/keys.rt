@@ -1,11 +1,11 @@
-//! A descriptor's missing values, primary key and foreign keys.
+//! Reads a descriptor's missing values, primary key and foreign keys (Table Schema v1, "Other properties").
 ghost use Rattle.std.specs.Prelude.{◌≡◌, ◌≤◌, ◌==◌, length, IfOk, slice_get};
 ghost use Rattle.std.specs.Option.{option_copied};
 ghost use Rattle.std.specs.List.{list_any};
 ghost use Rattle.table_schema.specs.Values.{all_of};
-ghost use Rattle.table_schema.specs.Keys.{missing_in, place_of, places_of, places_in, key_in, same_kind, refers};
-ghost use Rattle.table_schema.specs.Keys.{refers_to_key, reference_in, resource_in, target_in, foreign_of};
-ghost use Rattle.table_schema.specs.Keys.{foreign_in, foreigns_in};
+ghost use Rattle.table_schema.specs.Keys.{missing_in, index_of, indices_of, indices_in, key_in, same_kind, refers};
+ghost use Rattle.table_schema.specs.Keys.{refers_to_key, reference_in, resource_in, target_in, foreign_key_of};
+ghost use Rattle.table_schema.specs.Keys.{foreign_key_in, foreign_keys_in};
 
 use crate::column::Column;
 use crate::foreign::Foreign;
@@ -17,7 +17,7 @@ use portal_base::seq::Seq;
 use portal_base::text::Text;
 use std::alloc::{AllocError, Global};
 
-/// The texts that are missing values, if they are in order.
+/// The texts that are missing values, or none if `missingValues` is invalid.
 pub(crate) fn missing_of(alloc: Global, value: &Json) -> Result<Option<Seq<Text>>, AllocError>
     ensures { IfOk result (λ missing. missing ≡ missing_in value.now) }
 {
@@ -29,7 +29,7 @@ pub(crate) fn missing_of(alloc: Global, value: &Json) -> Result<Option<Seq<Text>
     Ok(Some(Seq::from(missing)))
 }
 
-/// The places of the primary key's fields, if they are in order.
+/// The indices of the primary key's fields, or none if `primaryKey` is invalid.
 pub(crate) fn key_of(
     alloc: Global,
     columns: &[Column],
@@ -39,118 +39,118 @@ pub(crate) fn key_of(
     ensures { IfOk result (λ key. key ≡ key_in columns.now value.now) }
 {
     match present(value, "primaryKey") {
-        Some(value) => places_in(alloc, columns, value),
+        Some(value) => indices_in(alloc, columns, value),
         None => Ok(Some(Seq::new(alloc))),
     }
 }
 
-// The places of the fields that a text or a list of texts names.
-fn places_in(
+// The indices of the fields that a text or a list of texts names, or none if it names an unknown field or one twice.
+fn indices_in(
     alloc: Global,
     columns: &[Column],
     value: &Json,
 ) -> Result<Option<Seq<u32>>, AllocError>
     requires { length columns.now ≤ 500 }
-    ensures { IfOk result (λ places. places ≡ places_in columns.now value.now) }
+    ensures { IfOk result (λ indices. indices ≡ indices_in columns.now value.now) }
 {
     match names_in(alloc, value)? {
-        Some(names) => places_of(alloc, columns, names.as_slice()),
+        Some(names) => indices_of(alloc, columns, names.as_slice()),
         None => Ok(None),
     }
 }
 
-fn places_of(
+fn indices_of(
     alloc: Global,
     columns: &[Column],
     names: &[Text],
 ) -> Result<Option<Seq<u32>>, AllocError>
     requires { length columns.now ≤ 500 }
-    ensures { IfOk result (λ places. places ≡ places_of columns.now names.now) }
+    ensures { IfOk result (λ indices. indices ≡ indices_of columns.now names.now) }
 {
-    let mut places = Vec::new(alloc);
+    let mut indices = Vec::new(alloc);
     for name in names {
-        let Some(place) = place_of(columns, name) else {
+        let Some(index) = index_of(columns, name) else {
             return Ok(None);
         };
-        if has(places.as_slice(), place) {
+        if has_index(indices.as_slice(), index) {
             return Ok(None);
         }
-        places.push(place)?;
+        indices.push(index)?;
     }
-    Ok(Some(Seq::from(places)))
+    Ok(Some(Seq::from(indices)))
 }
 
-fn place_of(columns: &[Column], name: &Text) -> Option<u32>
+fn index_of(columns: &[Column], name: &Text) -> Option<u32>
     requires { length columns.now ≤ 500 }
-    ensures { result ≡ place_of columns.now name.now }
+    ensures { result ≡ index_of columns.now name.now }
 {
-    for (place, column) in columns.iter().enumerate() {
+    for (index, column) in columns.iter().enumerate() {
         if column.name.as_str() == name.as_str() {
-            return Some(place as u32);
+            return Some(index as u32);
         }
     }
     None
 }
 
-/// Whether the place is among them.
-pub(crate) fn has(places: &[u32], place: u32) -> bool
-    ensures { result ≡ list_any (λ p. p == place) places.now }
+/// Whether the index is in the list.
+pub(crate) fn has_index(indices: &[u32], index: u32) -> bool
+    ensures { result ≡ list_any (λ p. p == index) indices.now }
 {
-    places.iter().any(|other| *other == place)
+    indices.iter().any(|other| *other == index)
 }
 
-/// The foreign keys, if they are in order.
-pub(crate) fn foreigns_of(
+/// The foreign keys, or none if `foreignKeys` is invalid.
+pub(crate) fn foreign_keys_of(
     alloc: Global,
     columns: &[Column],
     key: &[u32],
     value: &Json,
 ) -> Result<Option<Seq<Foreign>>, AllocError>
     requires { length columns.now ≤ 500 }
-    ensures { IfOk result (λ foreigns. foreigns ≡ foreigns_in columns.now key.now value.now) }
+    ensures { IfOk result (λ foreign_keys. foreign_keys ≡ foreign_keys_in columns.now key.now value.now) }
 {
     let Some(value) = present(value, "foreignKeys") else {
         return Ok(Some(Seq::new(alloc)));
     };
     match list_in(value) {
-        Some(items) => foreigns_in(alloc, columns, key, items.as_slice()),
+        Some(items) => foreign_keys_in(alloc, columns, key, items.as_slice()),
         None => Ok(None),
     }
 }
 
-fn foreigns_in(
+fn foreign_keys_in(
     alloc: Global,
     columns: &[Column],
     key: &[u32],
     items: &[Json],
 ) -> Result<Option<Seq<Foreign>>, AllocError>
     requires { length columns.now ≤ 500 }
-    ensures { IfOk result (λ foreigns. foreigns ≡ all_of (foreign_in columns.now key.now) items.now) }
+    ensures { IfOk result (λ foreign_keys. foreign_keys ≡ all_of (foreign_key_in columns.now key.now) items.now) }
 {
-    let mut foreigns = Vec::new(alloc);
+    let mut foreign_keys = Vec::new(alloc);
     for item in items {
-        let Some(foreign) = foreign_in(alloc, columns, key, item)? else {
+        let Some(foreign) = foreign_key_in(alloc, columns, key, item)? else {
             return Ok(None);
         };
-        foreigns.push(foreign)?;
+        foreign_keys.push(foreign)?;
     }
-    Ok(Some(Seq::from(foreigns)))
+    Ok(Some(Seq::from(foreign_keys)))
 }
 
-// One foreign key.
-fn foreign_in(
+// Reads one foreign key.
+fn foreign_key_in(
     alloc: Global,
     columns: &[Column],
     key: &[u32],
     item: &Json,
 ) -> Result<Option<Foreign>, AllocError>
     requires { length columns.now ≤ 500 }
-    ensures { IfOk result (λ foreign. foreign ≡ foreign_in columns.now key.now item.now) }
+    ensures { IfOk result (λ foreign. foreign ≡ foreign_key_in columns.now key.now item.now) }
 {
     let Some(fields) = present(item, "fields") else {
         return Ok(None);
     };
-    let Some(places) = places_in(alloc, columns, fields)? else {
+    let Some(indices) = indices_in(alloc, columns, fields)? else {
         return Ok(None);
     };
     let Some(reference) = reference_in(item) else {
@@ -162,7 +162,7 @@ fn foreign_in(
     let Some(target) = target_in(alloc, reference)? else {
         return Ok(None);
     };
-    Ok(foreign_of(columns, key, places, resource, target))
+    Ok(foreign_key_of(columns, key, indices, resource, target))
 }
 
 // The dictionary `reference`.
@@ -177,7 +177,7 @@ fn reference_in(item: &Json) -> Option<&Json>
     }
 }
 
-// The resource of a reference, which is the empty text where none is given.
+// The resource of a reference. It is the empty text if none is given.
 fn resource_in(alloc: Global, reference: &Json) -> Result<Option<Text>, AllocError>
     ensures { IfOk result (λ resource. resource ≡ resource_in reference.now) }
 {
@@ -190,7 +190,7 @@ fn resource_in(alloc: Global, reference: &Json) -> Result<Option<Text>, AllocErr
     }
 }
 
-// The names of the fields that are referred to.
+// The names of the fields that the key refers to.
 fn target_in(alloc: Global, reference: &Json) -> Result<Option<Seq<Text>>, AllocError>
     ensures { IfOk result (λ target. target ≡ target_in reference.now) }
 {
@@ -200,15 +200,16 @@ fn target_in(alloc: Global, reference: &Json) -> Result<Option<Seq<Text>>, Alloc
     }
 }
 
-// The foreign key of these parts, if they fit together.
-fn foreign_of(
+// The foreign key of these parts, if there is a target for each field, and if a key to the same table refers to its
+// primary key.
+fn foreign_key_of(
     columns: &[Column],
     key: &[u32],
     fields: Seq<u32>,
     resource: Text,
     target: Seq<Text>,
 ) -> Option<Foreign>
-    ensures { result ≡ foreign_of columns.now key.now fields resource target }
+    ensures { result ≡ foreign_key_of columns.now key.now fields resource target }
 {
     if fields.len() != target.len() {
         return None;
@@ -223,30 +224,30 @@ fn foreign_of(
     })
 }
 
-// Whether the target is the whole primary key in order, with equal types.
+// Whether the target is the whole primary key in order, with the same types.
 fn refers_to_key(columns: &[Column], fields: &[u32], key: &[u32], target: &[Text]) -> bool
     ensures { result ≡ refers_to_key columns.now fields.now key.now target.now }
 {
     if fields.len() != key.len() || key.len() != target.len() {
         return false;
     }
-    for place in 0..key.len() {
-        let field = column_at(columns, fields[place]);
-        let column = column_at(columns, key[place]);
-        if !refers(field, column, &target[place]) {
+    for index in 0..key.len() {
+        let field = column_at(columns, fields[index]);
+        let column = column_at(columns, key[index]);
+        if !refers(field, column, &target[index]) {
             return false;
         }
     }
     true
 }
 
-fn column_at(columns: &[Column], place: u32) -> Option<&Column>
-    ensures { option_copied result ≡ slice_get columns.now place }
+fn column_at(columns: &[Column], index: u32) -> Option<&Column>
+    ensures { option_copied result ≡ slice_get columns.now index }
 {
-    columns.get(place as usize)
+    columns.get(index as usize)
 }
 
-// Whether a field can refer to another of the same table, which has that name.
+// Whether a field can refer to `target` in the same table: `target` has this name and the same type.
 fn refers(field: Option<&Column>, target: Option<&Column>, name: &Text) -> bool
     ensures { result ≡ refers (option_copied field.entry) (option_copied target.entry) name.now }
 {

@@ -1,4 +1,4 @@
-//! Dictionaries in the making.
+//! Builds JSON dictionaries.
 ghost use Rattle.std.specs.Prelude.{◌≡◌, [], ◌∷◌, ◌++◌, OnOk, OnErr};
 ghost use Rattle.portal_base.specs.declared.json_value.Json.{Map, Text as text_value, Truth, Whole};
 
@@ -8,8 +8,8 @@ use portal_base::text::Text;
 use std::alloc::{AllocError, Global};
 use std::marker::Model;
 
-/// The members of a JSON dictionary in the making, in the order in which they were added. A contract sees the
-/// list of keys and values. Whoever adds them sees to it that the keys ascend.
+/// The members of a JSON dictionary that is being built, in the order in which they were added. Contracts see the list
+/// of keys and values. The caller must add the keys in ascending order.
 #[derive(Drop)]
 pub(crate) struct Members {
     alloc: Global,
@@ -40,7 +40,7 @@ impl Members {
         }
     }
 
-    /// Adds a member at the end, whose key stands in the program. For want of memory nothing is added.
+    /// Appends a member. If memory runs out, nothing is added.
     pub(crate) fn add(&mut self, key: &'static str, value: Json) -> Result<(), AllocError>
         ensures ok { OnOk result (self.new ≡ self.old ++ (key.now, value) ∷ []) }
         ensures err { OnErr result (self.new ≡ self.old) }
@@ -51,7 +51,7 @@ impl Members {
         }
     }
 
-    /// Adds a text.
+    /// Appends a member whose value is a text. If memory runs out, nothing is added.
     pub(crate) fn add_text(&mut self, key: &'static str, value: &str) -> Result<(), AllocError>
         ensures ok { OnOk result (self.new ≡ self.old ++ (key.now, text_value value.now) ∷ []) }
         ensures err { OnErr result (self.new ≡ self.old) }

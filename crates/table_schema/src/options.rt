@@ -1,4 +1,4 @@
-//! The options and the constraints of a field's descriptor.
+//! Reads the options and the constraints of a field's descriptor.
 ghost use Rattle.std.specs.Prelude.{◌≡◌, [], codes, map, option_map, IfOk};
 ghost use Rattle.table_schema.specs.declared.form.Form.TheVariants.{Boolean as boolean};
 ghost use Rattle.portal_base.specs.Kinds.{present};
@@ -14,14 +14,14 @@ use crate::form::{Form, Kind, Truths};
 use crate::reading::value_of;
 use crate::truth::{DEFAULT_FALSES, DEFAULT_TRUES};
 use crate::values::{is_map, texts_in, truth_at};
-use lexical_forms::{NumberForm, mark_of};
+use lexical_forms::{NumberForm, separator_of};
 use portal_base::json_value::Json;
 use portal_base::kinds::{list_in, present, text_in};
 use portal_base::seq::Seq;
 use portal_base::text::Text;
 use std::alloc::{AllocError, Global};
 
-/// The type with the options that hold for it, if they are in order.
+/// The type with the options that apply to it, or none if one of them is invalid.
 pub(crate) fn form_of(alloc: Global, kind: Kind, item: &Json) -> Result<Option<Form>, AllocError>
     ensures { IfOk result (λ form. form ≡ form_in kind item.now) }
 {
@@ -60,11 +60,11 @@ fn spelling_of(item: &Json) -> Option<NumberForm>
     })
 }
 
-// A text of one character that may stand for a point or between groups.
+// The separator that a text value consists of, if it is one.
 fn mark_in(value: &Json) -> Option<char>
     ensures { result ≡ mark_in value.now }
 {
-    mark_of(text_in(value)?.as_str())
+    separator_of(text_in(value)?.as_str())
 }
 
 fn truths_of(alloc: Global, item: &Json) -> Result<Option<Truths>, AllocError>
@@ -82,7 +82,7 @@ fn truths_of(alloc: Global, item: &Json) -> Result<Option<Truths>, AllocError>
     }))
 }
 
-// The list of texts of a key, or these where it is absent.
+// The list of texts of a key, or the default list if the key is absent. Returns none for another value.
 fn values_at(
     alloc: Global,
     item: &Json,
@@ -108,7 +108,7 @@ fn copies_of(alloc: Global, texts: &[&str]) -> Result<Seq<Text>, AllocError>
     Ok(Seq::from(copies))
 }
 
-/// The constraints of a field of that type, if they are in order.
+/// The constraints of a field of that type, or none if one of them is invalid.
 pub(crate) fn constraints_of(
     alloc: Global,
     kind: Kind,
@@ -137,7 +137,7 @@ fn no_constraints(alloc: Global) -> Constraints
     }
 }
 
-// The constraints of a dictionary.
+// Reads the constraints of a dictionary.
 fn constraints_in(
     alloc: Global,
     kind: Kind,
@@ -195,14 +195,14 @@ fn length_in(value: &Json, kind: Kind) -> Option<i128>
     }
 }
 
-// Whether values of the type have a length.
+// Whether `minLength` and `maxLength` apply to the type.
 fn has_length(kind: Kind) -> bool
     ensures { result ≡ has_length kind }
 {
     matches!(kind, Kind::Text)
 }
 
-// Whether values of the type have an order.
+// Whether `minimum` and `maximum` apply to the type.
 fn has_order(kind: Kind) -> bool
     ensures { result ≡ has_order kind }
 {

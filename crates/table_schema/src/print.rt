@@ -1,4 +1,4 @@
-//! How cells are printed, as texts and in JSON.
+//! Prints cells as texts and as JSON values.
 ghost use Rattle.std.specs.Prelude.{◌≡◌, ◌<◌, ◌≤◌, ◌++◌, IfOk, OnOk, Ok, string_bytes};
 ghost use Rattle.portal_base.specs.MomentText.{two_digits, clock_text};
 ghost use Rattle.table_schema.specs.Field.{FieldValue};
@@ -14,7 +14,7 @@ use portal_base::moment::Moment;
 use portal_base::text::Text;
 use std::alloc::{AllocError, Global};
 
-/// The JSON value of a cell, which a field that may have the cell reads as that cell.
+/// The JSON value of a cell. A field that accepts the cell reads the value as that cell.
 pub fn cell_json(alloc: Global, cell: &Cell) -> Result<Json, AllocError>
     requires { IsValue cell.now }
     ensures value { IfOk result (λ value. value ≡ cell_value cell.now) }
@@ -30,7 +30,7 @@ pub fn cell_json(alloc: Global, cell: &Cell) -> Result<Json, AllocError>
     }
 }
 
-/// The text of a cell, which its JSON value holds unless that is no text.
+/// The text of a cell. If the JSON value of the cell is a text, it is this one.
 #[tactic(auto, unfolding(crate::specs::Printed::cell_text))]
 pub fn cell_text(alloc: Global, cell: &Cell) -> Result<Text, AllocError>
     requires { IsValue cell.now }

@@ -1,4 +1,4 @@
-//! The cells of texts and of JSON values, by type alone.
+//! Reads texts and JSON values as cells of a type.
 ghost use Rattle.std.specs.Prelude.{◌≡◌, IfOk, Some, option_map, pos};
 ghost use Rattle.table_schema.specs.Reading.{text_reading, value_reading, default_form, whole_cell, truth_cell};
 ghost use Rattle.lexical_forms.specs.Number.{i64_only, default_spelling};
@@ -7,33 +7,34 @@ use crate::cell::Cell;
 use crate::form::{Form, Kind};
 use crate::stamp::stamp_of;
 use crate::truth::{default_truth_of, truth_of};
-use lexical_forms::{NumberForm, integer_of, number_of};
+use lexical_forms::{NumberForm, parse_integer, parse_number};
 use portal_base::calendar::{date_of, second_of, year_month_of, year_of};
 use portal_base::json_value::Json;
 use portal_base::text::Text;
 use std::alloc::{AllocError, Global};
 
-/// How many billionths are one.
+/// The count of billionths in one.
 const BILLION: i128 = 1_000_000_000;
 
-/// Above every whole number of at most 18 digits.
+/// The bound of whole numbers that fit a number cell: they have at most 18 digits.
 const WHOLE_LIMIT: i128 = 1_000_000_000_000_000_000;
 
-/// How numbers are spelled where no options are given.
+/// The spelling of numbers without options.
 const DEFAULT_SPELLING: NumberForm = NumberForm {
     decimal: '.',
     group: None,
     bare: true,
 };
 
-/// The cell of a text, by the type and its options. Only a text's cell takes memory.
+/// Reads a text as a cell of the type, by its options. Returns none if it isn't a text of the type. Only a text cell
+/// takes memory.
 pub(crate) fn cell_of(alloc: Global, form: &Form, text: &str) -> Result<Option<Cell>, AllocError>
     ensures { IfOk result (λ cell. cell ≡ text_reading form.now text.now) }
 {
     Ok(match form {
         Form::Text => Some(Cell::Text(Text::from_str(alloc, text)?)),
-        Form::Integer(bare) => integer_of(*bare, text).map(Cell::Int),
-        Form::Number(spelling) => number_of(*spelling, text).map(Cell::Number),
+        Form::Integer(bare) => parse_integer(*bare, text).map(Cell::Int),
+        Form::Number(spelling) => parse_number(*spelling, text).map(Cell::Number),
         Form::Boolean(truths) => truth_of(truths, text).map(Cell::Truth),
         Form::Date => date_of(text.as_bytes()).map(Cell::Date),
         Form::Time => second_of(text.as_bytes()).map(Cell::Time),
@@ -45,8 +46,8 @@ pub(crate) fn cell_of(alloc: Global, form: &Form, text: &str) -> Result<Option<C
     })
 }
 
-/// The cell of a text where no options are given.
-fn plain_cell_of(alloc: Global, kind: Kind, text: &str) -> Result<Option<Cell>, AllocError>
+/// Reads a text as a cell of the type, by the default options.
+fn default_cell_of(alloc: Global, kind: Kind, text: &str) -> Result<Option<Cell>, AllocError>
     ensures { IfOk result (λ cell. cell ≡ text_reading (default_form kind) text.now) }
 {
     let form = match kind {
@@ -63,14 +64,15 @@ fn plain_cell_of(alloc: Global, kind: Kind, text: &str) -> Result<Option<Cell>, 
     cell_of(alloc, &form, text)
 }
 
-/// The cell of a JSON value, by the type alone. Texts are read without a field's options.
+/// Reads a JSON value as a cell of the type. Texts are read by the default options. Returns none if it isn't a value of
+/// the type.
 pub fn value_of(alloc: Global, kind: Kind, value: &Json) -> Result<Option<Cell>, AllocError>
     ensures { IfOk result (λ cell. cell ≡ value_reading kind value.now) }
 {
     match value {
         Json::Truth(truth) => Ok(truth_cell_of(kind, *truth)),
         Json::Whole(number) => Ok(whole_cell_of(kind, *number)),
-        Json::Text(text) => plain_cell_of(alloc, kind, text.as_str()),
+        Json::Text(text) => default_cell_of(alloc, kind, text.as_str()),
         Json::Null | Json::List(_) | Json::Map(_) => Ok(None),
     }
 }

@@ -1,16 +1,16 @@
-//! Schemas: descriptors that were read.
+//! Schemas of tables.
 ghost use Rattle.std.specs.Prelude.{◌≡◌, ◌⊎◌, ◌≤◌, IfOk, IfErr, Ok, Err, length};
 ghost use Rattle.std.specs.Arc.{arc_value};
-ghost use Rattle.table_schema.specs.Keys.{schema_reading, bytes_reading, columns_in, keyed, fields_from};
+ghost use Rattle.table_schema.specs.Keys.{schema_reading, bytes_reading, columns_in, schema_with_keys, fields_from};
 ghost use Rattle.table_schema.specs.Written.{schema_value};
 
 use crate::column::{Column, columns_of, field_items};
 use crate::fault::SchemaFault;
 use crate::field::Field;
 use crate::foreign::Foreign;
-use crate::keys::{foreigns_of, has, key_of, missing_of};
+use crate::keys::{foreign_keys_of, has_index, key_of, missing_of};
 use crate::members::Members;
-use crate::to_json::{fields_json, foreigns_json, names_json, texts_json};
+use crate::to_json::{fields_json, foreign_keys_json, names_json, texts_json};
 use portal_base::json_value::{Json, JsonFault};
 use portal_base::seq::Seq;
 use portal_base::text::Text;
@@ -18,34 +18,35 @@ use std::alloc::{AllocError, Global};
 use std::marker::Model;
 use std::sync::Arc;
 
-/// A table's schema.
+/// The schema of a table, as its descriptor gives it (Table Schema v1).
 #[derive(Drop)]
 pub struct Schema {
     fields: Seq<Field>,
     key: Seq<u32>,
     foreign: Seq<Foreign>,
-    /// The list that the fields share.
+    /// The texts that are missing values. The fields share this list.
     missing: Arc<Seq<Text>>,
 }
 
 impl Model for Schema {
     ghost use Rattle.std.specs.Arc.{arc_value};
     ghost use Rattle.std.specs.Prelude.{◌≡◌, Ok};
-    ghost use Rattle.table_schema.specs.Field.{SchemaValue, shown};
+    ghost use Rattle.table_schema.specs.Field.{SchemaValue, schema_from};
     ghost use Rattle.table_schema.specs.Keys.{schema_reading};
     ghost use Rattle.table_schema.specs.Written.{schema_value};
 
     ghost Value = { SchemaValue };
 
-    ghost view = { λ s. shown s.fields s.key s.foreign (arc_value s.missing) };
+    ghost view = { λ s. schema_from s.fields s.key s.foreign (arc_value s.missing) };
 
-    ghost invariant = { λ s. schema_reading (schema_value (shown s.fields s.key s.foreign (arc_value s.missing)))
-        ≡ Ok (shown s.fields s.key s.foreign (arc_value s.missing)) };
+    ghost invariant = { λ s. schema_reading (schema_value (schema_from s.fields s.key s.foreign (arc_value s.missing)))
+        ≡ Ok (schema_from s.fields s.key s.foreign (arc_value s.missing)) };
 }
 
 impl Schema {
-    /// Reads a descriptor (Table Schema v1). Of several faults the first is told: of its fields one after another, in
-    /// each first those of its name, then of its type, and last of its options and constraints; then of its keys.
+    /// Reads the bytes of a descriptor (Table Schema v1). Returns the first error: those of the fields come first, in
+    /// order, and those of the keys last. In a field the order is its name, its type, what isn't supported, and its
+    /// options and constraints.
     pub fn read(alloc: Global, bytes: &[u8]) -> Result<Schema, SchemaFault>
         ensures value { IfOk result (λ schema. bytes_reading bytes.now ≡ Ok schema) }
         ensures fault { IfErr result (λ fault. (fault ≡ SchemaFault.OutOfMemory)
@@ -58,7 +59,7 @@ impl Schema {
         }
     }
 
-    /// Reads a descriptor that was read as JSON.
+    /// Reads a descriptor that is given as a JSON value. The errors are those of `read`.
     #[tactic(auto, unfolding(crate::specs::Keys::schema_reading))]
     pub fn of_json(alloc: Global, value: &Json) -> Result<Schema, SchemaFault>
         ensures value { IfOk result (λ schema. schema_reading value.now ≡ Ok schema) }
@@ -67,7 +68,7 @@ impl Schema {
     {
         let items = field_items(value)?;
         let columns = columns_of(alloc, items.as_slice())?;
-        match keyed(alloc, columns, value)? {
+        match schema_with_keys(alloc, columns, value)? {
             Some(schema) => Ok(schema),
             None => Err(SchemaFault::BadKey),
         }
@@ -79,7 +80,7 @@ impl Schema {
         &self.fields
     }
 
-    /// The places of the primary key's fields, counted from 0.
+    /// The indices of the primary key's fields, counted from 0.
     pub fn key(&self) -> &Seq<u32>
         ensures { result.now ≡ self.now.key }
     {
@@ -92,7 +93,7 @@ impl Schema {
         &self.foreign
     }
 
-    /// The descriptor of the schema, which is read as the same schema.
+    /// The descriptor of the schema. It reads back as the same schema.
     #[tactic(auto, unfolding(crate::specs::Written::schema_value))]
     pub fn to_json(&self, alloc: Global) -> Result<Json, AllocError>
         ensures value { IfOk result (λ value. value ≡ schema_value self.now) }
@@ -103,7 +104,7 @@ impl Schema {
         members.add("fields", fields_json(alloc, fields)?)?;
         members.add(
             "foreignKeys",
-            foreigns_json(alloc, fields, self.foreign.as_slice())?,
+            foreign_keys_json(alloc, fields, self.foreign.as_slice())?,
         )?;
         members.add("missingValues", texts_json(alloc, self.missing.as_slice())?)?;
         members.add(
@@ -114,10 +115,14 @@ impl Schema {
     }
 }
 
-// The schema of these fields, if its keys are in order.
-fn keyed(alloc: Global, columns: Vec<Column>, value: &Json) -> Result<Option<Schema>, AllocError>
+// The schema of these fields, or none if its missing values or keys are invalid.
+fn schema_with_keys(
+    alloc: Global,
+    columns: Vec<Column>,
+    value: &Json,
+) -> Result<Option<Schema>, AllocError>
     requires { columns_in value.now ≡ Ok columns.items }
-    ensures { IfOk result (λ schema. schema ≡ keyed columns.items value.now) }
+    ensures { IfOk result (λ schema. schema ≡ schema_with_keys columns.items value.now) }
 {
     let Some(missing) = missing_of(alloc, value)? else {
         return Ok(None);
@@ -125,7 +130,7 @@ fn keyed(alloc: Global, columns: Vec<Column>, value: &Json) -> Result<Option<Sch
     let Some(key) = key_of(alloc, columns.as_slice(), value)? else {
         return Ok(None);
     };
-    let Some(foreign) = foreigns_of(alloc, columns.as_slice(), key.as_slice(), value)? else {
+    let Some(foreign) = foreign_keys_of(alloc, columns.as_slice(), key.as_slice(), value)? else {
         return Ok(None);
     };
     let missing = Arc::new(alloc, missing)?;
@@ -138,7 +143,7 @@ fn keyed(alloc: Global, columns: Vec<Column>, value: &Json) -> Result<Option<Sch
     }))
 }
 
-// The fields with what they take from the whole schema.
+// The fields, with the parts that the whole schema gives them.
 fn fields_of(
     alloc: Global,
     columns: Vec<Column>,
@@ -150,7 +155,7 @@ fn fields_of(
 {
     let mut fields = Vec::with_capacity(alloc, columns.len())?;
     for column in columns {
-        let in_key = has(key, fields.len() as u32);
+        let in_key = has_index(key, fields.len() as u32);
         let missing = Arc::try_clone(missing)?;
         fields.push(Field::of_column(column, missing, in_key))?;
     }

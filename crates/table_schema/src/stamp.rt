@@ -1,20 +1,20 @@
-//! The texts of date-times: dates and times of the calendar, and the form around them.
+//! Parses the texts of date-times (Table Schema v1, "datetime").
 ghost use Rattle.std.specs.Prelude.{◌≡◌};
-ghost use Rattle.table_schema.specs.Stamp.{stamp_reading, zoned_moment, is_zone, is_time_mark};
+ghost use Rattle.table_schema.specs.Stamp.{stamp_reading, zoned_moment, is_zone, is_time_designator};
 
 use portal_base::moment::Moment;
 
-/// The moment of a date, `T` or a space, a time, and `Z` or nothing.
+/// The moment of a date, `T` or a space, a time of day, and `Z` or nothing. Returns none for other texts.
 pub(crate) fn stamp_of(text: &[u8]) -> Option<Moment>
     ensures { result ≡ stamp_reading text.now }
 {
-    if text.len() < 19 || !is_time_mark(text[10]) {
+    if text.len() < 19 || !is_time_designator(text[10]) {
         return None;
     }
     zoned_moment(&text[..10], &text[11..])
 }
 
-// The moment of a date, and of a time with `Z` or nothing behind it.
+// The moment of a date and of a time of day that `Z` or nothing follows.
 fn zoned_moment(date: &[u8], time: &[u8]) -> Option<Moment>
     ensures { result ≡ zoned_moment date.now time.now }
 {
@@ -38,8 +38,8 @@ fn is_zone(text: &[u8]) -> bool
     }
 }
 
-fn is_time_mark(byte: u8) -> bool
-    ensures { result ≡ is_time_mark byte }
+fn is_time_designator(byte: u8) -> bool
+    ensures { result ≡ is_time_designator byte }
 {
     byte == b'T' || byte == b' '
 }

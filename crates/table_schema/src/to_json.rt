@@ -1,11 +1,12 @@
-//! The descriptor that a schema is written as.
+//! Writes the descriptor of a schema.
 ghost use Rattle.std.specs.Prelude.{◌≡◌, ◌++◌, All, map, IfSome, IfOk, OnOk};
 ghost use Rattle.portal_base.specs.declared.json_value.Json.{Whole as whole_value, List as list_value};
 ghost use Rattle.table_schema.specs.Printed.{IsValue, HasValues, cell_value};
 ghost use Rattle.table_schema.specs.Written.{texts_value, kind_name, member_where, member_if, allowed_member};
-ghost use Rattle.table_schema.specs.Written.{constraints_value, bare_member, character_value, options_before_format};
+ghost use Rattle.table_schema.specs.Written.{constraints_value, bare_number_member, character_value};
+ghost use Rattle.table_schema.specs.Written.{options_before_format};
 ghost use Rattle.table_schema.specs.Written.{options_before_name, options_before_type, field_value, name_at};
-ghost use Rattle.table_schema.specs.Written.{names_value, reference_value, foreign_value};
+ghost use Rattle.table_schema.specs.Written.{names_value, reference_value, foreign_key_value};
 
 use crate::cell::Cell;
 use crate::constraint::Constraints;
@@ -19,7 +20,7 @@ use portal_base::seq::Seq;
 use portal_base::text::Text;
 use std::alloc::{AllocError, Global};
 
-/// The fields.
+/// The list of field descriptors.
 pub(crate) fn fields_json(alloc: Global, fields: &[Field]) -> Result<Json, AllocError>
     requires { All (λ f. HasValues f.constraints) fields.now }
     ensures { IfOk result (λ value. value ≡ list_value (map field_value fields.now)) }
@@ -37,7 +38,7 @@ fn field_json(alloc: Global, field: &Field) -> Result<Json, AllocError>
 {
     let form = field.form();
     let mut members = Members::new(alloc);
-    add_bare(&mut members, form)?;
+    add_bare_number(&mut members, form)?;
     members.add("constraints", constraints_json(alloc, field.constraints())?)?;
     add_before_format(alloc, &mut members, form)?;
     members.add_text("format", "default")?;
@@ -48,8 +49,8 @@ fn field_json(alloc: Global, field: &Field) -> Result<Json, AllocError>
     Ok(members.into_json())
 }
 
-fn add_bare(members: &mut Members, form: &Form) -> Result<(), AllocError>
-    ensures { OnOk result (members.new ≡ members.old ++ bare_member form.now) }
+fn add_bare_number(members: &mut Members, form: &Form) -> Result<(), AllocError>
+    ensures { OnOk result (members.new ≡ members.old ++ bare_number_member form.now) }
 {
     match form {
         Form::Integer(bare) => members.add("bareNumber", Json::Truth(*bare)),
@@ -97,7 +98,7 @@ fn add_before_type(alloc: Global, members: &mut Members, form: &Form) -> Result<
     }
 }
 
-/// The name of a type.
+/// The name of a type (Table Schema v1, "Types and formats").
 pub fn kind_name(kind: Kind) -> &'static str
     ensures { result.now ≡ kind_name kind }
 {
@@ -169,7 +170,7 @@ fn cells_json(alloc: Global, cells: &[Cell]) -> Result<Json, AllocError>
     Ok(Json::List(Seq::from(list)))
 }
 
-// Adds a length, if there is one.
+// Adds a length constraint, if there is one.
 fn add_length(
     members: &mut Members,
     key: &'static str,
@@ -183,7 +184,7 @@ fn add_length(
     }
 }
 
-// Adds a cell, if there is one.
+// Adds a bound, if there is one.
 fn add_bound(
     alloc: Global,
     members: &mut Members,
@@ -199,7 +200,7 @@ fn add_bound(
     }
 }
 
-// Adds a truth value, if it is true.
+// Adds a truth value, but only if it is true.
 fn add_truth(members: &mut Members, key: &'static str, truth: bool) -> Result<(), AllocError>
     ensures { OnOk result (members.new ≡ members.old ++ member_if key.now truth) }
 {
@@ -210,23 +211,23 @@ fn add_truth(members: &mut Members, key: &'static str, truth: bool) -> Result<()
     }
 }
 
-/// The foreign keys.
-pub(crate) fn foreigns_json(
+/// The list of foreign keys.
+pub(crate) fn foreign_keys_json(
     alloc: Global,
     fields: &[Field],
-    foreigns: &[Foreign],
+    foreign_keys: &[Foreign],
 ) -> Result<Json, AllocError>
-    ensures { IfOk result (λ value. value ≡ list_value (map (foreign_value fields.now) foreigns.now)) }
+    ensures { IfOk result (λ value. value ≡ list_value (map (foreign_key_value fields.now) foreign_keys.now)) }
 {
-    let mut list = Vec::with_capacity(alloc, foreigns.len())?;
-    for foreign in foreigns {
-        list.push(foreign_json(alloc, fields, foreign)?)?;
+    let mut list = Vec::with_capacity(alloc, foreign_keys.len())?;
+    for foreign in foreign_keys {
+        list.push(foreign_key_json(alloc, fields, foreign)?)?;
     }
     Ok(Json::List(Seq::from(list)))
 }
 
-fn foreign_json(alloc: Global, fields: &[Field], foreign: &Foreign) -> Result<Json, AllocError>
-    ensures { IfOk result (λ value. value ≡ foreign_value fields.now foreign.now) }
+fn foreign_key_json(alloc: Global, fields: &[Field], foreign: &Foreign) -> Result<Json, AllocError>
+    ensures { IfOk result (λ value. value ≡ foreign_key_value fields.now foreign.now) }
 {
     let mut members = Members::new(alloc);
     members.add(
@@ -246,26 +247,26 @@ fn reference_json(alloc: Global, foreign: &Foreign) -> Result<Json, AllocError>
     Ok(members.into_json())
 }
 
-/// The names of the fields at these places.
+/// The list of the names of the fields at these indices.
 pub(crate) fn names_json(
     alloc: Global,
     fields: &[Field],
-    places: &[u32],
+    indices: &[u32],
 ) -> Result<Json, AllocError>
-    ensures { IfOk result (λ value. value ≡ names_value fields.now places.now) }
+    ensures { IfOk result (λ value. value ≡ names_value fields.now indices.now) }
 {
-    let mut list = Vec::with_capacity(alloc, places.len())?;
-    for place in places {
-        let name = Text::from_str(alloc, name_at(fields, *place))?;
+    let mut list = Vec::with_capacity(alloc, indices.len())?;
+    for index in indices {
+        let name = Text::from_str(alloc, name_at(fields, *index))?;
         list.push(Json::Text(name))?;
     }
     Ok(Json::List(Seq::from(list)))
 }
 
-fn name_at(fields: &[Field], place: u32) -> &str
-    ensures { result.now ≡ name_at fields.now place }
+fn name_at(fields: &[Field], index: u32) -> &str
+    ensures { result.now ≡ name_at fields.now index }
 {
-    match fields.get(place as usize) {
+    match fields.get(index as usize) {
         Some(field) => field.name().as_str(),
         None => "",
     }

@@ -1,14 +1,14 @@
-//! The texts of truth values, and lists of texts.
+//! Parses the texts of truth values (Table Schema v1, "boolean").
 ghost use Rattle.std.specs.Prelude.{◌≡◌, true, false};
 ghost use Rattle.table_schema.specs.Truth.{is_among, truth_reading, default_trues, default_falses};
 
 use crate::form::Truths;
 use portal_base::text::Text;
 
-/// `trueValues` where it isn't given.
+/// The default of `trueValues`.
 pub(crate) const DEFAULT_TRUES: [&str; 4] = ["true", "True", "TRUE", "1"];
 
-/// `falseValues` where it isn't given.
+/// The default of `falseValues`.
 pub(crate) const DEFAULT_FALSES: [&str; 4] = ["false", "False", "FALSE", "0"];
 
 /// Whether the text is one of the list.
@@ -18,7 +18,7 @@ pub(crate) fn is_among(texts: &[Text], text: &str) -> bool
     texts.iter().any(|listed| listed.as_str() == text)
 }
 
-/// The truth value of a text. A text in both lists is true.
+/// The truth value of a text, or none if the text is in neither list. A text in both lists is true.
 pub(crate) fn truth_of(truths: &Truths, text: &str) -> Option<bool>
     ensures { result ≡ truth_reading truths.now.true_values truths.now.false_values text.now }
 {
@@ -31,7 +31,7 @@ pub(crate) fn truth_of(truths: &Truths, text: &str) -> Option<bool>
     }
 }
 
-/// The truth value of a text by the lists that hold where none are given.
+/// The truth value of a text by the default lists.
 pub(crate) fn default_truth_of(text: &str) -> Option<bool>
     ensures { result ≡ truth_reading default_trues default_falses text.now }
 {

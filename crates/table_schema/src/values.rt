@@ -1,4 +1,5 @@
-//! The values of a descriptor's keys, by their kinds, beside those that every body has.
+//! Reads the values of a descriptor's keys that are specific to descriptors. Those that every body has are in
+//! portal_base.
 ghost use Rattle.std.specs.Prelude.{◌≡◌, ◌∷◌, [], IfOk};
 ghost use Rattle.std.specs.Option.{option_copied};
 ghost use Rattle.portal_base.specs.Kinds.{present, text_in, list_in};
@@ -28,7 +29,7 @@ fn truth_in(value: &Json) -> Option<bool>
     }
 }
 
-/// The truth value of a key, or this one where it is absent.
+/// The truth value of a key, or `otherwise` if the key is absent. Returns none for another value.
 pub(crate) fn truth_at(value: &Json, key: &str, otherwise: bool) -> Option<bool>
     ensures { result ≡ or_default truth_in otherwise (present key.now value.now) }
 {
@@ -51,7 +52,7 @@ fn texts_of(alloc: Global, items: &[Json]) -> Result<Option<Seq<Text>>, AllocErr
     Ok(Some(Seq::from(texts)))
 }
 
-/// A list of texts.
+/// Reads a list of texts. Returns none for another value.
 pub(crate) fn texts_in(alloc: Global, value: &Json) -> Result<Option<Seq<Text>>, AllocError>
     ensures { IfOk result (λ texts. texts ≡ texts_in value.now) }
 {
@@ -61,7 +62,7 @@ pub(crate) fn texts_in(alloc: Global, value: &Json) -> Result<Option<Seq<Text>>,
     }
 }
 
-/// A text, or a list of texts.
+/// Reads a text, or a list of texts. Returns none for another value.
 pub(crate) fn names_in(alloc: Global, value: &Json) -> Result<Option<Seq<Text>>, AllocError>
     ensures { IfOk result (λ names. names ≡ names_in value.now) }
 {

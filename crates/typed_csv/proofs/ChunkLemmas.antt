@@ -1,4 +1,4 @@
--- What a chunk has left at its start, and behind a read.
+-- The records that a chunk has left at its start, and after a read.
 use Rattle.std.proofs.Common.{◌≡◌, ◌+◌, ◌==◌, ◌&&◌, ℕ, Bool, true, false, not, List, [], ◌∷◌, ◌++◌, drop, take}
 use Rattle.std.proofs.Common.{length, Option, Some, None, if◌then◌else◌, refl, sym, ap, ◌∙◌, inl, inr, arith}
 use Rattle.std.proofs.lemmas.Bool.{and_parts}
@@ -20,14 +20,14 @@ use Rattle.typed_csv.proofs.RecordLemmas.{all_records, all_records-next, records
 
 -- ---- the start
 
--- no byte order mark begins with a line feed
+-- a byte order mark doesn't start with a line feed
 strip_line_feed : (text : List ℕ) → strip_bom (10 ∷ text) ≡ 10 ∷ text
 unfolding strip_bom
 strip_line_feed [] = refl
 strip_line_feed (a ∷ []) = refl
 strip_line_feed (a ∷ b ∷ rest) = refl
 
--- an empty line is no record
+-- an empty line isn't a record
 skip_line_feed : (text : List ℕ) → all_records st.StartRecord [] [] (10 ∷ text) ≡ all_records st.StartRecord [] [] text
 unfolding all_records
 skip_line_feed text = refl
@@ -71,7 +71,7 @@ left_end s t bytes (Some rest) fields h =
     left_all s bytes ∙ all_records-next s [] [] bytes ∙ end_of (next_record default_config s [] [] bytes) fields t
     rest h
 
--- what a reader has left is known where the bytes underneath are
+-- The remaining records of a reader are known if its remaining bytes are.
 Known : Option (List ℕ) → Type 0
 Known source = (bytes : List ℕ) × (source ≡ Some bytes)
 
@@ -89,7 +89,7 @@ known_source rem a under f e =
     (Some (drop a.at (take a.filled a.buffer) ++ under))
     (strip_bom under, refl) (drop a.at (take a.filled a.buffer) ++ under, refl))
 
--- a reader that hasn't failed reads on with the settings of a chunk
+-- A reader that hasn't failed continues with the settings of a chunk.
 pub going : {R : Type 0} (a : Reader R) → IsChunkReader a → (has_failed a ≡ true → ⊥)
     → (reader_trim a ≡ trim.None) × Ready a × (is_flexible a ≡ true) × (reader_config a ≡ default_config)
 going a (inl h) never = absurd (never h)
@@ -129,7 +129,7 @@ nothing_either rem a b under fields false f how u reads =
     let g = going a how goes in
     record-end rem a b under fields goes g.3 u (reads g.0 g.1)
 
--- where no record comes, none is left
+-- If no record is read, none is left.
 pub nothing-left : {R : Type 0} (rem : R → Option (List ℕ)) (a b : Reader R) (under : List ℕ) (fields : List (List ℕ))
     → IsChunkReader a → rem a.rdr ≡ Some under
     → (reader_trim a ≡ trim.None → Ready a
@@ -137,7 +137,7 @@ pub nothing-left : {R : Type 0} (rem : R → Option (List ℕ)) (a b : Reader R)
     → records_left (reader_state a) (source_of rem a) ≡ []
 nothing-left rem a b under fields how u reads = nothing_either rem a b under fields (has_failed a) refl how u reads
 
--- behind the first read no byte order mark is looked for
+-- After the first read `csv` looks for no byte order mark.
 pub source-checked : {R : Type 0} (rem : R → Option (List ℕ)) (b : Reader R) → b.bom_checked ≡ true
     → source_of rem b ≡ pending_of (rem b.rdr) b
 source-checked rem b e = rw e refl

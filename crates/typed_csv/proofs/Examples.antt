@@ -12,7 +12,7 @@ use Rattle.portal_base.specs.Calendar.{time_reading}
 use Rattle.table_schema.specs.Constraint.{constraint_fault}
 use Rattle.table_schema.specs.Descriptor.{no_constraints}
 use Rattle.table_schema.specs.Field.{FieldValue}
-use Rattle.table_schema.specs.Number.{whole_reading}
+use Rattle.table_schema.specs.Number.{integer_text_reading}
 use Rattle.typed_csv.specs.declared.fault.LoadFault.TheVariants as fault
 use Rattle.typed_csv.specs.Header.{bad_column, header_reading, layout_of}
 use Rattle.typed_csv.specs.Rows.{row_reading, rows_of}
@@ -66,21 +66,21 @@ a_header_that_is_no_text = refl
 
 a_row : row_reading schema (layout_of schema (codes "time" ∷ codes "id" ∷ [])) 1 (codes "00:00:05" ∷ codes "7" ∷ [])
     ≡ Ok (cell.Int (pos 7) ∷ cell.Time 5 ∷ [])
-unfolding is_utf8 chars encode field_at whole_reading time_reading constraint_fault
+unfolding is_utf8 chars encode field_at integer_text_reading time_reading constraint_fault
 a_row = refl
 
 an_empty_text_where_no_column_is : row_reading schema (layout_of schema (codes "time" ∷ [])) 1 (codes "00:00:05" ∷ [])
     ≡ Ok (cell.Null ∷ cell.Time 5 ∷ [])
-unfolding is_utf8 chars encode field_at whole_reading time_reading constraint_fault
+unfolding is_utf8 chars encode field_at integer_text_reading time_reading constraint_fault
 an_empty_text_where_no_column_is = refl
 
 -- Both cells are bad, and the header has `time` first, which the schema has last.
 the_first_bad_cell_of_the_header : row_reading schema (layout_of schema (codes "time" ∷ codes "id" ∷ [])) 4
     (codes "x" ∷ codes "y" ∷ []) ≡ Err (fault.Cell 4 (codes "time") NotOfType)
-unfolding is_utf8 chars encode field_at whole_reading time_reading constraint_fault
+unfolding is_utf8 chars encode field_at integer_text_reading time_reading constraint_fault
 the_first_bad_cell_of_the_header = refl
 
--- A row of another width is told before a bad cell in it, and one that isn't UTF-8 before its width.
+-- The error of the width comes before that of a bad cell, and that of a record that isn't UTF-8 before both.
 a_row_of_another_width : row_reading schema (layout_of schema (codes "time" ∷ codes "id" ∷ [])) 4 (codes "x" ∷ [])
     ≡ Err (fault.Width 4)
 unfolding is_utf8 chars encode
@@ -95,12 +95,12 @@ a_row_that_is_no_text = refl
 
 the_rows_of_a_text : rows_of schema (codes "time,id\n00:00:05,7\n,\n")
     ≡ Ok (record { rows = (cell.Int (pos 7) ∷ cell.Time 5 ∷ []) ∷ (cell.Null ∷ cell.Null ∷ []) ∷ []; fault = None })
-unfolding csv_on_literals is_utf8 chars encode field_at whole_reading time_reading constraint_fault
+unfolding csv_on_literals is_utf8 chars encode field_at integer_text_reading time_reading constraint_fault
 the_rows_of_a_text = refl
 
--- Nothing is read behind the bad second row.
+-- Nothing is read after the bad second row.
 rows_before_a_fault : rows_of schema (codes "id\n7\nx\n8\n")
     ≡ Ok (record
     { rows = (cell.Int (pos 7) ∷ cell.Null ∷ []) ∷ []; fault = Some (fault.Cell 2 (codes "id") NotOfType) })
-unfolding csv_on_literals is_utf8 chars encode field_at whole_reading time_reading constraint_fault
+unfolding csv_on_literals is_utf8 chars encode field_at integer_text_reading time_reading constraint_fault
 rows_before_a_fault = refl

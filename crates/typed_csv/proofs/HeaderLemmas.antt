@@ -1,4 +1,4 @@
--- The names of columns, and where they stand.
+-- The names of columns, and their indices.
 use Rattle.std.proofs.Common.{◌≡◌, ◌∙◌, ◌+◌, ◌<◌, ℕ, zero, suc, true, false, refl, ap, sym, List, [], ◌∷◌, ◌++◌}
 use Rattle.std.proofs.Common.{length, ◌||◌, get_or, take, drop, add-one, length-take, arith}
 use Rattle.std.proofs.lemmas.List.{at_drop_more, get_or-take, take_more}
@@ -10,14 +10,14 @@ use Rattle.std.specs.Str.{bytes_eq}
 use Rattle.csv.specs.Records.{field_at}
 use Rattle.table_schema.specs.Field.{FieldValue}
 use Rattle.table_schema.specs.Truth.{is_among}
-use Rattle.typed_csv.specs.Header.{bad_column_from, column_of, is_in_order}
+use Rattle.typed_csv.specs.Header.{bad_column_from, column_of, is_valid_column}
 use Rattle.typed_csv.specs.Records.{text_at}
 
-pub text_at-get_or : (fields : List (List ℕ)) (place : ℕ) → text_at fields place ≡ get_or fields place []
+pub text_at-get_or : (fields : List (List ℕ)) (index : ℕ) → text_at fields index ≡ get_or fields index []
 unfolding field_at
-text_at-get_or [] place = refl
+text_at-get_or [] index = refl
 text_at-get_or (f ∷ fs) zero = refl
-text_at-get_or (f ∷ fs) (suc place) = text_at-get_or fs place
+text_at-get_or (f ∷ fs) (suc index) = text_at-get_or fs index
 
 -- ---- the columns before one
 
@@ -70,7 +70,8 @@ abbrev pub bad_on : List FieldValue → List (List ℕ) → ℕ → Option ℕ
 bad_on fields names column = bad_column_from fields (take column names) (drop column names)
 
 pub bad-here : (fields : List FieldValue) (names : List (List ℕ)) (column : ℕ) → column < length names
-    → is_in_order fields (take column names) (text_at names column) ≡ false → bad_on fields names column ≡ Some column
+    → is_valid_column fields (take column names) (text_at names column) ≡ false
+    → bad_on fields names column ≡ Some column
 bad-here fields names column lt bad =
     let before = take column names in
     let count : length before ≡ column = simp length-take (omega arith) in
@@ -78,7 +79,7 @@ bad-here fields names column lt bad =
     ∙ (rw (← text_at-get_or names column) (rw bad (ap Some count)))
 
 pub bad-next : (fields : List FieldValue) (names : List (List ℕ)) (column : ℕ) → column < length names
-    → is_in_order fields (take column names) (text_at names column) ≡ true
+    → is_valid_column fields (take column names) (text_at names column) ≡ true
     → bad_on fields names column ≡ bad_on fields names (column + 1)
 bad-next fields names column lt good =
     let before = take column names in

@@ -1,4 +1,4 @@
--- The cells of a row, and the bad cell that is told, by the places of fields.
+-- The cells of a row, and the bad cell that its error names, by the indices of fields.
 use Rattle.std.proofs.Common.{◌≡◌, ◌∙◌, ◌<◌, ◌≤◌, ◌↔◌, ℕ, zero, suc, true, false, Bool, refl, ap, sym, subst, List}
 use Rattle.std.proofs.Common.{[], ◌∷◌, length, nat_lt, arith}
 use Rattle.std.proofs.lemmas.Bool.Decides.{nat_tests}
@@ -16,7 +16,7 @@ use Rattle.typed_csv.specs.Rows.{cell_or_bad, cells_reading, first_of, joined, r
 
 -- ---- one field
 
--- the same as `cell_or_bad`, of what the text is read as
+-- the same as `cell_or_bad`, by the reading of the text
 abbrev tagged : FieldValue → ℕ → Result Cell CellFault → Result Cell BadCell
 tagged field rank (Ok cell) = Ok cell
 tagged field rank (Err fault) = Err (record { rank = rank; name = field.name; fault = fault })
@@ -43,29 +43,29 @@ cell-reads : (field : FieldValue) (rank : ℕ) (text : List ℕ) (cell : Cell) �
     → cell_or_bad field rank text ≡ Ok cell
 cell-reads field rank text cell e = ap (tagged field rank) e
 
--- ---- the first place, and the later ones
+-- ---- the first index, and the later ones
 
 bad-here : (width : ℕ) (texts : List (List ℕ)) (field : FieldValue) (fields : List FieldValue) (column : Option ℕ)
     (columns : List (Option ℕ)) (bad : BadCell)
     → cell_or_bad field (rank_of width column) (text_in texts column) ≡ Err bad
     → IsBadAt width texts (field ∷ fields) (column ∷ columns) 0 bad
 bad-here width texts field fields column columns bad e =
-    let told = tagged-err field (rank_of width column) (cell_reading field (text_in texts column)) bad e in
+    let reported = tagged-err field (rank_of width column) (cell_reading field (text_in texts column)) bad e in
     record {
       field = field;
       column = column;
-      stands = refl;
+      at_index = refl;
       is_read = refl;
-      fails = told.0;
-      name = told.1;
-      rank = told.2;
+      fails = reported.0;
+      name = reported.1;
+      rank = reported.2;
     }
 
 here-bad : (width : ℕ) (texts : List (List ℕ)) (field : FieldValue) (fields : List FieldValue) (column : Option ℕ)
     (columns : List (Option ℕ)) (bad : BadCell) → IsBadAt width texts (field ∷ fields) (column ∷ columns) 0 bad
     → cell_or_bad field (rank_of width column) (text_in texts column) ≡ Err bad
 here-bad width texts field fields column columns bad h =
-    let same : h.field ≡ field = cc (h.stands) in
+    let same : h.field ≡ field = cc (h.at_index) in
     let from : h.column ≡ column = cc (h.is_read) in
     let fails =
     subst (λ f. Fails f (text_in texts column) bad.fault) same
@@ -74,13 +74,13 @@ here-bad width texts field fields column columns bad h =
     (h.name ∙ ap (λ (f : FieldValue). f.name) same) (h.rank ∙ ap (rank_of width) from)
 
 bad-up : (width : ℕ) (texts : List (List ℕ)) (field : FieldValue) (fields : List FieldValue) (column : Option ℕ)
-    (columns : List (Option ℕ)) (place : ℕ) (bad : BadCell) → IsBadAt width texts fields columns place bad
-    → IsBadAt width texts (field ∷ fields) (column ∷ columns) (suc place) bad
-bad-up width texts field fields column columns place bad h =
+    (columns : List (Option ℕ)) (index : ℕ) (bad : BadCell) → IsBadAt width texts fields columns index bad
+    → IsBadAt width texts (field ∷ fields) (column ∷ columns) (suc index) bad
+bad-up width texts field fields column columns index bad h =
     record {
       field = h.field;
       column = h.column;
-      stands = h.stands;
+      at_index = h.at_index;
       is_read = h.is_read;
       fails = h.fails;
       name = h.name;
@@ -88,14 +88,14 @@ bad-up width texts field fields column columns place bad h =
     }
 
 bad-down : (width : ℕ) (texts : List (List ℕ)) (field : FieldValue) (fields : List FieldValue) (column : Option ℕ)
-    (columns : List (Option ℕ)) (place : ℕ) (bad : BadCell)
-    → IsBadAt width texts (field ∷ fields) (column ∷ columns) (suc place) bad
-    → IsBadAt width texts fields columns place bad
-bad-down width texts field fields column columns place bad h =
+    (columns : List (Option ℕ)) (index : ℕ) (bad : BadCell)
+    → IsBadAt width texts (field ∷ fields) (column ∷ columns) (suc index) bad
+    → IsBadAt width texts fields columns index bad
+bad-down width texts field fields column columns index bad h =
     record {
       field = h.field;
       column = h.column;
-      stands = h.stands;
+      at_index = h.at_index;
       is_read = h.is_read;
       fails = h.fails;
       name = h.name;
@@ -112,45 +112,45 @@ joined-ok (Ok cell) (Err bad) cells e = cc
 joined-ok (Err first) (Ok later) cells e = cc
 joined-ok (Err first) (Err bad) cells e = cc
 
--- Where cells are given, none is bad.
+-- If a record has cells, none is bad.
 none-bad : (width : ℕ) (texts : List (List ℕ)) (fields : List FieldValue) (columns : List (Option ℕ))
-    (cells : List Cell) → cells_reading width texts fields columns ≡ Ok cells → (place : ℕ) (bad : BadCell)
-    → IsBadAt width texts fields columns place bad → ⊥
-none-bad width texts [] columns cells e place bad h = cc (h.stands)
-none-bad width texts (field ∷ fields) [] cells e place bad h = cc (h.is_read)
+    (cells : List Cell) → cells_reading width texts fields columns ≡ Ok cells → (index : ℕ) (bad : BadCell)
+    → IsBadAt width texts fields columns index bad → ⊥
+none-bad width texts [] columns cells e index bad h = cc (h.at_index)
+none-bad width texts (field ∷ fields) [] cells e index bad h = cc (h.is_read)
 none-bad width texts (field ∷ fields) (column ∷ columns) cells e zero bad h =
     let parts = joined-ok (cell_or_bad field (rank_of width column) (text_in texts column))
     (cells_reading width texts fields columns) cells e in
     cc (here-bad width texts field fields column columns bad h, parts.2)
-none-bad width texts (field ∷ fields) (column ∷ columns) cells e (suc place) bad h =
+none-bad width texts (field ∷ fields) (column ∷ columns) cells e (suc index) bad h =
     let parts = joined-ok (cell_or_bad field (rank_of width column) (text_in texts column))
     (cells_reading width texts fields columns) cells e in
-    none-bad width texts fields columns parts.1 parts.3 place bad
-    (bad-down width texts field fields column columns place bad h)
+    none-bad width texts fields columns parts.1 parts.3 index bad
+    (bad-down width texts field fields column columns index bad h)
 
 cells-more : (texts : List (List ℕ)) (field : FieldValue) (fields : List FieldValue) (column : Option ℕ)
     (columns : List (Option ℕ)) (cell : Cell) (cells : List Cell) → Reads field (text_in texts column) cell
     → AreCellsOf texts fields columns cells → AreCellsOf texts (field ∷ fields) (column ∷ columns) (cell ∷ cells)
 cells-more texts field fields column columns cell cells reads h = (ap suc h.0, each)
   where
-    each : (place : ℕ) (f : FieldValue) (c : Option ℕ) (x : Cell) → slice_get (field ∷ fields) place ≡ Some f
-        → slice_get (column ∷ columns) place ≡ Some c → slice_get (cell ∷ cells) place ≡ Some x
+    each : (index : ℕ) (f : FieldValue) (c : Option ℕ) (x : Cell) → slice_get (field ∷ fields) index ≡ Some f
+        → slice_get (column ∷ columns) index ≡ Some c → slice_get (cell ∷ cells) index ≡ Some x
         → Reads f (text_in texts c) x
-    each zero f c x stands is_read here =
+    each zero f c x at_index is_read here =
         let same : field ≡ f = cc in
         let from : column ≡ c = cc in
         let it : cell ≡ x = cc in
         subst (λ y. Reads f (text_in texts c) y) it
         (subst (λ g. Reads g (text_in texts c) cell) same
         (subst (λ d. Reads field (text_in texts d) cell) from reads))
-    each (suc place) f c x stands is_read here = h.1 place f c x stands is_read here
+    each (suc index) f c x at_index is_read here = h.1 index f c x at_index is_read here
 
 cells-of : (width : ℕ) (texts : List (List ℕ)) (fields : List FieldValue) (columns : List (Option ℕ))
     (cells : List Cell) → length fields ≡ length columns → cells_reading width texts fields columns ≡ Ok cells
     → AreCellsOf texts fields columns cells
 cells-of width texts [] columns cells long e =
     let none : [] ≡ cells = cc in
-    (ap length (sym none), λ place field column cell stands is_read here. cc)
+    (ap length (sym none), λ index field column cell at_index is_read here. cc)
 cells-of width texts (field ∷ fields) [] cells long e = absurd (omega arith)
 cells-of width texts (field ∷ fields) (column ∷ columns) cells long e =
     let parts = joined-ok (cell_or_bad field (rank_of width column) (text_in texts column))
@@ -171,7 +171,7 @@ of-cells width texts (field ∷ fields) (column ∷ columns) (cell ∷ cells) lo
     cell-reads field (rank_of width column) (text_in texts column) cell
     (h.1 zero field column cell refl refl refl) in
     let rest : cells_reading width texts fields columns ≡ Ok cells =
-    of-cells width texts fields columns cells (omega arith) (omega arith, λ place. h.1 (suc place)) in
+    of-cells width texts fields columns cells (omega arith) (omega arith, λ index. h.1 (suc index)) in
     ap (λ o. joined o (cells_reading width texts fields columns)) one ∙ ap (joined (Ok cell)) rest
 
 pub schema-order : (width : ℕ) (texts : List (List ℕ)) (fields : List FieldValue) (columns : List (Option ℕ))
@@ -188,7 +188,7 @@ neither read cell bad one other = cc
 same-bad : (read : Result Cell BadCell) (bad other : BadCell) → read ≡ Err bad → read ≡ Err other → bad ≡ other
 same-bad read bad other one two = cc
 
--- The first bad cell of the later fields, where the first field has a cell.
+-- The first bad cell of the later fields, if the first field has a cell.
 first-later : (width : ℕ) (texts : List (List ℕ)) (field : FieldValue) (fields : List FieldValue) (column : Option ℕ)
     (columns : List (Option ℕ)) (cell : Cell) (bad : BadCell)
     → cell_or_bad field (rank_of width column) (text_in texts column) ≡ Ok cell
@@ -233,16 +233,16 @@ both-later : (width : ℕ) (texts : List (List ℕ)) (field : FieldValue) (field
 both-later width texts field fields column columns bad later e h lower =
     (suc h.0, bad-up width texts field fields column columns h.0 later h.1, each)
   where
-    each : (place : ℕ) (other : BadCell) → IsBadAt width texts (field ∷ fields) (column ∷ columns) place other
-        → (later.rank ≤ other.rank) × (later.rank ≡ other.rank → suc h.0 ≤ place)
+    each : (index : ℕ) (other : BadCell) → IsBadAt width texts (field ∷ fields) (column ∷ columns) index other
+        → (later.rank ≤ other.rank) × (later.rank ≡ other.rank → suc h.0 ≤ index)
     each zero other g =
         let same : bad.rank ≡ other.rank =
         ap (λ (b : BadCell). b.rank)
         (same-bad (cell_or_bad field (rank_of width column) (text_in texts column)) bad other e
         (here-bad width texts field fields column columns other g)) in
         (omega arith, λ equal. omega arith)
-    each (suc place) other g = let r =
-        h.2 place other (bad-down width texts field fields column columns place other g) in
+    each (suc index) other g = let r =
+        h.2 index other (bad-down width texts field fields column columns index other g) in
         (r.0, λ same. omega (arith, r.1 same))
 
 both-here : (width : ℕ) (texts : List (List ℕ)) (field : FieldValue) (fields : List FieldValue) (column : Option ℕ)
@@ -253,16 +253,16 @@ both-here : (width : ℕ) (texts : List (List ℕ)) (field : FieldValue) (fields
 both-here width texts field fields column columns bad later e h no_higher =
     (0, bad-here width texts field fields column columns bad e, each)
   where
-    each : (place : ℕ) (other : BadCell) → IsBadAt width texts (field ∷ fields) (column ∷ columns) place other
-        → (bad.rank ≤ other.rank) × (bad.rank ≡ other.rank → 0 ≤ place)
+    each : (index : ℕ) (other : BadCell) → IsBadAt width texts (field ∷ fields) (column ∷ columns) index other
+        → (bad.rank ≤ other.rank) × (bad.rank ≡ other.rank → 0 ≤ index)
     each zero other g =
         let same : bad.rank ≡ other.rank =
         ap (λ (b : BadCell). b.rank)
         (same-bad (cell_or_bad field (rank_of width column) (text_in texts column)) bad other e
         (here-bad width texts field fields column columns other g)) in
         (omega arith, λ equal. omega arith)
-    each (suc place) other g = let r =
-        h.2 place other (bad-down width texts field fields column columns place other g) in
+    each (suc index) other g = let r =
+        h.2 index other (bad-down width texts field fields column columns index other g) in
         (omega (arith, r.0), λ same. omega arith)
 
 first-of-both : (width : ℕ) (texts : List (List ℕ)) (field : FieldValue) (fields : List FieldValue)
@@ -295,16 +295,16 @@ first-step width texts field fields column columns (Err first) (Err later) bad o
     subst (λ b. IsFirstBad width texts (field ∷ fields) (column ∷ columns) b) same
     (first-of-both width texts field fields column columns first later one (after later rest))
 
-told-first : (width : ℕ) (texts : List (List ℕ)) (fields : List FieldValue) (columns : List (Option ℕ))
+reported-first : (width : ℕ) (texts : List (List ℕ)) (fields : List FieldValue) (columns : List (Option ℕ))
     (bad : BadCell) → cells_reading width texts fields columns ≡ Err bad → IsFirstBad width texts fields columns bad
-told-first width texts [] columns bad e = cc
-told-first width texts (field ∷ fields) [] bad e = cc
-told-first width texts (field ∷ fields) (column ∷ columns) bad e =
+reported-first width texts [] columns bad e = cc
+reported-first width texts (field ∷ fields) [] bad e = cc
+reported-first width texts (field ∷ fields) (column ∷ columns) bad e =
     first-step width texts field fields column columns
     (cell_or_bad field (rank_of width column) (text_in texts column)) (cells_reading width texts fields columns)
-    bad refl refl (told-first width texts fields columns) e
+    bad refl refl (reported-first width texts fields columns) e
 
--- ---- there is one such cell
+-- ---- there is at most one such cell
 
 abbrev made : ℕ → Text → CellFault → BadCell
 made rank name fault = record { rank = rank; name = name; fault = fault }
@@ -315,11 +315,11 @@ same-parts bad other rank name fault =
     ap (λ r. made r bad.name bad.fault) rank ∙ ap (λ n. made other.rank n bad.fault) name
     ∙ ap (made other.rank other.name) fault
 
-same-at : (width : ℕ) (texts : List (List ℕ)) (fields : List FieldValue) (columns : List (Option ℕ)) (place : ℕ)
-    (bad other : BadCell) → IsBadAt width texts fields columns place bad
-    → IsBadAt width texts fields columns place other → bad ≡ other
-same-at width texts fields columns place bad other h g =
-    let same : g.field ≡ h.field = cc (g.stands, h.stands) in
+same-at : (width : ℕ) (texts : List (List ℕ)) (fields : List FieldValue) (columns : List (Option ℕ)) (index : ℕ)
+    (bad other : BadCell) → IsBadAt width texts fields columns index bad
+    → IsBadAt width texts fields columns index other → bad ≡ other
+same-at width texts fields columns index bad other h g =
+    let same : g.field ≡ h.field = cc (g.at_index, h.at_index) in
     let from : g.column ≡ h.column = cc (g.is_read, h.is_read) in
     let fails : Fails h.field (text_in texts h.column) other.fault =
     subst (λ f. Fails f (text_in texts h.column) other.fault) same
@@ -338,20 +338,20 @@ one-first width texts fields columns bad other h g =
     let before = g.2 h.0 bad h.1 in
     let same : g.0 ≡ h.0 = omega arith in
     same-at width texts fields columns h.0 bad other h.1
-    (subst (λ place. IsBadAt width texts fields columns place other) same g.1)
+    (subst (λ index. IsBadAt width texts fields columns index other) same g.1)
 
-first-told : (width : ℕ) (texts : List (List ℕ)) (fields : List FieldValue) (columns : List (Option ℕ))
+first-reported : (width : ℕ) (texts : List (List ℕ)) (fields : List FieldValue) (columns : List (Option ℕ))
     (bad : BadCell) (read : Result (List Cell) BadCell) → cells_reading width texts fields columns ≡ read
     → IsFirstBad width texts fields columns bad → read ≡ Err bad
-first-told width texts fields columns bad (Ok cells) e h =
+first-reported width texts fields columns bad (Ok cells) e h =
     absurd (none-bad width texts fields columns cells e h.0 bad h.1)
-first-told width texts fields columns bad (Err told) e h =
-    ap Err (one-first width texts fields columns told bad (told-first width texts fields columns told e) h)
+first-reported width texts fields columns bad (Err reported) e h =
+    ap Err (one-first width texts fields columns reported bad (reported-first width texts fields columns reported e) h)
 
 pub first-bad : (width : ℕ) (texts : List (List ℕ)) (fields : List FieldValue) (columns : List (Option ℕ))
     (bad : BadCell) → (cells_reading width texts fields columns ≡ Err bad) ↔ IsFirstBad width texts fields columns bad
 first-bad width texts fields columns bad = (
-  told-first width texts fields columns bad,
-  first-told width texts fields columns bad
+  reported-first width texts fields columns bad,
+  first-reported width texts fields columns bad
       (cells_reading width texts fields columns) refl,
 )

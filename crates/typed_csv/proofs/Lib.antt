@@ -2,9 +2,9 @@ pub mod ChunkLemmas
 pub mod ColumnLemmas
 pub mod HeaderLemmas
 pub mod LawLemmas
-pub mod LoadingLemmas
+pub mod LoaderLemmas
 pub mod PieceLemmas
-pub mod PlaceLemmas
+pub mod PositionLemmas
 pub mod ReceivedLemmas
 pub mod RecordLemmas
 pub mod RowLemmas

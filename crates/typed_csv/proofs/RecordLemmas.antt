@@ -6,7 +6,7 @@ use Rattle.csv.specs.Reading.{default_config, records, records_from, records_nex
 use Rattle.csv.specs.declared.parser.State.{State}
 use Rattle.csv.specs.declared.parser.State.TheVariants as st
 
--- the records of the bytes, from a state with the fields and the bytes of the field at hand
+-- the records of the bytes, from a state with the fields and the bytes of the current field so far
 unfoldable pub all_records : State → List (List ℕ) → List ℕ → List ℕ → List (List (List ℕ))
 all_records s fields field [] = if ends_at_end s then (fields ++ field ∷ []) ∷ [] else []
 all_records s fields field (c ∷ rest) =
@@ -34,7 +34,7 @@ at_byte : (b : Bool) (row : List (List ℕ)) (s : State) (rest : List ℕ) (more
 at_byte true row s rest more next e = refl
 at_byte false row s rest more next e = e
 
--- all records are the next one and then the records behind it
+-- All records are the next one followed by the records after it.
 pub all_records-next : (s : State) (fields : List (List ℕ)) (field bytes : List ℕ)
     → all_records s fields field bytes ≡ records_next (λ t rest. all_records t [] [] rest)
     (next_record default_config s fields field bytes)
@@ -48,9 +48,9 @@ all_records-next s fields field (c ∷ rest) =
     (all_records-next (step default_config s c).0 (fields_after (step default_config s c).1 fields field)
     (field_after (step default_config s c).1 c field) rest)
 
--- ---- a record takes bytes, or is the last
+-- ---- a record takes bytes, or is the last one
 
--- what is behind a record is shorter than the bytes, or nothing
+-- The bytes after a record are fewer than before, or none.
 Shortens : List ℕ → Option Read → Type 0
 Shortens bytes None = Unit {0}
 Shortens bytes (Some p) = (length p.2 < length bytes) ⊎ ((p.1 ≡ st.StartRecord) × (p.2 ≡ []))
@@ -84,21 +84,21 @@ next_shortens s fields field (c ∷ rest) =
     (next_shortens (step default_config s c).0 (fields_after (step default_config s c).1 fields field)
     (field_after (step default_config s c).1 c field) rest)
 
--- ---- as many records as there are bytes are all
+-- ---- there are at most as many records as bytes
 
 none_from : (n : ℕ) → records_from default_config n st.StartRecord [] ≡ []
 unfolding records_from next_record
 none_from zero = refl
 none_from (suc n) = refl
 
-behind_same : (n : ℕ) (bytes : List ℕ) (next : Option Read) → length bytes < suc n → Shortens bytes next
+after_same : (n : ℕ) (bytes : List ℕ) (next : Option Read) → length bytes < suc n → Shortens bytes next
     → ((s : State) (rest : List ℕ) → length rest < n → records_from default_config n s rest ≡ records_at s rest)
     → records_next (records_from default_config n) next ≡ records_next records_at next
 unfolding Shortens records_at all_records
-behind_same n bytes None h k same = refl
-behind_same n bytes (Some p) h (inl k) same =
+after_same n bytes None h k same = refl
+after_same n bytes (Some p) h (inl k) same =
     ap (λ (more : List (List (List ℕ))). p.0 ∷ more) (same p.1 p.2 (omega arith))
-behind_same n bytes (Some p) h (inr k) same =
+after_same n bytes (Some p) h (inr k) same =
     ap (λ (more : List (List (List ℕ))). p.0 ∷ more) (rw (k.0, k.1) (none_from n))
 
 pub records_from-all : (n : ℕ) (s : State) (bytes : List ℕ) → length bytes < n
@@ -106,7 +106,7 @@ pub records_from-all : (n : ℕ) (s : State) (bytes : List ℕ) → length bytes
 unfolding records_from records_at
 records_from-all zero s bytes h = absurd (omega arith)
 records_from-all (suc n) s bytes h =
-    behind_same n bytes (next_record default_config s [] [] bytes) h (next_shortens s [] [] bytes) (records_from-all n)
+    after_same n bytes (next_record default_config s [] [] bytes) h (next_shortens s [] [] bytes) (records_from-all n)
     ∙ sym (all_records-next s [] [] bytes)
 
 pub records-all : (text : List ℕ) → records default_config text ≡ all_records st.StartRecord [] [] text

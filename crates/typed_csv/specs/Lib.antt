@@ -3,10 +3,10 @@ pub mod Chunk
 pub mod Faults
 pub mod Header
 pub mod Laws
-pub mod Loading
+pub mod LoaderValue
 pub mod Messages
 pub mod Pieces
-pub mod Places
-pub mod Reading
+pub mod Positions
+pub mod ReaderValue
 pub mod Records
 pub mod Rows

@@ -1,10 +1,10 @@
--- What is told of a fault.
+-- The messages of errors.
 use Rattle.std.specs.Prelude.{ℕ, List, ◌++◌, codes, decimal}
 use Rattle.table_schema.specs.Messages.{cell_fault_text}
 use Rattle.typed_csv.specs.declared.fault.LoadFault.{LoadFault}
 use Rattle.typed_csv.specs.declared.fault.LoadFault.TheVariants as fault
 
--- Columns and rows are counted from 1, rows behind the header, which is row 0.
+-- Columns and rows are counted from 1, and the header is row 0.
 abbrev pub load_fault_text : LoadFault → List ℕ
 load_fault_text (fault.Header column) = codes "header " ++ decimal column
 load_fault_text (fault.Width row) = codes "row " ++ decimal row ++ codes ": width"

@@ -1,33 +1,33 @@
--- What a reader of records keeps of the bytes that a source gave.
+-- The part of a source's bytes that a reader of records keeps.
 use Rattle.std.specs.Prelude.{◌≡◌, ◌⊎◌, ◌≤◌, ℕ, Bool, true, false, List, [], ◌++◌, length, take, Option, Some, None}
-use Rattle.typed_csv.specs.declared.scan.Place.{Place}
-use Rattle.typed_csv.specs.declared.scan.Place.TheVariants as place
-use Rattle.typed_csv.specs.Reading.{text_records}
-use Rattle.typed_csv.specs.Places.{has_start, place_after}
+use Rattle.typed_csv.specs.declared.scan.Position.{Position}
+use Rattle.typed_csv.specs.declared.scan.Position.TheVariants as position
+use Rattle.typed_csv.specs.ReaderValue.{text_records}
+use Rattle.typed_csv.specs.Positions.{has_start, position_after}
 
--- The records that were read and not yet given, the bytes behind them, and whether a byte order mark may still come.
+-- The complete records that weren't returned yet, the bytes after them, and whether a byte order mark may still come.
 pub record Kept : Type 0 where
   pub ready : List (List (List ℕ))
   pub held : List ℕ
   pub is_fresh : Bool
 
--- the records that are at hand
+-- the complete records that weren't returned yet
 abbrev pub ready_records : Option (List (List (List ℕ))) → List (List (List ℕ))
 ready_records None = []
 ready_records (Some records) = records
 
--- the records of what is kept, with the bytes behind it
+-- the records of what is kept and of the bytes that follow
 abbrev pub records_with : Kept → List ℕ → List (List (List ℕ))
 records_with kept rest = kept.ready ++ text_records kept.is_fresh (kept.held ++ rest)
 
--- So many of the bytes that are held were scanned, end at this place of their record, and are of one record. Where a
--- byte order mark may still come, none were.
-pub record IsScanned (held : List ℕ) (scanned : ℕ) (at : Place) (is_fresh : Bool) : Type 0 where
+-- The scanned bytes are the first `scanned` of the held ones. They end at the position `at` of their record, and no
+-- record ends in them. If a byte order mark may still come, none was scanned.
+pub record IsScanned (held : List ℕ) (scanned : ℕ) (at : Position) (is_fresh : Bool) : Type 0 where
   pub within : scanned ≤ length held
-  pub stands : at ≡ place_after place.RecordStart (take scanned held)
-  pub none : has_start place.RecordStart (take scanned held) ≡ false
+  pub at_position : at ≡ position_after position.RecordStart (take scanned held)
+  pub none : has_start position.RecordStart (take scanned held) ≡ false
   pub fresh : is_fresh ≡ true → scanned ≡ 0
 
--- There is room for a piece once one was asked for.
+-- The room is empty before the first read, and has the size of a piece afterwards.
 abbrev pub IsRoom : List ℕ → Type 0
 IsRoom room = (length room ≡ 0) ⊎ (length room ≡ 65536)

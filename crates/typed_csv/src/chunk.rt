@@ -1,4 +1,4 @@
-//! The records of bytes that are at hand.
+//! Reads the records of bytes in memory.
 ghost use Rattle.std.specs.Prelude.{◌≡◌, List, ℕ, [], ◌∷◌, true, false, Ok, IfOk};
 ghost use Rattle.csv.specs.Reading.{default_config, records};
 ghost use Rattle.csv.specs.Records.{fields_of};
@@ -9,7 +9,7 @@ use std::alloc::{AllocError, Global};
 use std::io::Cursor;
 use std::marker::Model;
 
-/// What is read next.
+/// The result of reading a record.
 #[derive(Clone, Copy, Debug, PartialEq, Eq)]
 pub(crate) enum Next {
     /// A record, whose fields are UTF-8.
@@ -20,7 +20,7 @@ pub(crate) enum Next {
     End,
 }
 
-/// Whole records in memory, which contracts see as the list of those that are left.
+/// Complete records in memory. Contracts see the list of the records that are left.
 #[derive(Drop)]
 pub(crate) struct Chunk {
     reader: Reader<Cursor<Vec<u8>>>,
@@ -41,11 +41,12 @@ impl Model for Chunk {
 }
 
 impl Chunk {
-    /// The records of these bytes. A byte order mark in them is a part of the first field.
+    /// The records of these bytes. A byte order mark is a part of the first field.
     pub(crate) fn new(alloc: Global, bytes: &[u8]) -> Result<Chunk, AllocError>
         ensures { IfOk result (λ chunk. chunk ≡ records default_config bytes.now) }
     {
-        // An empty line is no record, and behind it `csv` looks for no byte order mark.
+        // `csv` drops a byte order mark only at the start, and an empty line isn't a record: so a line feed comes
+        // first.
         let mut text = Vec::with_capacity(alloc, bytes.len().saturating_add(1))?;
         text.push(b'\n')?;
         text.extend_from_slice(bytes)?;

@@ -1,4 +1,4 @@
-//! Why no row is given.
+//! The errors of loading rows.
 
 use portal_base::outside::Failed;
 use portal_base::text::Text;
@@ -7,23 +7,23 @@ use std::error::Error;
 use std::fmt;
 use table_schema::CellFault;
 
-/// Why a loader gives no row. Columns and rows are counted from 1, rows after the header.
+/// The error of a loader. Columns and rows are counted from 1, and row 1 is the first row after the header.
 #[derive(Debug, Drop, PartialEq, Eq)]
 pub enum LoadFault {
-    /// The column has a name that isn't empty and is no field's, or is that of an earlier column. Where there is no
-    /// header, it is the first column.
+    /// The column has an invalid name: a text other than the empty one that isn't the name of a field, or that an
+    /// earlier column has. If there is no header, the column is 1.
     Header(u32),
-    /// The row has another number of columns than the header.
+    /// The count of columns in the row differs from that of the header.
     Width(u64),
-    /// The text of this field in the row is no cell.
+    /// The text of the field with this name isn't a valid cell.
     Cell(u64, Text, CellFault),
-    /// The row, or at 0 the header, isn't UTF-8.
+    /// The row isn't UTF-8. Row 0 is the header.
     NotUtf8(u64),
     /// The source failed.
     ReadFault,
     /// The source gave more than 2^40 bytes.
     TooLong,
-    /// An earlier call answered a fault, or memory ran out in it.
+    /// An earlier call returned an error.
     Spent,
     OutOfMemory,
 }

@@ -1,8 +1,8 @@
-//! The header: which column each field is read from.
+//! Reads the header: it names the column that each field is read from.
 ghost use Rattle.std.specs.Prelude.{◌≡◌, ◌<◌, ◌+◌, ℕ, List, take, length, Err};
 ghost use Rattle.csv.specs.Records.{fields_of};
 ghost use Rattle.typed_csv.specs.Faults.{Gives, IsRefused};
-ghost use Rattle.typed_csv.specs.Header.{is_field_name, is_in_order, bad_column, column_of, header_layout};
+ghost use Rattle.typed_csv.specs.Header.{is_field_name, is_valid_column, bad_column, column_of, header_layout};
 ghost use Rattle.table_schema.specs.Truth.{is_among};
 ghost use Rattle.typed_csv.specs.Records.{text_at};
 
@@ -16,23 +16,23 @@ use table_schema::Field;
 /// The columns of a file.
 #[derive(Drop)]
 pub(crate) struct Layout {
-    /// How many there are.
+    /// The count of columns.
     pub(crate) width: usize,
-    /// For each field of the schema the column that it is read from, counted from 0, if it has one.
+    /// For each field of the schema, the column that it is read from, counted from 0, or none if it has no column.
     pub(crate) columns: Seq<Option<usize>>,
 }
 
-/// The field of a record at a place, or the empty text where it has none there.
-pub(crate) fn text_at(row: &StringRecord, place: usize) -> &str
-    ensures { result.now ≡ text_at (fields_of row.now) place }
+/// The field of a record at an index, or the empty text if there is none.
+pub(crate) fn text_at(row: &StringRecord, index: usize) -> &str
+    ensures { result.now ≡ text_at (fields_of row.now) index }
 {
-    match row.get(place) {
+    match row.get(index) {
         Some(text) => text,
         None => "",
     }
 }
 
-/// Reads the names of the columns.
+/// Reads the layout from the names of the columns. Returns `Header` if a column has an invalid name.
 pub(crate) fn layout_of(
     alloc: Global,
     fields: &[Field],
@@ -55,7 +55,7 @@ pub(crate) fn layout_of(
     })
 }
 
-// The fault of a column, counted from 0. One that a `u32` can't tell is want of memory.
+// The error of a column, counted from 0. If its number from 1 doesn't fit a `u32`, the error is `OutOfMemory`.
 fn header_fault(column: usize) -> LoadFault
     ensures { IsRefused {Y = Layout} result (Err (LoadFault.Header (column + 1))) }
 {
@@ -65,23 +65,23 @@ fn header_fault(column: usize) -> LoadFault
     }
 }
 
-// The first column, counted from 0, whose name is out of order.
+// The first column with an invalid name, counted from 0.
 #[tactic(auto, using(crate::proofs::HeaderLemmas::bad_columns))]
 fn bad_column(fields: &[Field], names: &StringRecord) -> Option<usize>
     ensures { result ≡ bad_column fields.now (fields_of names.now) }
 {
     for column in 0..names.len() {
-        if !is_in_order(fields, names, column) {
+        if !is_valid_column(fields, names, column) {
             return Some(column);
         }
     }
     None
 }
 
-// Whether the column has no name, or that of a field and of no earlier column.
-fn is_in_order(fields: &[Field], names: &StringRecord, column: usize) -> bool
+// Whether the name of the column is valid: it is empty, or it is the name of a field and of no earlier column.
+fn is_valid_column(fields: &[Field], names: &StringRecord, column: usize) -> bool
     requires { column < length (fields_of names.now) }
-    ensures { result ≡ is_in_order fields.now (take column (fields_of names.now))
+    ensures { result ≡ is_valid_column fields.now (take column (fields_of names.now))
         (text_at (fields_of names.now) column) }
 {
     let name = text_at(names, column);
@@ -94,7 +94,7 @@ fn is_field_name(fields: &[Field], name: &str) -> bool
     fields.iter().any(|field| field.name().as_str() == name)
 }
 
-// Whether a column before this one has the name.
+// Whether an earlier column has the name.
 #[tactic(auto, using(crate::proofs::HeaderLemmas::earlier))]
 fn is_earlier(names: &StringRecord, column: usize, name: &str) -> bool
     requires { column < length (fields_of names.now) }
@@ -108,7 +108,7 @@ fn is_earlier(names: &StringRecord, column: usize, name: &str) -> bool
     false
 }
 
-// The first column of this name.
+// The first column with this name, counted from 0.
 #[tactic(auto, using(crate::proofs::HeaderLemmas::columns))]
 fn column_of(names: &StringRecord, name: &Text) -> Option<usize>
     ensures { result ≡ column_of (fields_of names.now) name.now }

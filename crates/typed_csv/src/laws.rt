@@ -4,24 +4,24 @@ ghost use Rattle.table_schema.specs.Field.{FieldValue};
 ghost use Rattle.table_schema.specs.declared.cell.Cell.{Cell};
 ghost use Rattle.typed_csv.specs.declared.row.BadCell.{BadCell};
 ghost use Rattle.typed_csv.specs.Header.{bad_column};
-ghost use Rattle.typed_csv.specs.Laws.{AreCellsOf, IsFirstBad, IsFirstOutOfOrder};
+ghost use Rattle.typed_csv.specs.Laws.{AreCellsOf, IsFirstBad, IsFirstInvalidColumn};
 ghost use Rattle.typed_csv.specs.Rows.{cells_reading};
 
-/// The column that is told of a header is the first one out of order, and no other is told.
-pub fn the_first_column_out_of_order_is_told()
+/// The column that a header's error names is the first column with an invalid name.
+pub fn the_header_fault_names_the_first_invalid_column()
     ensures { (fields : List FieldValue) (names : List (List ℕ)) (column : ℕ) →
-        ((bad_column fields names ≡ Some column) ↔ IsFirstOutOfOrder fields names column) }
+        ((bad_column fields names ≡ Some column) ↔ IsFirstInvalidColumn fields names column) }
 {}
 
-/// The bad cell that is told of a record is the one that is tried first, and no other is told.
-pub fn the_first_bad_cell_is_told()
+/// The bad cell that the error of a record names is the one that is tried first.
+pub fn the_cell_fault_is_that_of_the_first_bad_cell()
     ensures { (width : ℕ) (texts : List (List ℕ)) (fields : List FieldValue) (columns : List (Option ℕ))
         (bad : BadCell) →
         ((cells_reading width texts fields columns ≡ Err bad) ↔ IsFirstBad width texts fields columns bad) }
 {}
 
-/// The cells of a record are what the fields read of the texts in their columns, in the schema's order.
-pub fn cells_stand_in_the_schema_order()
+/// The cells of a record are those that the fields read from the texts in their columns, in the schema's order.
+pub fn cells_are_in_the_schema_order()
     ensures { (width : ℕ) (texts : List (List ℕ)) (fields : List FieldValue) (columns : List (Option ℕ))
         (cells : List Cell) →
         length fields ≡ length columns →

@@ -1,12 +1,12 @@
-//! The loader: the rows of a source, one after the other.
+//! The loader: reads the rows of a source in order.
 ghost use Rattle.std.specs.Prelude.{◌≡◌, ◌↔◌, ◌≢◌, ◌<◌, ◌≤◌, ◌^◌, ℕ, List, length, Ok, Err, None, All, IfOk, IfErr};
 ghost use Rattle.std.specs.Prelude.{IfSome};
 ghost use Rattle.portal_base.specs.Outside.{Gives, IsAtEnd, Rose};
 ghost use Rattle.table_schema.specs.Printed.{IsValue};
 ghost use Rattle.typed_csv.specs.Calls.{RefusesRecords, TakesHeader};
-ghost use Rattle.typed_csv.specs.Loading.{Answers, Begins, IsGiven, IsHeaderFault, IsLayout, IsOfSameFile, IsRow};
-ghost use Rattle.typed_csv.specs.Loading.{IsRowFault, IsTold, RefusesHeader, number_after, stage_after};
-ghost use Rattle.typed_csv.specs.Reading.{Receives, records_ahead};
+ghost use Rattle.typed_csv.specs.LoaderValue.{Answers, Begins, IsGiven, IsHeaderFault, IsLayout, IsOfSameFile, IsRow};
+ghost use Rattle.typed_csv.specs.LoaderValue.{IsRowFault, IsObservable, RefusesHeader, number_after, stage_after};
+ghost use Rattle.typed_csv.specs.ReaderValue.{Receives, remaining_records};
 
 use crate::chunk::Next;
 use crate::fault::LoadFault;
@@ -20,21 +20,21 @@ use std::alloc::Global;
 use std::marker::Model;
 use table_schema::{Cell, Field, Schema};
 
-/// How far a loader is.
+/// The state of a loader.
 #[derive(Clone, Copy, Debug, PartialEq, Eq)]
 pub(crate) enum Stage {
-    /// Rows may come.
+    /// Rows may be left.
     Reading,
-    /// No row was left.
+    /// The end was reached.
     Ended,
-    /// A call answered a fault, or memory ran out in it.
+    /// A call returned an error.
     Spent,
 }
 
 /// Reads the rows of a source of CSV (RFC 4180) by a schema of Table Schema v1. The records are those that the crate
-/// `csv` reads with its default settings, save that they may differ in width. A byte order mark at the start is
-/// dropped. The first record is the header; a column without a name is skipped, and a field without a column reads
-/// the empty text.
+/// `csv` reads with its default settings, except that their widths may differ. A byte order mark at the start is
+/// dropped. The first record is the header. A column without a name is skipped, and a field without a column reads the
+/// empty text.
 #[derive(Drop)]
 pub struct Loader<S: Source> {
     rows: RowReader<S>,
@@ -42,10 +42,10 @@ pub struct Loader<S: Source> {
 }
 
 impl<S: Source> Model for Loader<S> {
-    ghost use Rattle.typed_csv.specs.Calls.{rows_ahead};
-    ghost use Rattle.typed_csv.specs.Loading.{IsSteady, Loading};
+    ghost use Rattle.typed_csv.specs.Calls.{remaining_rows};
+    ghost use Rattle.typed_csv.specs.LoaderValue.{IsConsistentLoader, LoaderValue};
 
-    ghost Value = { Loading S };
+    ghost Value = { LoaderValue S };
 
     ghost view = { λ l. record {
       source = l.rows.records.source;
@@ -54,19 +54,20 @@ impl<S: Source> Model for Loader<S> {
       layout = l.rows.layout;
       number = l.rows.number;
       stage = l.stage;
-      ahead = rows_ahead S.to_come l.stage l.rows;
+      remaining = remaining_rows S.to_come l.stage l.rows;
     } };
 
-    ghost invariant = { λ l. IsSteady l.stage l.rows.records.given (S.to_come l.rows.records.source) };
+    ghost invariant = { λ l. IsConsistentLoader l.stage l.rows.records.given (S.to_come l.rows.records.source) };
 }
 
 impl<S: Source> Loader<S> {
-    /// Reads the header. A refusal hands the source back, as far as it was read.
+    /// Reads the header. An error comes with the source, as far as it was read.
     ///
-    /// The faults are `NotUtf8(0)`, `Header`, `ReadFault`, `TooLong` and `OutOfMemory`.
+    /// The errors are `NotUtf8(0)`, `Header`, `ReadFault`, `TooLong` and `OutOfMemory`.
     pub fn start(alloc: Global, schema: Schema, source: S) -> Result<Loader<S>, (LoadFault, S)>
-        ensures begins { IfOk result (λ loader. Begins schema.fields (S.to_come source) loader.ahead) }
-        ensures told { IfOk result (λ loader. IsTold loader.stage (S.to_come loader.source) loader.ahead) }
+        ensures begins { IfOk result (λ loader. Begins schema.fields (S.to_come source) loader.remaining) }
+        ensures observable { IfOk result
+            (λ loader. IsObservable loader.stage (S.to_come loader.source) loader.remaining) }
         ensures stage { IfOk result
             (λ loader. (loader.fields ≡ schema.fields) × (loader.number ≡ 0) × (loader.stage ≡ Stage.Reading)) }
         ensures header { IfOk result (λ loader. IsLayout schema.fields loader.layout) }
@@ -103,14 +104,14 @@ impl<S: Source> Loader<S> {
         }
     }
 
-    /// The next row, with a cell for each field in the schema's order, or none at the end.
+    /// Reads the next row, with a cell for each field in the schema's order. Returns none at the end.
     ///
-    /// In a row the faults are tried in this order: `NotUtf8`, `Width`, `Cell` of the first bad cell in the header's
-    /// order, and last of fields without a column in the schema's order. `ReadFault`, `TooLong` and `OutOfMemory` may
-    /// come at any row. After a fault each call answers `Spent`.
+    /// The errors of a row are tried in this order: `NotUtf8`, `Width`, and `Cell` of the first bad cell. Cells are
+    /// tried in the order of the header's columns, and those of fields without a column last, in the schema's order.
+    /// `ReadFault`, `TooLong` and `OutOfMemory` may come at any row. After an error each call returns `Spent`.
     pub fn next(&mut self) -> Result<Option<Seq<Cell>>, LoadFault>
-        ensures answers { Answers self.old.ahead result self.new.ahead }
-        ensures told { IsTold self.new.stage (S.to_come self.new.source) self.new.ahead }
+        ensures answers { Answers self.old.remaining result self.new.remaining }
+        ensures observable { IsObservable self.new.stage (S.to_come self.new.source) self.new.remaining }
         ensures row { IfOk result (λ row. IfSome row (IsRow self.old.fields self.old.layout self.old.number)) }
         ensures value { IfOk result (λ row. IfSome row (λ cells. All IsValue cells)) }
         ensures cause { IfErr result (IsRowFault self.old.fields self.old.layout self.old.number) }
@@ -119,13 +120,13 @@ impl<S: Source> Loader<S> {
         ensures stage { self.new.stage ≡ stage_after result }
         ensures at_end { result ≡ Ok None → IsAtEnd (S.to_come self.new.source) }
         ensures ended { self.old.stage ≡ Stage.Ended → result ≡ Ok None }
-        ensures still { self.old.stage ≢ Stage.Reading → self.new ≡ self.old }
+        ensures unchanged { self.old.stage ≢ Stage.Reading → self.new ≡ self.old }
         ensures kept { IsOfSameFile self.old self.new }
         ensures received { IsGiven S.to_come self.old self.new }
         ensures failed { result ≡ Err LoadFault.ReadFault → Rose (S.faults self.old.source) (S.faults self.new.source) }
         ensures counts { S.faults self.old.source ≤ S.faults self.new.source }
         ensures loan { S.loan self.new.source ≡ S.loan self.old.source }
-        ensures much { result ≢ Err LoadFault.Spent → ((result ≡ Err LoadFault.TooLong) ↔ (2 ^ 40 < self.new.given)) }
+        ensures limit { result ≢ Err LoadFault.Spent → ((result ≡ Err LoadFault.TooLong) ↔ (2 ^ 40 < self.new.given)) }
     {
         match self.stage {
             Stage::Reading => {}
@@ -149,7 +150,7 @@ impl<S: Source> Loader<S> {
     }
 }
 
-// The columns of the first record.
+// Reads the layout from the first record.
 fn read_header<S: Source>(
     alloc: Global,
     fields: &[Field],
@@ -157,9 +158,9 @@ fn read_header<S: Source>(
     row: &mut StringRecord,
 ) -> Result<Layout, LoadFault>
     ensures begins { IfOk result
-        (λ layout. TakesHeader fields.now (records_ahead S.to_come records.old) layout
-        (records_ahead S.to_come records.new)) }
-    ensures refused { IfErr result (RefusesRecords fields.now (records_ahead S.to_come records.old)) }
+        (λ layout. TakesHeader fields.now (remaining_records S.to_come records.old) layout
+        (remaining_records S.to_come records.new)) }
+    ensures refused { IfErr result (RefusesRecords fields.now (remaining_records S.to_come records.old)) }
     ensures header { IfOk result (IsLayout fields.now) }
     ensures cause { IfErr result (IsHeaderFault fields.now) }
     ensures received { Receives S.to_come records.old records.new }
@@ -167,7 +168,7 @@ fn read_header<S: Source>(
         → Rose (S.faults records.old.source) (S.faults records.new.source) }
     ensures counts { S.faults records.old.source ≤ S.faults records.new.source }
     ensures loan { S.loan records.new.source ≡ S.loan records.old.source }
-    ensures much { (result ≡ Err LoadFault.TooLong) ↔ (2 ^ 40 < records.new.given) }
+    ensures limit { (result ≡ Err LoadFault.TooLong) ↔ (2 ^ 40 < records.new.given) }
 {
     match records.next(row)? {
         Next::Record => layout_of(alloc, fields, row),

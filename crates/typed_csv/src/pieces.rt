@@ -1,14 +1,14 @@
-//! The bytes that a source gave, cut where records end.
+//! Splits the bytes of a source where records end.
 ghost use Rattle.std.specs.Prelude.{◌≡◌, ◌≤◌, ℕ, List, [], ◌∷◌, ◌++◌, length, take, drop, true, false, Some, Ok, OnOk};
 ghost use Rattle.csv.specs.Reading.{strip_bom};
 ghost use Rattle.csv.specs.Records.{fields_of};
 ghost use Rattle.typed_csv.specs.Records.{is_text};
-ghost use Rattle.typed_csv.specs.Reading.{text_records, BeginsNotText};
+ghost use Rattle.typed_csv.specs.ReaderValue.{text_records, BeginsNotText};
 ghost use Rattle.typed_csv.specs.Pieces.{records_with};
-ghost use Rattle.typed_csv.specs.Places.{has_start, IsHeldBack, place_after};
+ghost use Rattle.typed_csv.specs.Positions.{has_start, IsIncomplete, position_after};
 
 use crate::chunk::{Chunk, Next};
-use crate::scan::{Place, scan};
+use crate::scan::{Position, scan};
 use csv::StringRecord;
 use std::alloc::{AllocError, Global};
 use std::marker::Model;
@@ -16,19 +16,19 @@ use std::marker::Model;
 /// The bytes of a byte order mark.
 const BYTE_ORDER_MARK: [u8; 3] = [0xEF, 0xBB, 0xBF];
 
-/// What is kept of the bytes that came.
+/// The part of the bytes so far that is still needed.
 #[derive(Drop)]
 pub(crate) struct Pieces {
     alloc: Global,
-    /// Whole records.
+    /// The complete records.
     ready: Option<Chunk>,
-    /// The bytes behind them.
+    /// The bytes after the complete records.
     held: Vec<u8>,
-    /// How many of those were scanned.
+    /// The count of these bytes that were scanned.
     scanned: usize,
-    /// Where the scanned ones end in their record.
-    place: Place,
-    /// A byte order mark may still come.
+    /// The position in their record at which the scanned bytes end.
+    position: Position,
+    /// Whether a byte order mark may still come.
     is_fresh: bool,
 }
 
@@ -39,11 +39,11 @@ impl Model for Pieces {
 
     ghost view = { λ p. record { ready = ready_records p.ready; held = p.held.items; is_fresh = p.is_fresh } };
 
-    ghost invariant = { λ p. IsScanned p.held.items p.scanned p.place p.is_fresh };
+    ghost invariant = { λ p. IsScanned p.held.items p.scanned p.position p.is_fresh };
 }
 
 impl Pieces {
-    /// Nothing came.
+    /// The state before the first byte.
     pub(crate) fn new(alloc: Global) -> Pieces
         ensures { result ≡ record { ready = []; held = []; is_fresh = true } }
     {
@@ -52,12 +52,12 @@ impl Pieces {
             ready: None,
             held: Vec::new(alloc),
             scanned: 0,
-            place: Place::RecordStart,
+            position: Position::RecordStart,
             is_fresh: true,
         }
     }
 
-    /// The next of the whole records.
+    /// Takes the next one of the complete records.
     pub(crate) fn take(&mut self, row: &mut StringRecord) -> Result<Next, AllocError>
         ensures took { result ≡ Ok Next.Record → self.old.ready ≡ fields_of row.new ∷ self.new.ready }
         ensures text { result ≡ Ok Next.Record → is_text (fields_of row.new) ≡ true }
@@ -76,12 +76,12 @@ impl Pieces {
         Ok(next)
     }
 
-    /// Adds a piece of the source. No whole record is left among the bytes held.
+    /// Adds a piece of the source. Afterwards the held bytes have no complete record.
     pub(crate) fn add(&mut self, piece: &[u8]) -> Result<(), AllocError>
         requires { self.old.ready ≡ [] }
         ensures records { OnOk result
             ((rest : List ℕ) → records_with self.new rest ≡ records_with self.old (piece.now ++ rest)) }
-        ensures held { OnOk result (IsHeldBack self.new.is_fresh self.new.held) }
+        ensures held { OnOk result (IsIncomplete self.new.is_fresh self.new.held) }
     {
         self.extend(piece)?;
         if !self.is_fresh {
@@ -94,7 +94,7 @@ impl Pieces {
         self.cut()
     }
 
-    // Puts a piece behind the bytes held.
+    // Appends a piece to the held bytes.
     fn extend(&mut self, piece: &[u8]) -> Result<(), AllocError>
         ensures held { OnOk result (self.new.held ≡ self.old.held ++ piece.now) }
         ensures ready { self.new.ready ≡ self.old.ready }
@@ -103,7 +103,7 @@ impl Pieces {
         self.held.extend_from_slice(piece)
     }
 
-    // Takes off a byte order mark.
+    // Drops a byte order mark.
     fn strip(&mut self) -> Result<(), AllocError>
         requires { self.old.is_fresh ≡ true }
         ensures held { OnOk result (self.new.held ≡ strip_bom self.old.held) }
@@ -116,48 +116,48 @@ impl Pieces {
         Ok(())
     }
 
-    // Scans the bytes that weren't, and makes those up to the last end of a record whole records.
+    // Scans the bytes that weren't scanned yet, and reads those up to the last end of a record as complete records.
     fn cut(&mut self) -> Result<(), AllocError>
         requires ready { self.old.ready ≡ [] }
         requires fresh { self.old.is_fresh ≡ false }
         ensures records { OnOk result ((rest : List ℕ) → records_with self.new rest ≡ records_with self.old rest) }
-        ensures held { OnOk result (IsHeldBack self.new.is_fresh self.new.held) }
+        ensures held { OnOk result (IsIncomplete self.new.is_fresh self.new.held) }
     {
-        let scanned = scan(self.place, &self.held[self.scanned..]);
-        match scanned.whole {
+        let scanned = scan(self.position, &self.held[self.scanned..]);
+        match scanned.records_end {
             None => {
                 self.scanned = self.held.len();
-                self.place = scanned.place;
+                self.position = scanned.position;
                 Ok(())
             }
             Some(count) => {
                 let end = self.scanned + count;
-                self.split(end, scanned.place)
+                self.split(end, scanned.position)
             }
         }
     }
 
-    // Makes the bytes before `end` whole records. All bytes held end at `place`.
-    fn split(&mut self, end: usize, place: Place) -> Result<(), AllocError>
+    // Reads the bytes before `end` as complete records. The held bytes end at `position`.
+    fn split(&mut self, end: usize, position: Position) -> Result<(), AllocError>
         requires ready { self.old.ready ≡ [] }
         requires fresh { self.old.is_fresh ≡ false }
         requires within { end ≤ length self.old.held }
-        requires ends { place_after Place.RecordStart (take end self.old.held) ≡ Place.RecordStart }
-        requires place { place ≡ place_after Place.RecordStart self.old.held }
-        requires last { has_start Place.RecordStart (drop end self.old.held) ≡ false }
+        requires ends { position_after Position.RecordStart (take end self.old.held) ≡ Position.RecordStart }
+        requires position { position ≡ position_after Position.RecordStart self.old.held }
+        requires last { has_start Position.RecordStart (drop end self.old.held) ≡ false }
         ensures records { OnOk result ((rest : List ℕ) → records_with self.new rest ≡ records_with self.old rest) }
-        ensures held { OnOk result (IsHeldBack self.new.is_fresh self.new.held) }
+        ensures held { OnOk result (IsIncomplete self.new.is_fresh self.new.held) }
     {
-        let (whole, rest) = self.held.split_at(end);
+        let (complete, rest) = self.held.split_at(end);
         let rest = Vec::from_slice(self.alloc, rest)?;
-        self.ready = Some(Chunk::new(self.alloc, whole)?);
+        self.ready = Some(Chunk::new(self.alloc, complete)?);
         self.scanned = rest.len();
         self.held = rest;
-        self.place = place;
+        self.position = position;
         Ok(())
     }
 
-    /// Makes whole records of all bytes held, since no more come.
+    /// Reads all held bytes as complete records, since the source has ended.
     pub(crate) fn finish(&mut self) -> Result<(), AllocError>
         ensures ready { OnOk result (self.new.ready ≡ text_records self.old.is_fresh self.old.held) }
         ensures held { OnOk result (self.new.held ≡ []) }
@@ -169,7 +169,7 @@ impl Pieces {
         self.ready = Some(Chunk::new(self.alloc, self.held.as_slice())?);
         self.held.clear();
         self.scanned = 0;
-        self.place = Place::RecordStart;
+        self.position = Position::RecordStart;
         Ok(())
     }
 }

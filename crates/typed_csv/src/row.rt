@@ -1,4 +1,4 @@
-//! Rows: records read as cells.
+//! Reads records as rows of cells.
 ghost use Rattle.std.specs.Prelude.{◌≡◌, ◌<◌, ℕ, List, length, All, IfOk, Ok, true};
 ghost use Rattle.csv.specs.Records.{fields_of};
 ghost use Rattle.table_schema.specs.Printed.{IsValue};
@@ -15,17 +15,17 @@ use portal_base::text::Text;
 use std::alloc::{AllocError, Global};
 use table_schema::{Cell, CellError, CellFault, Field};
 
-/// A text that is no cell.
+/// A text that isn't a valid cell.
 #[derive(Drop)]
 pub(crate) struct BadCell {
-    /// Its place in the order in which the cells of a row are tried.
+    /// Its rank in the order in which the cells of a row are tried.
     rank: usize,
     /// The name of its field.
     name: Text,
     fault: CellFault,
 }
 
-/// Reads a record whose fields are UTF-8 as the row of this number, counted from 1.
+/// Reads a record whose fields are UTF-8 as the row with this number, counted from 1.
 pub(crate) fn row_of(
     alloc: Global,
     fields: &[Field],
@@ -66,7 +66,7 @@ fn cells_of(
     Ok(read)
 }
 
-// The cell of a text in a field.
+// Reads a text as a cell of the field.
 fn cell_of(
     alloc: Global,
     field: &Field,
@@ -86,7 +86,7 @@ fn cell_of(
     }
 }
 
-// One more cell behind others.
+// Appends a cell, or keeps the bad cell that is tried first.
 fn joined(
     read: Result<Seq<Cell>, BadCell>,
     cell: Result<Cell, BadCell>,
@@ -104,14 +104,14 @@ fn joined(
     }
 }
 
-// The one that is tried first.
+// The bad cell that is tried first.
 fn first_of(bad: BadCell, later: BadCell) -> BadCell
     ensures { result ≡ first_of bad later }
 {
     if later.rank < bad.rank { later } else { bad }
 }
 
-// The text of the column, or the empty one where a field has none.
+// The text in the column, or the empty text if the field has no column.
 fn text_in(row: &StringRecord, column: Option<usize>) -> &str
     ensures { result.now ≡ text_in (fields_of row.now) column }
 {
@@ -121,7 +121,7 @@ fn text_in(row: &StringRecord, column: Option<usize>) -> &str
     }
 }
 
-// When the cell of a field is tried: in the order of the columns, and after them where it has no column.
+// The rank at which the cell of a field is tried: its column, or after all columns if it has none.
 fn rank_of(width: usize, column: Option<usize>) -> usize
     ensures { result ≡ rank_of width column }
 {

@@ -1,10 +1,10 @@
-//! The rows of the records behind a header.
+//! Reads the records after a header as rows.
 ghost use Rattle.std.specs.Prelude.{◌≡◌, ◌↔◌, ◌≢◌, ◌<◌, ◌≤◌, ◌^◌, Ok, Err, None, All, IfOk, IfErr, IfSome};
 ghost use Rattle.portal_base.specs.Outside.{IsAtEnd, Rose};
 ghost use Rattle.table_schema.specs.Printed.{IsValue};
-ghost use Rattle.typed_csv.specs.Calls.{IsOfSameColumns, Reads, rows_ahead};
-ghost use Rattle.typed_csv.specs.Loading.{IsRow, IsRowFault, number_after};
-ghost use Rattle.typed_csv.specs.Reading.{Receives};
+ghost use Rattle.typed_csv.specs.Calls.{IsOfSameColumns, Reads, remaining_rows};
+ghost use Rattle.typed_csv.specs.LoaderValue.{IsRow, IsRowFault, number_after};
+ghost use Rattle.typed_csv.specs.ReaderValue.{Receives};
 
 use crate::chunk::Next;
 use crate::fault::LoadFault;
@@ -18,7 +18,7 @@ use portal_base::seq::Seq;
 use std::alloc::Global;
 use table_schema::{Cell, Schema};
 
-/// Reads the records behind a header as rows, until one is refused.
+/// Reads the records after a header as rows, up to the first error.
 #[derive(Drop)]
 pub(crate) struct RowReader<S> {
     pub(crate) alloc: Global,
@@ -26,15 +26,15 @@ pub(crate) struct RowReader<S> {
     pub(crate) layout: Layout,
     pub(crate) records: RecordReader<S>,
     pub(crate) row: StringRecord,
-    /// How many rows were given so far.
+    /// The count of rows so far.
     pub(crate) number: u64,
 }
 
 impl<S: Source> RowReader<S> {
-    /// The next row, or none at the end.
+    /// Reads the next row. Returns none at the end.
     pub(crate) fn next(&mut self) -> Result<Option<Seq<Cell>>, LoadFault>
-        ensures reads { Reads (rows_ahead S.to_come Stage.Reading self.old) result
-            (rows_ahead S.to_come Stage.Reading self.new) }
+        ensures reads { Reads (remaining_rows S.to_come Stage.Reading self.old) result
+            (remaining_rows S.to_come Stage.Reading self.new) }
         ensures row { IfOk result
             (λ row. IfSome row (IsRow self.old.schema.fields self.old.layout self.old.number)) }
         ensures value { IfOk result (λ row. IfSome row (λ cells. All IsValue cells)) }
@@ -48,7 +48,7 @@ impl<S: Source> RowReader<S> {
             → Rose (S.faults self.old.records.source) (S.faults self.new.records.source) }
         ensures counts { S.faults self.old.records.source ≤ S.faults self.new.records.source }
         ensures loan { S.loan self.new.records.source ≡ S.loan self.old.records.source }
-        ensures much { (result ≡ Err LoadFault.TooLong) ↔ (2 ^ 40 < self.new.records.given) }
+        ensures limit { (result ≡ Err LoadFault.TooLong) ↔ (2 ^ 40 < self.new.records.given) }
     {
         let next = self.records.next(&mut self.row)?;
         let Some(number) = self.number.checked_add(1) else {

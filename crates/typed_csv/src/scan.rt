@@ -1,34 +1,35 @@
-//! Where records end in a run of bytes.
+//! Finds the ends of records in bytes.
 ghost use Rattle.std.specs.Prelude.{◌≡◌};
-ghost use Rattle.typed_csv.specs.Places.{IsLastStart, is_start, next_place, place_after};
+ghost use Rattle.typed_csv.specs.Positions.{IsLastStart, is_start, next_position, position_after};
 
-/// Where a byte stands in its record.
+/// A position in a record, between two bytes.
 #[derive(Clone, Copy, Debug, PartialEq, Eq)]
-pub(crate) enum Place {
+pub(crate) enum Position {
     /// Between two records.
     RecordStart,
-    /// Behind a comma.
+    /// After a comma.
     FieldStart,
-    /// In a field without quotes, or behind its quotes.
-    Plain,
+    /// In a field without quotes, or after the quotes of a field.
+    Unquoted,
     /// In quotes.
     Quoted,
-    /// Behind a quote inside quotes, which ends them or is the first of two.
+    /// After a quote inside quotes. The quote ends them or is the first one of two.
     AfterQuote,
 }
 
-impl Place {
-    // The place behind the byte.
-    fn after(self, byte: u8) -> Place
-        ensures { result ≡ next_place self byte }
+impl Position {
+    // The position after the byte.
+    fn after(self, byte: u8) -> Position
+        ensures { result ≡ next_position self byte }
     {
         match (self, byte) {
-            (Place::Quoted, b'"') => Place::AfterQuote,
-            (Place::Quoted, _) => Place::Quoted,
-            (Place::RecordStart | Place::FieldStart | Place::AfterQuote, b'"') => Place::Quoted,
-            (_, b',') => Place::FieldStart,
-            (_, b'\r' | b'\n') => Place::RecordStart,
-            _ => Place::Plain,
+            (Position::Quoted, b'"') => Position::AfterQuote,
+            (Position::Quoted, _) => Position::Quoted,
+            (Position::RecordStart | Position::FieldStart | Position::AfterQuote, b'"') =>
+                Position::Quoted,
+            (_, b',') => Position::FieldStart,
+            (_, b'\r' | b'\n') => Position::RecordStart,
+            _ => Position::Unquoted,
         }
     }
 
@@ -36,31 +37,34 @@ impl Place {
     fn is_start(self) -> bool
         ensures { result ≡ is_start self }
     {
-        matches!(self, Place::RecordStart)
+        matches!(self, Position::RecordStart)
     }
 }
 
-/// What a scan of bytes found.
+/// The result of a scan.
 #[derive(Clone, Copy, Debug, PartialEq, Eq)]
 pub(crate) struct Scanned {
-    /// The place behind the bytes.
-    pub(crate) place: Place,
-    /// How many bytes there are up to the last place between two records, if one is among them.
-    pub(crate) whole: Option<usize>,
+    /// The position after the bytes.
+    pub(crate) position: Position,
+    /// The count of bytes up to the last end of a record, if a record ends in them.
+    pub(crate) records_end: Option<usize>,
 }
 
-/// Scans the bytes behind `place`.
-pub(crate) fn scan(place: Place, bytes: &[u8]) -> Scanned
-    ensures place { result.place ≡ place_after place bytes.now }
-    ensures whole { IsLastStart place bytes.now result.whole }
+/// Scans the bytes after `position`.
+pub(crate) fn scan(position: Position, bytes: &[u8]) -> Scanned
+    ensures position { result.position ≡ position_after position bytes.now }
+    ensures records_end { IsLastStart position bytes.now result.records_end }
 {
-    let mut place = place;
-    let mut whole = None;
+    let mut position = position;
+    let mut records_end = None;
     for (index, byte) in bytes.iter().enumerate() {
-        place = place.after(*byte);
-        if place.is_start() {
-            whole = Some(index + 1);
+        position = position.after(*byte);
+        if position.is_start() {
+            records_end = Some(index + 1);
         }
     }
-    Scanned { place, whole }
+    Scanned {
+        position,
+        records_end,
+    }
 }

@@ -1,21 +1,21 @@
-//! The digits of a number, as one whole number without its last zeros.
+//! The digits of a number, as one whole number without its trailing zeros.
 ghost use Rattle.std.specs.Prelude.{◌≡◌, ◌≤◌, ◌<◌, ◌+◌, ◌*◌, ◌^◌, ℕ, [], ◌∷◌, List, pos, ℤ, ◌+ℤ◌, ◌-ℤ◌, ◌<ℤ◌, ◌≤ℤ◌};
 ghost use Rattle.std.specs.Prelude.{IfSome, IfNone, option_and_then};
 ghost use Rattle.lexical_forms.specs.Digits.{spelled};
-ghost use Rattle.lexical_forms.specs.Number.{scaled, in_size};
+ghost use Rattle.lexical_forms.specs.Number.{scaled, in_range};
 ghost use Rattle.lexical_forms.specs.Significand.{Spells, Adds, IsRead, IsInLimits, IsLimited};
 
-/// A number of billionths is below this.
+/// The bound of a number in billionths: its magnitude is below this.
 const LIMIT: u128 = 1_000_000_000_000_000_000_000_000_000;
 
 /// The digits read so far.
 #[derive(Clone, Copy)]
 pub(super) struct Significand {
-    /// The number that they spell, without its last zeros. It is below the limit.
+    /// The number that the digits spell, without its trailing zeros. It is below the limit.
     pub(super) value: u128,
-    /// How many zeros were left out at its end.
+    /// The count of trailing zeros that `value` leaves out.
     pub(super) zeros: u64,
-    /// How many digits there are.
+    /// The count of digits.
     pub(super) count: u64,
 }
 
@@ -30,7 +30,7 @@ impl Significand {
         }
     }
 
-    /// With one more digit, unless the number without its last zeros would reach the limit.
+    /// Appends a digit. Returns none if the number without its trailing zeros would reach the limit.
     pub(super) fn push(self, digit: u8) -> Option<Significand>
         requires digit { digit < 10 }
         requires room { self.count + 1 < 2 ^ 64 }
@@ -56,7 +56,7 @@ impl Significand {
         }
     }
 
-    // The value with so many zeros behind it, if it stays below the limit.
+    // The value times ten to the power `zeros`, if that is below the limit.
     fn shifted(self, zeros: u64) -> Option<u128>
         requires { self.value < 10 ^ 27 }
         ensures none { IfNone result (10 ^ 27 ≤ self.value * 10 ^ zeros) }
@@ -75,19 +75,19 @@ impl Significand {
         Some(value)
     }
 
-    /// How many billionths the digits are, of which so many stand behind the point, with this exponent. None where
-    /// that is no whole number or reaches the limit.
-    pub(super) fn billionths(self, behind_point: i128, exponent: i128) -> Option<u128>
+    /// The number in billionths: its digits, of which `fraction_digits` come after the decimal point, times ten to the
+    /// power `exponent`. Returns none if the result isn't a whole number of billionths or reaches the limit.
+    pub(super) fn billionths(self, fraction_digits: i128, exponent: i128) -> Option<u128>
         requires small { self.value < 10 ^ 27 }
-        requires behind { (pos 0 ≤ℤ behind_point) × (behind_point <ℤ pos (2 ^ 64)) }
+        requires fraction { (pos 0 ≤ℤ fraction_digits) × (fraction_digits <ℤ pos (2 ^ 64)) }
         requires limits { IsInLimits exponent }
         ensures { (cs : List ℕ) (whole : ℤ) → Spells self cs → IsLimited whole exponent →
-            result ≡ option_and_then in_size (scaled (spelled cs) (pos 9 +ℤ whole -ℤ behind_point)) }
+            result ≡ option_and_then in_range (scaled (spelled cs) (pos 9 +ℤ whole -ℤ fraction_digits)) }
     {
         if self.value == 0 {
             return Some(0);
         }
-        let zeros = 9 + exponent + i128::from(self.zeros) - behind_point;
+        let zeros = 9 + exponent + i128::from(self.zeros) - fraction_digits;
         if zeros < 0 || zeros > 26 {
             return None;
         }

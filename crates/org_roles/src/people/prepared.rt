@@ -5,7 +5,7 @@ ghost use Rattle.portal_base.specs.Ordered.{dropped};
 ghost use Rattle.org_roles.specs.Order.{membership_in_org_at};
 ghost use Rattle.org_roles.specs.Changed.{with_org, without_org, with_role, without_role, changed_people};
 ghost use Rattle.org_roles.specs.Changed.{org_fault, fault_in_org, fault_of_member, has_room, IsReady};
-ghost use Rattle.org_roles.specs.Peopled.{org_in, role_in};
+ghost use Rattle.org_roles.specs.PeopleLists.{org_in, role_in};
 
 use super::People;
 use crate::change::{OrgChange, OrgFault};
@@ -16,8 +16,8 @@ use portal_base::text::Text;
 use std::alloc::AllocError;
 use std::marker::Model;
 
-/// A change that isn't refused and for which there is room. A contract sees the change. Only `People::prepare` makes
-/// it.
+/// A change that isn't refused and for which there is room. In contracts its value is the change. Only
+/// `People::prepare` makes it.
 #[derive(Drop)]
 pub struct PreparedOrg {
     change: OrgChange,
@@ -32,9 +32,9 @@ impl Model for PreparedOrg {
 }
 
 impl People {
-    /// Prepares a change: refuses it, or makes room for it. The people stay as they are. Of several faults the first
-    /// is told: a new organization's name is in use; or there is no such organization, then no such user, then no
-    /// role.
+    /// Prepares a change: refuses it, or makes room for it. The people stay as they are. Of several faults it returns
+    /// the first. A new organization's fault is that its name is in use. The faults of the other changes come in this
+    /// order: the organization is unknown, the user is unknown, the user has no role there.
     pub fn prepare(&mut self, change: OrgChange) -> Result<PreparedOrg, OrgFault>
         ensures same { self.new.people ≡ self.old.people }
         ensures fault { MatchOption (org_fault change self.old.people)
@@ -52,7 +52,7 @@ impl People {
         }
     }
 
-    /// Makes a change that is ready, as it is where nothing changed since it was prepared. It takes no memory and
+    /// Makes a change that is ready. A prepared change is ready if nothing changed since. The call takes no memory and
     /// can't fail.
     pub fn commit(&mut self, change: PreparedOrg)
         requires ready { IsReady change self.old }
@@ -76,8 +76,8 @@ impl People {
                 .org(&org.name)
                 .is_some()
                 .then_some(OrgFault::OrgNameInUse),
-            OrgChange::Patch(org) => self.fault_at(&org.name),
-            OrgChange::Remove(name) => self.fault_at(name),
+            OrgChange::Patch(org) => self.fault_in_org(&org.name),
+            OrgChange::Remove(name) => self.fault_in_org(name),
             OrgChange::SetRole(org, user, _) => self.fault_of_member(org, user),
             OrgChange::DropRole(org, user) => match self.fault_of_member(org, user) {
                 Some(fault) => Some(fault),
@@ -89,18 +89,18 @@ impl People {
         }
     }
 
-    /// The fault of naming an organization that isn't there.
-    fn fault_at(&self, org: &Text) -> Option<OrgFault>
+    /// The fault of naming an organization that doesn't exist.
+    fn fault_in_org(&self, org: &Text) -> Option<OrgFault>
         ensures { result ≡ fault_in_org org.now None self.now.people }
     {
         self.org(org).is_none().then_some(OrgFault::UnknownOrg)
     }
 
-    /// The same, and then that of naming a user who isn't there.
+    /// The fault of naming an organization that doesn't exist, or else a user who doesn't exist.
     fn fault_of_member(&self, org: &Text, user: &Text) -> Option<OrgFault>
         ensures { result ≡ fault_of_member org.now user.now None self.now.people }
     {
-        match self.fault_at(org) {
+        match self.fault_in_org(org) {
             Some(fault) => Some(fault),
             None => (!self.has_user(user.as_str())).then_some(OrgFault::UnknownUser),
         }
@@ -120,7 +120,7 @@ impl People {
         }
     }
 
-    /// Sets an organization by its name.
+    /// Adds the organization, or replaces the one of its name.
     fn set_org(&mut self, org: Org)
         requires { org_in self.old.people org.name ≡ None → IsTrue self.old.room.org }
         ensures { self.new.people ≡ with_org org self.old.people }
@@ -136,7 +136,7 @@ impl People {
         drop_roles_in(&mut self.roles, name);
     }
 
-    /// Sets a role by its organization and user.
+    /// Adds the role, or replaces the one of its organization and user.
     fn set_role(&mut self, membership: Membership)
         requires { role_in self.old.people membership.org membership.user ≡ None → IsTrue self.old.room.role }
         ensures { self.new.people ≡ with_role membership self.old.people }

@@ -1,4 +1,4 @@
-//! The people put together from lists that were kept, where these fit one another.
+//! The people restored from stored lists that are consistent with each other.
 ghost use Rattle.std.specs.Prelude.{◌≡◌, IsTrue, IfOk, IfSome, is_some};
 ghost use Rattle.std.specs.List.{list_all};
 ghost use Rattle.org_roles.specs.Distinct.{is_org_name_among, have_distinct_names};
@@ -12,9 +12,9 @@ use portal_base::text::Text;
 use std::alloc::{AllocError, Global};
 
 impl People {
-    /// These users, organizations and roles, each role as organization, user and role. None comes exactly where the
-    /// name of an organization repeats, the organization of a role isn't there, or a pair of organization and user
-    /// repeats. The user of a role needn't be there.
+    /// The people with these users, organizations and roles. A role is given as organization, user and role. The
+    /// result is None exactly if an organization's name repeats, a role's organization doesn't exist, or a pair of
+    /// organization and user repeats. A role's user needn't exist.
     pub fn restore(
         alloc: Global,
         users: Seq<User>,
@@ -35,7 +35,8 @@ impl People {
     }
 }
 
-/// Whether the organizations and the roles fit one another.
+/// Whether the organizations and the roles are consistent: no name and no pair repeats, and each role is in one of the
+/// organizations.
 pub fn is_restorable(orgs: &[Org], roles: &[Membership]) -> bool
     ensures { result ≡ is_restorable orgs.now roles.now }
 {
@@ -46,13 +47,11 @@ pub fn is_restorable(orgs: &[Org], roles: &[Membership]) -> bool
 fn are_in_orgs(orgs: &[Org], roles: &[Membership]) -> bool
     ensures { result ≡ list_all (λ role. is_org_name_among orgs.now role.org) roles.now }
 {
-    roles
-        .iter()
-        .all(|role| name_stands_among_orgs(orgs, &role.org))
+    roles.iter().all(|role| is_org_name_among(orgs, &role.org))
 }
 
 /// Whether one of the organizations has that name.
-fn name_stands_among_orgs(orgs: &[Org], name: &Text) -> bool
+fn is_org_name_among(orgs: &[Org], name: &Text) -> bool
     ensures { result ≡ is_org_name_among orgs.now name.now }
 {
     orgs.iter().any(|org| org.name == *name)

@@ -1,4 +1,4 @@
-//! From `serde_json`'s values to ours.
+//! Conversion from `serde_json::Value` to `Json`.
 ghost use Rattle.std.specs.Prelude.{◌≡◌, ◌⊎◌, None, Some, IfOk, IfErr, OnOk};
 ghost use Rattle.serde_json.specs.Find.{as_integer};
 ghost use Rattle.serde_json.specs.View.{view, number_view, items_view, members_view};
@@ -11,7 +11,7 @@ use crate::text::Text;
 use serde_json::{Map, Number, Value};
 use std::alloc::Global;
 
-/// The value without fractions.
+/// The `Json` of a value, or `Fraction` if one of its numbers fits neither an `i64` nor a `u64`.
 #[cycle(value_of)]
 pub(crate) fn value_of(alloc: Global, value: &Value) -> Result<Json, JsonFault>
     ensures ok { IfOk result (λ j. json_of (view value.now) ≡ Some j) }
@@ -22,14 +22,14 @@ pub(crate) fn value_of(alloc: Global, value: &Value) -> Result<Json, JsonFault>
     match value {
         Value::Null => Ok(Json::Null),
         Value::Bool(truth) => Ok(Json::Truth(*truth)),
-        Value::Number(number) => Ok(Json::Whole(whole(number)?)),
+        Value::Number(number) => Ok(Json::Whole(read_whole(number)?)),
         Value::String(text) => Ok(Json::Text(Text::from_str(alloc, text.as_str())?)),
         Value::Array(items) => Ok(Json::List(list(alloc, items)?)),
         Value::Object(members) => Ok(Json::Map(entries(alloc, members)?)),
     }
 }
 
-fn whole(number: &Number) -> Result<i128, JsonFault>
+fn read_whole(number: &Number) -> Result<i128, JsonFault>
     ensures ok { IfOk result (λ z. as_integer (number_view number.now) ≡ Some z) }
     ensures fault { IfErr result (λ fault. (fault ≡ JsonFault.Fraction)
         × (as_integer (number_view number.now) ≡ None)) }

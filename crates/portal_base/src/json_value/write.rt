@@ -1,4 +1,4 @@
-//! Our values as serde's data, of which `serde_json` writes the text.
+//! Serialization of `Json` with serde.
 ghost use Rattle.std.specs.Prelude.{OnOk};
 ghost use Rattle.serde_json.specs.Data.{array, object, number};
 ghost use Rattle.serde_json.specs.Events.{SendsValue};

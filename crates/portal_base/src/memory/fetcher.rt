@@ -10,7 +10,7 @@ use crate::text::Text;
 use std::alloc::Global;
 use std::marker::Model;
 
-/// A fetcher over bytes in memory. It tells what it holds.
+/// A fetcher over bytes in memory. Its contents are observable.
 #[derive(Drop)]
 pub struct MemoryFetcher {
     held: Seq<(Text, Seq<u8>)>,
@@ -18,14 +18,14 @@ pub struct MemoryFetcher {
 }
 
 impl Model for MemoryFetcher {
-    ghost use Rattle.portal_base.specs.Memory.{Holdings};
+    ghost use Rattle.portal_base.specs.Memory.{FetcherState};
 
-    ghost Value = { Holdings };
+    ghost Value = { FetcherState };
 
     ghost view = { λ f. record { held = f.held; plan = f.plan } };
 }
 
-/// Whether no location stands twice.
+/// Whether all locations are different.
 pub fn are_distinct(held: &[(Text, Seq<u8>)]) -> bool
     ensures { result ≡ are_distinct held.now }
 {
@@ -35,7 +35,7 @@ pub fn are_distinct(held: &[(Text, Seq<u8>)]) -> bool
     }
 }
 
-// Whether something is held at the location.
+// Whether the fetcher holds bytes at the location.
 fn is_held(held: &[(Text, Seq<u8>)], location: &str) -> bool
     ensures { result ≡ is_held location.now held.now }
 {
@@ -52,7 +52,7 @@ fn bytes_at<'a>(held: &'a [(Text, Seq<u8>)], location: &str) -> Option<&'a Seq<u
 }
 
 impl MemoryFetcher {
-    /// A fetcher that holds these bytes, each at its location, and fails at the calls with these numbers, counted
+    /// A fetcher that holds these bytes, each at its location. It fails at the calls with these numbers, counted
     /// from 1.
     pub fn new(held: Seq<(Text, Seq<u8>)>, failing: Seq<u64>) -> MemoryFetcher
         requires { are_distinct held ≡ true }
@@ -73,8 +73,8 @@ impl Fetcher for MemoryFetcher {
 
     ghost faults = { λ f. f.plan.faults };
 
-    /// Fails with `Failed` only at a planned call, and there always. Only `OutOfMemory` comes besides the fault that
-    /// what is held tells.
+    /// Fails with `Failed` exactly at the planned calls. At the others the contents determine `Missing` and `TooLong`;
+    /// `OutOfMemory` may come instead of the bytes.
     fn fetch(&mut self, alloc: Global, location: &str, limit: usize) -> Result<Vec<u8>, FetchFault>
         ensures fault { MatchOption (fetch_fault self.old location.now limit)
             (IsOkUnless result FetchFault.OutOfMemory)

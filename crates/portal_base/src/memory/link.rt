@@ -1,33 +1,33 @@
 //! A link in memory.
 ghost use Rattle.std.specs.Prelude.{◌≡◌, ◌↔◌, ◌++◌, [], length, take, drop, min, IsTrue, IsErr, IfOk, OnErr};
-ghost use Rattle.portal_base.specs.Memory.{intake_of, is_failing, refuses, after_link_read, after_link_write};
+ghost use Rattle.portal_base.specs.Memory.{sink_state, is_failing, refuses, after_link_read, after_link_write};
 
+use super::buffers::{InputBuffer, OutputBuffer};
 use super::plan::FaultPlan;
-use super::stores::{Basin, Stock};
 use crate::outside::{Failed, Link};
 use crate::seq::Seq;
 use std::alloc::{AllocError, Global};
 use std::marker::Model;
 
-/// A link in memory, which gives bytes and has room for a fixed number of them. It tells the bytes still to come and
-/// the bytes taken. Its plan counts reads and writes together.
+/// A link in memory, which gives bytes and has room for a fixed number of them. The bytes still to come and the bytes
+/// taken are observable. Its plan counts reads and writes together.
 #[derive(Drop)]
 pub struct MemoryLink {
-    stock: Stock,
-    basin: Basin,
+    input: InputBuffer,
+    output: OutputBuffer,
     plan: FaultPlan,
 }
 
 impl Model for MemoryLink {
-    ghost use Rattle.portal_base.specs.Memory.{Wire};
+    ghost use Rattle.portal_base.specs.Memory.{LinkState};
 
-    ghost Value = { Wire };
+    ghost Value = { LinkState };
 
-    ghost view = { λ l. record { to_come = l.stock; taken = l.basin.taken; room = l.basin.room; plan = l.plan } };
+    ghost view = { λ l. record { to_come = l.input; taken = l.output.taken; room = l.output.room; plan = l.plan } };
 }
 
 impl MemoryLink {
-    /// A link that gives these bytes and has room for `room` bytes, and fails at the calls with these numbers, counted
+    /// A link that gives these bytes and has room for `room` bytes. It fails at the calls with these numbers, counted
     /// from 1.
     pub fn new(
         alloc: Global,
@@ -42,10 +42,10 @@ impl MemoryLink {
           plan = record { failing = failing; calls = 0; faults = 0 };
         }) }
     {
-        let basin = Basin::new(alloc, room)?;
+        let output = OutputBuffer::new(alloc, room)?;
         Ok(MemoryLink {
-            stock: Stock::new(bytes),
-            basin,
+            input: InputBuffer::new(bytes),
+            output,
             plan: FaultPlan::new(failing),
         })
     }
@@ -54,7 +54,7 @@ impl MemoryLink {
     pub fn taken(&self) -> &[u8]
         ensures { result.now ≡ self.now.taken }
     {
-        self.basin.taken()
+        self.output.taken()
     }
 }
 
@@ -79,18 +79,18 @@ impl Link for MemoryLink {
         if self.plan.fails_next() {
             return Err(Failed);
         }
-        Ok(self.stock.give(into))
+        Ok(self.input.give(into))
     }
 
-    /// Takes as many bytes as there is room for, and fails at a planned call or where no room is left.
+    /// Takes as many bytes as there is room for. It fails at a planned call, or if no room is left.
     fn write(&mut self, piece: &[u8]) -> Result<usize, Failed>
-        ensures fails { IsErr result ↔ IsTrue (refuses (intake_of self.old)) }
+        ensures fails { IsErr result ↔ IsTrue (refuses (sink_state self.old)) }
         ensures count { IfOk result (λ count. count ≡ min self.old.room (length piece.now)) }
         ensures after { self.new ≡ after_link_write self.old piece.now }
     {
-        if self.plan.refuses_next(self.basin.room()) {
+        if self.plan.refuses_next(self.output.room()) {
             return Err(Failed);
         }
-        Ok(self.basin.take(piece))
+        Ok(self.output.take(piece))
     }
 }

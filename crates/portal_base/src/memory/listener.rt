@@ -11,12 +11,12 @@ use std::alloc::{AllocError, Global};
 use std::collections::VecDeque;
 use std::marker::Model;
 
-/// A listener over links in memory. It tells the links still to come and those taken back. Its plan counts the calls
-/// of `accept`.
+/// A listener over links in memory. The links still to come and those taken back are observable. Its plan counts the
+/// calls of `accept`.
 #[derive(Drop)]
 pub struct MemoryListener {
     to_come: VecDeque<MemoryLink>,
-    // with room for every link
+    // This has room for every link.
     taken_back: Vec<MemoryLink>,
     is_out: bool,
     plan: FaultPlan,
@@ -26,9 +26,9 @@ impl Model for MemoryListener {
     ghost use Rattle.std.specs.Prelude.{◌≤◌, ◌+◌, if◌then◌else◌, vec_len};
     ghost use Rattle.std.specs.Vec.{vec_capacity};
     ghost use Rattle.std.specs.VecDeque.{deque_len};
-    ghost use Rattle.portal_base.specs.Memory.{Door};
+    ghost use Rattle.portal_base.specs.Memory.{ListenerState};
 
-    ghost Value = { Door };
+    ghost Value = { ListenerState };
 
     ghost view = { λ l. record {
       to_come = l.to_come.items;
@@ -42,7 +42,7 @@ impl Model for MemoryListener {
 }
 
 impl MemoryListener {
-    /// A listener that gives these links, and fails at the calls of `accept` with these numbers, counted from 1.
+    /// A listener that gives these links. It fails at the calls of `accept` with these numbers, counted from 1.
     pub fn new(
         alloc: Global,
         links: Seq<MemoryLink>,

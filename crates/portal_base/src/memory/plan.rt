@@ -1,12 +1,12 @@
-//! Which calls of a device in memory fail.
+//! The plan of the calls at which a device in memory fails.
 ghost use Rattle.std.specs.Prelude.{◌≡◌, ◌==◌, ◌||◌, if◌then◌else◌};
 ghost use Rattle.portal_base.specs.Memory.{is_failing, after_call, after_fault};
 
 use crate::seq::Seq;
 use std::marker::Model;
 
-/// Which calls fail, by their numbers from 1, and how many calls and faults there were so far. Both counts stay at
-/// their last value.
+/// The numbers of the calls that fail, counted from 1, and the counts of calls and of faults so far. Both counts stop
+/// at the maximum of a `u64`.
 #[derive(Drop)]
 pub struct FaultPlan {
     failing: Seq<u64>,
@@ -33,7 +33,7 @@ impl FaultPlan {
         }
     }
 
-    /// Counts the next call, and says whether it is to fail.
+    /// Counts the next call, and returns whether it fails.
     pub fn fails_next(&mut self) -> bool
         ensures fails { result ≡ is_failing self.old }
         ensures after { self.new ≡ (if result then after_fault self.old else after_call self.old) }
@@ -47,8 +47,8 @@ impl FaultPlan {
         is_failing
     }
 
-    /// Counts the next call of a device with so much room, and says whether it is to fail: as planned, or since no
-    /// room is left.
+    /// Counts the next call of a device with `room` bytes of room, and returns whether it fails: as planned, or because
+    /// no room is left.
     pub fn refuses_next(&mut self, room: usize) -> bool
         ensures refuses { result ≡ is_failing self.old || (room == 0) }
         ensures after { self.new ≡ (if result then after_fault self.old else after_call self.old) }

@@ -2,37 +2,37 @@
 ghost use Rattle.std.specs.Prelude.{◌≡◌, ◌↔◌, [], length, min, IsTrue, IsErr, IfOk};
 ghost use Rattle.portal_base.specs.Memory.{refuses, after_write};
 
+use super::buffers::OutputBuffer;
 use super::plan::FaultPlan;
-use super::stores::Basin;
 use crate::outside::{Failed, Sink};
 use crate::seq::Seq;
 use std::alloc::{AllocError, Global};
 use std::marker::Model;
 
-/// A sink in memory, with room for a fixed number of bytes. It tells the bytes taken.
+/// A sink in memory, with room for a fixed number of bytes. The bytes taken are observable.
 #[derive(Drop)]
 pub struct MemorySink {
-    basin: Basin,
+    output: OutputBuffer,
     plan: FaultPlan,
 }
 
 impl Model for MemorySink {
-    ghost use Rattle.portal_base.specs.Memory.{Intake};
+    ghost use Rattle.portal_base.specs.Memory.{SinkState};
 
-    ghost Value = { Intake };
+    ghost Value = { SinkState };
 
-    ghost view = { λ s. record { taken = s.basin.taken; room = s.basin.room; plan = s.plan } };
+    ghost view = { λ s. record { taken = s.output.taken; room = s.output.room; plan = s.plan } };
 }
 
 impl MemorySink {
-    /// A sink with room for `room` bytes, which fails at the calls with these numbers, counted from 1.
+    /// A sink with room for `room` bytes. It fails at the calls with these numbers, counted from 1.
     pub fn new(alloc: Global, room: usize, failing: Seq<u64>) -> Result<MemorySink, AllocError>
         ensures { IfOk result (λ sink.
             sink ≡ record { taken = []; room = room; plan = record { failing = failing; calls = 0; faults = 0 } }) }
     {
-        let basin = Basin::new(alloc, room)?;
+        let output = OutputBuffer::new(alloc, room)?;
         Ok(MemorySink {
-            basin,
+            output,
             plan: FaultPlan::new(failing),
         })
     }
@@ -41,7 +41,7 @@ impl MemorySink {
     pub fn taken(&self) -> &[u8]
         ensures { result.now ≡ self.now.taken }
     {
-        self.basin.taken()
+        self.output.taken()
     }
 }
 
@@ -52,15 +52,15 @@ impl Sink for MemorySink {
 
     ghost faults = { λ s. s.plan.faults };
 
-    /// Takes as many bytes as there is room for, and fails at a planned call or where no room is left.
+    /// Takes as many bytes as there is room for. It fails at a planned call, or if no room is left.
     fn write(&mut self, piece: &[u8]) -> Result<usize, Failed>
         ensures fails { IsErr result ↔ IsTrue (refuses self.old) }
         ensures count { IfOk result (λ count. count ≡ min self.old.room (length piece.now)) }
         ensures after { self.new ≡ after_write self.old piece.now }
     {
-        if self.plan.refuses_next(self.basin.room()) {
+        if self.plan.refuses_next(self.output.room()) {
             return Err(Failed);
         }
-        Ok(self.basin.take(piece))
+        Ok(self.output.take(piece))
     }
 }

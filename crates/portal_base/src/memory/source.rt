@@ -2,34 +2,34 @@
 ghost use Rattle.std.specs.Prelude.{◌≡◌, ◌↔◌, ◌++◌, length, take, drop, min, IsTrue, IsErr, IfOk, OnErr};
 ghost use Rattle.portal_base.specs.Memory.{is_failing, after_read};
 
+use super::buffers::InputBuffer;
 use super::plan::FaultPlan;
-use super::stores::Stock;
 use crate::outside::{Failed, Source};
 use crate::seq::Seq;
 use std::marker::Model;
 
-/// A source over bytes in memory. It tells the bytes still to come.
+/// A source over bytes in memory. The bytes still to come are observable.
 #[derive(Drop)]
 pub struct MemorySource {
-    stock: Stock,
+    input: InputBuffer,
     plan: FaultPlan,
 }
 
 impl Model for MemorySource {
-    ghost use Rattle.portal_base.specs.Memory.{Supply};
+    ghost use Rattle.portal_base.specs.Memory.{SourceState};
 
-    ghost Value = { Supply };
+    ghost Value = { SourceState };
 
-    ghost view = { λ s. record { to_come = s.stock; plan = s.plan } };
+    ghost view = { λ s. record { to_come = s.input; plan = s.plan } };
 }
 
 impl MemorySource {
-    /// A source that gives these bytes, and fails at the calls with these numbers, counted from 1.
+    /// A source that gives these bytes. It fails at the calls with these numbers, counted from 1.
     pub fn new(bytes: Seq<u8>, failing: Seq<u64>) -> MemorySource
         ensures { result ≡ record { to_come = bytes; plan = record { failing = failing; calls = 0; faults = 0 } } }
     {
         MemorySource {
-            stock: Stock::new(bytes),
+            input: InputBuffer::new(bytes),
             plan: FaultPlan::new(failing),
         }
     }
@@ -54,6 +54,6 @@ impl Source for MemorySource {
         if self.plan.fails_next() {
             return Err(Failed);
         }
-        Ok(self.stock.give(into))
+        Ok(self.input.give(into))
     }
 }

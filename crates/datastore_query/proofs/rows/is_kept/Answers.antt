@@ -6,5 +6,5 @@ use Rattle.datastore_query.proofs.rows.is_kept.Goals as goal
 
 pub returns-in-None : goal.returns-in-None
 returns-in-None c =
-    sym (not_kept c.args.kept.now (get nat_eq c.args.noted.now) c.args.row.now c.requires.noted
-    (subst (λ d. get nat_eq c.args.noted.now d ≡ None) c.requires.digest (sym c.in-None.ensures.value)))
+    sym (not_kept c.args.kept.now (get nat_eq c.args.by_digest.now) c.args.row.now c.requires.by_digest
+    (subst (λ d. get nat_eq c.args.by_digest.now d ≡ None) c.requires.digest (sym c.in-None.ensures.value)))

@@ -11,14 +11,16 @@ returns-in_err-front c =
 
 pub returns-then-name-front : goal.returns-then-name-front
 returns-then-name-front c =
-    let cut = c.in_ok-front.ensures.cases in
+    let split = c.in_ok-front.ensures.cases in
     before_space-some c.trim_end-name.result.now c.in_ok-front.front.now c.trim_end-name.ensures.trim
     c.if-name-front.true
-    ∙ sym (without_word-some c.args.word.now c.args.text.now c.in_ok-front.front.now cut.0 cut.1.0 cut.1.1 cut.2 cut.3)
+    ∙ sym (without_word-some c.args.word.now c.args.text.now c.in_ok-front.front.now split.0 split.1.0 split.1.1
+    split.2 split.3)
 
 pub returns-else-name-front : goal.returns-else-name-front
 returns-else-name-front c =
-    let cut = c.in_ok-front.ensures.cases in
+    let split = c.in_ok-front.ensures.cases in
     before_space-none c.trim_end-name.result.now c.in_ok-front.front.now c.trim_end-name.ensures.trim
     c.if-name-front.false
-    ∙ sym (without_word-some c.args.word.now c.args.text.now c.in_ok-front.front.now cut.0 cut.1.0 cut.1.1 cut.2 cut.3)
+    ∙ sym (without_word-some c.args.word.now c.args.text.now c.in_ok-front.front.now split.0 split.1.0 split.1.1
+    split.2 split.3)

@@ -4,5 +4,5 @@ use Rattle.datastore_table.proofs.cells.are_same_between.Given as goal
 
 abbrev pub invariant-loop-at : goal.invariant-loop-at
 invariant-loop-at l =
-    same_cells (cells_at l.places l.cells) (cells_at l.elsewhere l.others)
-    ≡ same_cells (cells_at (drop l.at l.places) l.cells) (cells_at (drop l.at l.elsewhere) l.others)
+    same_cells (cells_at l.columns l.cells) (cells_at l.elsewhere l.others)
+    ≡ same_cells (cells_at (drop l.at l.columns) l.cells) (cells_at (drop l.at l.elsewhere) l.others)

@@ -1,7 +1,7 @@
 use Rattle.std.proofs.Common.{◌∙◌, List, subst, sym}
 use Rattle.table_schema.specs.Field.{FieldValue}
 use Rattle.datastore_table.specs.Index.{IsUniquelyIndexed}
-use Rattle.datastore_table.proofs.StockLemmas.{unique_indexed}
+use Rattle.datastore_table.proofs.StoreLemmas.{unique_indexed}
 use Rattle.datastore_table.proofs.meets.are_related.Goals as goal
 
 pub are_uniques_apart-requires-clause-indexed : goal.are_uniques_apart-requires-clause-indexed

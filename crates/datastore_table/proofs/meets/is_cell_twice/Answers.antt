@@ -9,6 +9,6 @@ pub returns-in-Some : goal.returns-in-Some
 returns-in-Some c =
     c.has_cell_elsewhere.ensures
     ∙ ap (λ o. option_map_or
-    (λ (row : Row). list_any (λ (x : Row). not (x.id == row.id) && has_cell_of c.args.place row x) c.args.rows.now) o
+    (λ (row : Row). list_any (λ (x : Row). not (x.id == row.id) && has_cell_of c.args.column row x) c.args.rows.now) o
     false)
     c.in-Some.ensures

@@ -2,12 +2,12 @@ use Rattle.std.proofs.Common.{◌∙◌, not, ap}
 use Rattle.std.specs.List.{list_any}
 use Rattle.datastore_table.specs.Index.{is_twice}
 use Rattle.datastore_table.specs.Meets.{has_cell_of}
-use Rattle.datastore_table.proofs.RestoredLemmas.{cells_crowded}
+use Rattle.datastore_table.proofs.RestoredLemmas.{cells_colliding}
 use Rattle.datastore_table.proofs.meets.no_cell_twice.Goals as goal
 
 pub returns : goal.returns
 returns c =
-    let place = c.args.place in
+    let column = c.args.column in
     let rows = c.args.rows.now in
-    ap not (c.is_any_cell_twice.ensures ∙ ap (list_any (is_twice (has_cell_of place) rows)) c.crowded.ensures)
-    ∙ cells_crowded place rows c.args.index.now c.requires.ascending c.requires.indexed
+    ap not (c.is_any_cell_twice.ensures ∙ ap (list_any (is_twice (has_cell_of column) rows)) c.colliding.ensures)
+    ∙ cells_colliding column rows c.args.index.now c.requires.ascending c.requires.indexed

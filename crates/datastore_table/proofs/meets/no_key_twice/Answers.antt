@@ -2,7 +2,7 @@ use Rattle.std.proofs.Common.{◌≡◌, ◌∙◌, ℕ, List, not, ap, subst, s
 use Rattle.std.specs.List.{list_any}
 use Rattle.datastore_table.specs.Index.{is_twice, IsIndexedAt}
 use Rattle.datastore_table.specs.Meets.{are_apart, has_key_of}
-use Rattle.datastore_table.proofs.RestoredLemmas.{keys_crowded}
+use Rattle.datastore_table.proofs.RestoredLemmas.{keys_colliding}
 use Rattle.datastore_table.proofs.meets.no_key_twice.Goals as goal
 
 pub returns : goal.returns
@@ -11,8 +11,8 @@ returns c =
     let rows = c.args.rows.now in
     let index = c.args.index.now in
     let is : key ≡ c.args.schema.now.key = c.requires.key in
-    ap not (c.is_any_key_twice.ensures ∙ ap (list_any (is_twice (has_key_of key) rows)) c.crowded.ensures)
-    ∙ subst (λ (k : List ℕ). not (list_any (is_twice (has_key_of k) rows) index.crowded.items)
+    ap not (c.is_any_key_twice.ensures ∙ ap (list_any (is_twice (has_key_of key) rows)) c.colliding.ensures)
+    ∙ subst (λ (k : List ℕ). not (list_any (is_twice (has_key_of k) rows) index.colliding.items)
     ≡ are_apart (has_key_of k) rows) (sym is)
-    (keys_crowded c.args.schema.now rows index c.requires.ascending c.requires.met
+    (keys_colliding c.args.schema.now rows index c.requires.ascending c.requires.met
     (subst (λ (k : List ℕ). IsIndexedAt k rows index) is c.requires.indexed))

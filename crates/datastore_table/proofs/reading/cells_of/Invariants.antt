@@ -3,9 +3,9 @@ use Rattle.datastore_table.specs.Record.{cell_reading, cells_reading}
 use Rattle.datastore_table.proofs.ResultLemmas.{each_on}
 use Rattle.datastore_table.proofs.reading.cells_of.Given as goal
 
-abbrev pub invariant-loop-place : goal.invariant-loop-place
-invariant-loop-place l = record {
-  count : l.place ≡ length l.cells.items;
+abbrev pub invariant-loop-column : goal.invariant-loop-column
+invariant-loop-column l = record {
+  count : l.column ≡ length l.cells.items;
   read : cells_reading l.number l.fields (option_copied l.kept) l.given
-      ≡ each_on (cell_reading l.number (option_copied l.kept) l.given) l.place l.cells.items (drop l.place l.fields);
+      ≡ each_on (cell_reading l.number (option_copied l.kept) l.given) l.column l.cells.items (drop l.column l.fields);
 }

@@ -4,9 +4,9 @@ use Rattle.datastore_table.specs.Results.{in_turn}
 use Rattle.datastore_table.specs.Rows.{rows_after}
 use Rattle.datastore_table.proofs.references.check_all.Given as goal
 
-abbrev pub invariant-loop-place : goal.invariant-loop-place
-invariant-loop-place l =
-    foreign_checked l.places l.key (rows_after l.target.written.now l.target.rows.now)
+abbrev pub invariant-loop-record_index : goal.invariant-loop-record_index
+invariant-loop-record_index l =
+    foreign_checked l.columns l.key (rows_after l.target.written.now l.target.rows.now)
     (rows_after l.source.written.now l.source.rows.now) l.written
-    ≡ in_turn (written_checked l.places l.key (rows_after l.target.written.now l.target.rows.now)
-    (rows_after l.source.written.now l.source.rows.now)) (l.place + 1) (drop l.place l.written) tt
+    ≡ in_turn (written_checked l.columns l.key (rows_after l.target.written.now l.target.rows.now)
+    (rows_after l.source.written.now l.source.rows.now)) (l.record_index + 1) (drop l.record_index l.written) tt

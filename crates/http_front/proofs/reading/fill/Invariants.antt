@@ -2,16 +2,16 @@ use Rattle.std.proofs.Common.{◌≡◌, ◌≤◌, ◌-◌, ◌++◌, List, ℕ
 use Rattle.portal_base.specs.Outside.{Gives}
 use Rattle.http_front.proofs.reading.fill.Given as goal
 
--- what came off the link stands behind the bytes that were held
+-- what came off the link was appended to the buffer
 abbrev pub invariant-loop-link : goal.invariant-loop-link
 invariant-loop-link g l = record {
   read : List ℕ;
   gives : Gives (g.K.Link.to_come l.fn.link) read (g.K.Link.to_come l.link);
-  joined : l.held.items ≡ l.fn.held.items ++ read;
-  short : length l.held.items ≤ l.count;
+  joined : l.buffer.items ≡ l.fn.buffer.items ++ read;
+  short : length l.buffer.items ≤ l.count;
   taken : g.K.Link.taken l.link ≡ g.K.Link.taken l.fn.link;
   counts : g.K.Link.faults l.fn.link ≤ g.K.Link.faults l.link;
 }
 
 abbrev pub decreases-loop-link : goal.decreases-loop-link
-decreases-loop-link g l = l.count - length l.held.items
+decreases-loop-link g l = l.count - length l.buffer.items

@@ -1,10 +1,11 @@
 use Rattle.std.proofs.Common.{◌≤◌, length, arith}
-use Rattle.http_front.proofs.ReceiveLemmas.{told_full}
+use Rattle.http_front.proofs.ReceiveLemmas.{full_has_none}
 use Rattle.http_front.proofs.reading.read_head.Goals as goal
 
 pub returns-clause-none : goal.returns-clause-none
 returns-clause-none g c =
     let inv = c.loop-alloc.invariant in
-    let full : 16384 ≤ length c.loop-alloc.held.items = omega (arith, c.loop-alloc-test.false, c.len.ensures) in
-    told_full (g.K.Link.to_come c.args.link.now) (g.K.Link.to_come c.loop-alloc.link) c.loop-alloc.held.items inv.gives
+    let full : 16384 ≤ length c.loop-alloc.buffer.items = omega (arith, c.loop-alloc-test.false, c.len.ensures) in
+    full_has_none (g.K.Link.to_come c.args.link.now)
+    (g.K.Link.to_come c.loop-alloc.link) c.loop-alloc.buffer.items inv.gives
     full (inv.full full)

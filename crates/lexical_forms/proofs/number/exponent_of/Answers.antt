@@ -8,10 +8,10 @@ use Rattle.lexical_forms.proofs.number.exponent_of.Goals as goal
 pub returns-then-is_negative : goal.returns-then-is_negative
 returns-then-is_negative c =
     let n = c.in_ok-magnitude.field-0 in
-    let behind = chars c.in-Some.behind.now in
+    let after = chars c.in-Some.after.now in
     let mark : is_exponent_mark c.in-Some.character ≡ true = cc in
-    let minus : is_negative behind ≡ true = sym c.is_negative.ensures ∙ c.if-is_negative.true in
+    let minus : is_negative after ≡ true = sym c.is_negative.ensures ∙ c.if-is_negative.true in
     let digits = sym (ap is_digits c.without_sign.ensures) ∙ c.in_ok-magnitude.ensures.0 in
     let number = c.in_ok-magnitude.ensures.1 ∙ ap limited_in c.without_sign.ensures in
-    some_exponent (chars c.args.text.now) behind c.in-Some.character n _ c.in-Some.ensures.some mark digits number
+    some_exponent (chars c.args.text.now) after c.in-Some.character n _ c.in-Some.ensures.some mark digits number
     (negated n (omega (arith, c.in_ok-magnitude.ensures.1)) ∙ ap (λ b. signed b n) (sym minus))

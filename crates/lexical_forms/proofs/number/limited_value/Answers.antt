@@ -17,6 +17,6 @@ pub loop-character-preserved : goal.loop-character-preserved
 loop-character-preserved c = (
   search rules,
   LimitedSoFar-more c.loop-character.value c.in-Some.character c.in_ok-digit.digit c.min-value.result
-      (chars c.args.text.now) (chars c.loop-character.rest.now) (chars c.in-Some.behind.now) c.in-Some.ensures.some
+      (chars c.args.text.now) (chars c.loop-character.rest.now) (chars c.in-Some.after.now) c.in-Some.ensures.some
       c.in_ok-digit.ensures.some.0 c.in_ok-digit.ensures.some.1 (omega arith) c.loop-character.invariant.1,
 )

@@ -7,16 +7,16 @@ pub push-requires-clause-room : goal.push-requires-clause-room
 push-requires-clause-room c =
     omega (
       arith,
-      WholeSoFar-room c.args.form c.loop-character.behind_digit c.loop-character.digits
-          (chars c.args.text.now) (chars c.loop-character.rest.now) (chars c.in-Some.behind.now) c.in-Some.character
+      WholeSoFar-room c.args.form c.loop-character.after_digit c.loop-character.digits
+          (chars c.args.text.now) (chars c.loop-character.rest.now) (chars c.in-Some.after.now) c.in-Some.character
           c.in-Some.ensures.some c.loop-character.invariant.1,
       length-chars c.args.text.now c.utf8.text,
     )
 
 pub returns-in_err-digits : goal.returns-in_err-digits
 returns-in_err-digits c =
-    let long = WholeSoFar-long c.args.form c.loop-character.behind_digit c.loop-character.digits
-    (chars c.args.text.now) (chars c.loop-character.rest.now) (chars c.in-Some.behind.now) c.in-Some.character
+    let long = WholeSoFar-long c.args.form c.loop-character.after_digit c.loop-character.digits
+    (chars c.args.text.now) (chars c.loop-character.rest.now) (chars c.in-Some.after.now) c.in-Some.character
     c.in-Some-digit_of.digit c.in-Some.ensures.some c.in-Some-digit_of.ensures.some.0
     c.in-Some-digit_of.ensures.some.1 c.in_err-digits.ensures c.loop-character.invariant.1 in
     rw c.from_residual.ensures long
@@ -24,8 +24,8 @@ returns-in_err-digits c =
 pub loop-character-preserved-in_ok-digits : goal.loop-character-preserved-in_ok-digits
 loop-character-preserved-in_ok-digits c = (
   search rules,
-  WholeSoFar-digit c.args.form c.loop-character.behind_digit c.loop-character.digits c.in_ok-digits.digits
-      (chars c.args.text.now) (chars c.loop-character.rest.now) (chars c.in-Some.behind.now) c.in-Some.character
+  WholeSoFar-digit c.args.form c.loop-character.after_digit c.loop-character.digits c.in_ok-digits.digits
+      (chars c.args.text.now) (chars c.loop-character.rest.now) (chars c.in-Some.after.now) c.in-Some.character
       c.in-Some-digit_of.digit c.in-Some.ensures.some c.in-Some-digit_of.ensures.some.0
       c.in-Some-digit_of.ensures.some.1 c.in_ok-digits.ensures c.loop-character.invariant.1,
 )

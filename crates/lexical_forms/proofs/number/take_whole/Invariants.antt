@@ -7,7 +7,7 @@ use Rattle.lexical_forms.proofs.number.take_whole.Given as goal
 
 abbrev pub invariant-loop-character : goal.invariant-loop-character
 invariant-loop-character l =
-    shadow (Utf8 l.rest) × WholeSoFar l.form l.behind_digit l.digits (chars l.text) (chars l.rest)
+    shadow (Utf8 l.rest) × WholeSoFar l.form l.after_digit l.digits (chars l.text) (chars l.rest)
 
 abbrev pub decreases-loop-character : goal.decreases-loop-character
 decreases-loop-character l = length (chars l.rest)

@@ -1,5 +1,5 @@
 use Rattle.ntriples.proofs.DocumentLemmas.{all_readable}
-use Rattle.ntriples.proofs.DocumentForms.{read_document, read_fault, documents_are_read, bad_lines_are_told}
+use Rattle.ntriples.proofs.DocumentForms.{read_document, read_fault, documents_are_read, bad_lines_are_reported}
 use Rattle.ntriples.proofs.document.read.Goals as goal
 
 pub returns-clause-triples : goal.returns-clause-triples
@@ -13,7 +13,7 @@ returns-clause-documents c = documents_are_read c.args.bytes.now c.read_lines.re
     c.read_lines.ensures.fault
 
 pub returns-clause-bad : goal.returns-clause-bad
-returns-clause-bad c = bad_lines_are_told c.args.bytes.now c.read_lines.result c.read_lines.ensures.triples
+returns-clause-bad c = bad_lines_are_reported c.args.bytes.now c.read_lines.result c.read_lines.ensures.triples
     c.read_lines.ensures.fault
 
 pub returns-clause-readable : goal.returns-clause-readable

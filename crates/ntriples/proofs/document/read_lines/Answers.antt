@@ -15,5 +15,5 @@ loop-triples-preserved c =
     let cut = rw c.in-Some.is at c.split_line.ensures.cut in
     let shorter = rw c.in-Some.is at c.split_line.ensures.shorter in
     UnderWay-more c.args.bytes.now c.loop-triples.rest.now c.loop-triples.triples c.loop-triples.ended
-    c.loop-triples.invariant c.split_line.result.0.now c.in-Some.behind.now c.push_line.new.triples cut
+    c.loop-triples.invariant c.split_line.result.0.now c.in-Some.following.now c.push_line.new.triples cut
     c.in-Ok.ensures shorter

@@ -9,7 +9,7 @@ use Rattle.ntriples.proofs.names.push_label.Goals as goal
 
 pub loop-character-smaller : goal.loop-character-smaller
 loop-character-smaller c = label_shorter (chars c.loop-character.rest.now) c.in-Some.character
-    (chars c.in-Some.behind.now) (sym c.skip.ensures ∙ c.in-Some.ensures.parts)
+    (chars c.in-Some.following.now) (sym c.skip.ensures ∙ c.in-Some.ensures.parts)
 
 pub loop-character-preserved : goal.loop-character-preserved
 loop-character-preserved c = (
@@ -17,7 +17,7 @@ loop-character-preserved c = (
   rw c.in_ok-push-2.ensures.bytes
       (label_more (string_bytes c.loop-character.value) (chars c.loop-character.rest.now)
       (string_bytes c.push.new.value) (chars c.in_ok-push.field-0.now) c.in-Some.character
-      (chars c.in-Some.behind.now) (onto (string_bytes c.args.value.now) (label_rest (chars c.args.text.now)))
+      (chars c.in-Some.following.now) (onto (string_bytes c.args.value.now) (label_rest (chars c.args.text.now)))
       (sym c.skip.ensures ∙ c.in-Some.ensures.parts) c.in-Some.ensures.some c.in_ok-push.ensures
       c.loop-character.invariant.1),
 )

@@ -19,11 +19,11 @@ returns-in-None c =
     let e = rw c.in-None.is at c.in_ok-next.ensures in
     rw c.from.ensures
     (quoted_done c.args.kind (string_bytes c.loop-value.value) (chars c.loop-value.rest.now)
-    (chars c.in_ok-next.behind.now) (quoted c.args.kind (chars c.args.text.now)) e c.loop-value.invariant.1)
+    (chars c.in_ok-next.following.now) (quoted c.args.kind (chars c.args.text.now)) e c.loop-value.invariant.1)
 
 pub loop-value-smaller : goal.loop-value-smaller
 loop-value-smaller c = quoted_character_shorter c.args.kind (chars c.loop-value.rest.now)
-    (c.in_ok-next.next, chars c.in_ok-next.behind.now) c.in_ok-next.ensures
+    (c.in_ok-next.next, chars c.in_ok-next.following.now) c.in_ok-next.ensures
 
 pub loop-value-preserved : goal.loop-value-preserved
 loop-value-preserved c =
@@ -31,5 +31,5 @@ loop-value-preserved c =
       search rules,
       rw c.in_ok-push-in-Some.ensures.bytes
           (quoted_more c.args.kind (string_bytes c.loop-value.value) (chars c.loop-value.rest.now) c.in-Some.character
-          (chars c.in_ok-next.behind.now) (quoted c.args.kind (chars c.args.text.now)) e c.loop-value.invariant.1),
+          (chars c.in_ok-next.following.now) (quoted c.args.kind (chars c.args.text.now)) e c.loop-value.invariant.1),
     )

@@ -2,4 +2,4 @@ use Rattle.packages.proofs.Built.{built_numbered}
 use Rattle.packages.proofs.laws.built_resources_are_numbered.Goals as goal
 
 pub returns : goal.returns
-returns c = λ body old whole quiet stood. built_numbered body old whole quiet stood
+returns c = λ body old whole no_errors stood. built_numbered body old whole no_errors stood

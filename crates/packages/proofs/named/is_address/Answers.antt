@@ -11,7 +11,7 @@ returns-in-Some-strip_prefix c =
     let dot = c.in-Some-strip_prefix.ensures.cases in
     rw (← c.as_bytes.ensures.value, ← c.as_bytes-2.ensures, ← c.format-digits.ensures.text)
     (rw (c.as_bytes-in-Some-strip_prefix.ensures.value) at c.eq.ensures
-    ∙ begins (46 ∷ []) digits rest c.in-Some-strip_prefix.behind.now dot.0 dot.1
+    ∙ begins (46 ∷ []) digits rest c.in-Some-strip_prefix.suffix.now dot.0 dot.1
     ∙ begins c.as_bytes-2.result.now (46 ∷ digits) c.as_bytes.result.now rest name.0 name.1)
 
 pub returns-in-None-strip_prefix : goal.returns-in-None-strip_prefix

@@ -10,7 +10,7 @@ length-cons_option : {X : Type 0} (found : Option X) (xs : List X) → length (c
 length-cons_option None xs = omega arith
 length-cons_option (Some x) xs = omega arith
 
--- no more is given than there is
+-- the result isn't longer than the list
 length-filter_map : {X Y : Type 0} (give : X → Option Y) (xs : List X) → length (filter_map give xs) ≤ length xs
 length-filter_map give [] = omega arith
 length-filter_map give (x ∷ xs) =

@@ -1,4 +1,4 @@
--- At first all entries are left, each of which passes or fails.
+-- At first all entries remain, each of which passes or fails.
 use Rattle.std.proofs.Common.{ℕ, Bool, ◌∙◌, ◌+◌, filter, length, not, sym, ap}
 use Rattle.slab.specs.Slab.{entries}
 use Rattle.slab.proofs.SlabLemmas.{length-entries}

@@ -2,7 +2,7 @@ use Rattle.std.proofs.Common.{◌≡◌, ◌+◌, filter, length, not}
 use Rattle.slab.specs.Slab.{entries}
 use Rattle.packages.proofs.walk.count_of.Given as goal
 
--- the count is of those that pass and of those that are left and fail
+-- The count is that of the entries that pass and of the remaining ones that fail.
 abbrev pub invariant-loop-entry : goal.invariant-loop-entry
 invariant-loop-entry g l =
     (goal.iterator-loop-entry g).can_next l.entry-iterator

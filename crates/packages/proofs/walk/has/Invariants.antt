@@ -3,7 +3,7 @@ use Rattle.std.specs.List.{list_any}
 use Rattle.slab.specs.Slab.{entries}
 use Rattle.packages.proofs.walk.has.Given as goal
 
--- none of the entries before those that are left passes
+-- No entry before the remaining ones passes.
 abbrev pub invariant-loop-entry : goal.invariant-loop-entry
 invariant-loop-entry g l =
     (goal.iterator-loop-entry g).can_next l.entry-iterator

@@ -1,4 +1,4 @@
--- What was found among the entries is the first value of the key.
+-- The value of the entry that was found is the first value of the key.
 use Rattle.std.proofs.Common.{sym, ap, ◌∙◌}
 use Rattle.portal_base.proofs.JsonFirst.{first_of-find, value_of_found}
 use Rattle.portal_base.proofs.json_value.take_value.Goals as goal

@@ -26,8 +26,8 @@ returns-clause-second c =
     (civil_seconds-after m _ _ c.unwrap.result start nanos (rw c.unwrap.ensures at c.checked_add.ensures.value)).0
     ∙ c.moment.view_is
 
-pub returns-clause-whole : goal.returns-clause-whole
-returns-clause-whole c =
+pub returns-clause-no_fraction : goal.returns-clause-no_fraction
+returns-clause-no_fraction c =
     let m = c.moment.inside.seconds in
     let start : civil_nanos c.to_datetime-start.result ≡ pos 0 =
     civil_nanos-start c.date.result c.to_datetime-start.result c.date.ensures c.to_datetime-start.ensures.date

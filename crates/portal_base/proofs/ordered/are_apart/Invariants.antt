@@ -2,7 +2,7 @@ use Rattle.std.proofs.Common.{◌≡◌, length}
 use Rattle.portal_base.specs.Ordered.{are_apart}
 use Rattle.portal_base.proofs.ordered.are_apart.Given as goal
 
--- The items are apart where the rest are.
+-- The items are distinct exactly if the rest are.
 abbrev pub invariant-loop-first : goal.invariant-loop-first
 invariant-loop-first g l = are_apart g.T.Ordered.order l.items ≡ are_apart g.T.Ordered.order l.rest
 

@@ -1,6 +1,6 @@
--- Of a list in order the first item at the key is all that stands there.
+-- In an ascending list only one item has the key.
 use Rattle.std.proofs.Common.{sym, ◌∙◌}
-use Rattle.portal_base.proofs.Placed.{dropped-removed}
+use Rattle.portal_base.proofs.Upserted.{dropped-removed}
 use Rattle.portal_base.proofs.Removed.{IsAscending-removed}
 use Rattle.portal_base.proofs.ordered.drop_at.Goals as goal
 

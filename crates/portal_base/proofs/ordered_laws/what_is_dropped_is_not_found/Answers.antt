@@ -1,4 +1,4 @@
-use Rattle.portal_base.proofs.Placed.{found-dropped, found-dropped_other, IsAscending-dropped, dropped-removed}
+use Rattle.portal_base.proofs.Upserted.{found-dropped, found-dropped_other, IsAscending-dropped, dropped-removed}
 use Rattle.portal_base.proofs.ordered_laws.what_is_dropped_is_not_found.Goals as goal
 
 pub returns-clause-found : goal.returns-clause-found

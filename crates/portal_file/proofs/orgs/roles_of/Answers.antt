@@ -37,9 +37,9 @@ returns-clause-pairs c =
     let entries = c.args.table.now.entries in
     let front = c.loop-user.roles in
     let (_, _, _, _, _, ordered, _) = c.into_iter-user-iterator.ensures.into_iter_gives in
-    let told : roles_of org (members_view entries) ≡ Some front =
+    let held : roles_of org (members_view entries) ≡ Some front =
     sym c.loop-user.invariant
     ∙ ap (λ es. option_map (λ more. front ++ more) (roles_of org (members_view es))) (c.in-None.ensures.steps.0)
     ∙ ap Some (append-nil front) in
-    MatchOption-at_some _ (λ rs. have_distinct_pairs (memberships_of rs) ≡ true) front told
+    MatchOption-at_some _ (λ rs. have_distinct_pairs (memberships_of rs) ≡ true) front held
     (roles_apart org entries ordered)

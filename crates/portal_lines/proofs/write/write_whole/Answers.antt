@@ -10,7 +10,7 @@ returns-in_err-count-clause-failed g c =
     let inv = c.loop-rest.invariant in
     let p = err_from_is_err_and c.from_residual.result c.from_residual.ensures.1 in
     let kept : Takes (g.O.Sink.taken c.args.output.now) inv.front (g.O.Sink.taken c.write.new.self) =
-    subst (λ told. Takes (g.O.Sink.taken c.args.output.now) inv.front told) (sym c.in_err-count.ensures.kept)
+    subst (λ observed. Takes (g.O.Sink.taken c.args.output.now) inv.front observed) (sym c.in_err-count.ensures.kept)
     inv.takes in
     rw p.1 (TakesPrefix-front _ _ c.args.piece.now inv.front c.loop-rest.rest.now inv.splits kept)
 

@@ -1,6 +1,6 @@
 use Rattle.std.proofs.Common.{◌≡◌, ◌∙◌, ap, sym, subst, map, string_bytes, codes, rules}
-use Rattle.portal_words.specs.Commands.{needed_text_for, text_for}
-use Rattle.portal_words.specs.Options.{SayOthers, TellsOptions}
+use Rattle.portal_words.specs.Commands.{required_text_for, text_for}
+use Rattle.portal_words.specs.Options.{HaveOtherOptions, MatchesOptions}
 use Rattle.portal_words.proofs.LoadLemmas.{load_made, load_names, load_refused}
 use Rattle.portal_words.proofs.command.load.Goals as goal
 
@@ -9,16 +9,16 @@ returns-in_err-given-clause-bad c = λ bad.
     let words = map string_bytes c.args.words.now in
     let names : map (λ n. n.now) c.as_slice.result.now ≡ load_names = ap (map (λ n. n.now)) c.as_slice.ensures in
     load_refused words
-    (subst (λ ns. SayOthers ns words) names (c.in_err-given.ensures.bad (search rules)))
+    (subst (λ ns. HaveOtherOptions ns words) names (c.in_err-given.ensures.bad (search rules)))
 
 pub returns-clause-ok : goal.returns-clause-ok
 returns-clause-ok c =
     let words = map string_bytes c.args.words.now in
     let names : map (λ n. n.now) c.as_slice.result.now ≡ load_names = ap (map (λ n. n.now)) c.as_slice.ensures in
-    let tells = subst (λ ns. TellsOptions ns words c.in_ok-given.given) names c.in_ok-given.ensures.ok in
-    load_made words tells.given c.in_ok-portal.portal c.in_ok-caller.caller c.in_ok-resource.resource
-    c.in_ok-schema.schema tells.said tells.allowed
-    (ap text_for (sym (c.get_str.ensures ∙ tells.values (codes "portal"))) ∙ c.in_ok-portal.ensures.ok)
-    (ap needed_text_for (sym (c.get_str-2.ensures ∙ tells.values (codes "as"))) ∙ c.in_ok-caller.ensures.ok)
-    (ap needed_text_for (sym (c.get_str-3.ensures ∙ tells.values (codes "resource"))) ∙ c.in_ok-resource.ensures.ok)
-    (ap needed_text_for (sym (c.get_str-4.ensures ∙ tells.values (codes "schema"))) ∙ c.in_ok-schema.ensures.ok)
+    let matched = subst (λ ns. MatchesOptions ns words c.in_ok-given.given) names c.in_ok-given.ensures.ok in
+    load_made words matched.given c.in_ok-portal.portal c.in_ok-caller.caller c.in_ok-resource.resource
+    c.in_ok-schema.schema matched.parsed matched.allowed
+    (ap text_for (sym (c.get_str.ensures ∙ matched.values (codes "portal"))) ∙ c.in_ok-portal.ensures.ok)
+    (ap required_text_for (sym (c.get_str-2.ensures ∙ matched.values (codes "as"))) ∙ c.in_ok-caller.ensures.ok)
+    (ap required_text_for (sym (c.get_str-3.ensures ∙ matched.values (codes "resource"))) ∙ c.in_ok-resource.ensures.ok)
+    (ap required_text_for (sym (c.get_str-4.ensures ∙ matched.values (codes "schema"))) ∙ c.in_ok-schema.ensures.ok)

@@ -45,8 +45,8 @@ returns-in_err-kind c =
     (refused fault (kind_reading number item) (column_reading number names item)
     (λ e. named ∙ kind_fault_so number item name fault e) c.in_err-kind.ensures)
 
-pub returns-in_err-refuse_format : goal.returns-in_err-refuse_format
-returns-in_err-refuse_format c =
+pub returns-in_err-validate_format : goal.returns-in_err-validate_format
+returns-in_err-validate_format c =
     let number = c.args.number in
     let names = map (λ (x : Column). x.name) c.args.before.now in
     let item = c.args.item.now in
@@ -56,14 +56,14 @@ returns-in_err-refuse_format c =
     let named = new_so number names item name c.in_ok-name.ensures new in
     let k = c.in_ok-kind.kind in
     let kinded = named ∙ kind_so number item name k c.in_ok-kind.ensures in
-    let fault = c.in_err-refuse_format.field-0.0 in
-    gives_err (λ x. x) c.from_residual-in_err-refuse_format.result (column_reading number names item) fault
-    c.from_residual-in_err-refuse_format.ensures.1
+    let fault = c.in_err-validate_format.field-0.0 in
+    gives_err (λ x. x) c.from_residual-in_err-validate_format.result (column_reading number names item) fault
+    c.from_residual-in_err-validate_format.ensures.1
     (refused fault (format_reading item) (column_reading number names item)
-    (λ e. kinded ∙ format_fault_so number item name k fault e) c.in_err-refuse_format.ensures)
+    (λ e. kinded ∙ format_fault_so number item name k fault e) c.in_err-validate_format.ensures)
 
-pub returns-in_err-refuse_pattern : goal.returns-in_err-refuse_pattern
-returns-in_err-refuse_pattern c =
+pub returns-in_err-validate_pattern : goal.returns-in_err-validate_pattern
+returns-in_err-validate_pattern c =
     let number = c.args.number in
     let names = map (λ (x : Column). x.name) c.args.before.now in
     let item = c.args.item.now in
@@ -73,12 +73,12 @@ returns-in_err-refuse_pattern c =
     let named = new_so number names item name c.in_ok-name.ensures new in
     let k = c.in_ok-kind.kind in
     let kinded = named ∙ kind_so number item name k c.in_ok-kind.ensures in
-    let formed = kinded ∙ format_so number item name k c.in_ok-refuse_format.ensures in
-    let fault = c.in_err-refuse_pattern.field-0.0 in
-    gives_err (λ x. x) c.from_residual-in_err-refuse_pattern.result (column_reading number names item) fault
-    c.from_residual-in_err-refuse_pattern.ensures.1
+    let formed = kinded ∙ format_so number item name k c.in_ok-validate_format.ensures in
+    let fault = c.in_err-validate_pattern.field-0.0 in
+    gives_err (λ x. x) c.from_residual-in_err-validate_pattern.result (column_reading number names item) fault
+    c.from_residual-in_err-validate_pattern.ensures.1
     (refused fault (pattern_reading item) (column_reading number names item)
-    (λ e. formed ∙ pattern_fault_so number item name k fault e) c.in_err-refuse_pattern.ensures)
+    (λ e. formed ∙ pattern_fault_so number item name k fault e) c.in_err-validate_pattern.ensures)
 
 pub returns-in-Some : goal.returns-in-Some
 returns-in-Some c =
@@ -91,8 +91,8 @@ returns-in-Some c =
     let named = new_so number names item name c.in_ok-name.ensures new in
     let k = c.in_ok-kind.kind in
     let kinded = named ∙ kind_so number item name k c.in_ok-kind.ensures in
-    let formed = kinded ∙ format_so number item name k c.in_ok-refuse_format.ensures in
-    formed ∙ pattern_so number item name k c.in_ok-column.field-0 c.in_ok-refuse_pattern.ensures
+    let formed = kinded ∙ format_so number item name k c.in_ok-validate_format.ensures in
+    formed ∙ pattern_so number item name k c.in_ok-column.field-0 c.in_ok-validate_pattern.ensures
     c.in_ok-column.ensures ∙ ap (or_fault (BadConstraint number)) c.in-Some.is
 
 pub returns-in-None : goal.returns-in-None
@@ -106,6 +106,6 @@ returns-in-None c =
     let named = new_so number names item name c.in_ok-name.ensures new in
     let k = c.in_ok-kind.kind in
     let kinded = named ∙ kind_so number item name k c.in_ok-kind.ensures in
-    let formed = kinded ∙ format_so number item name k c.in_ok-refuse_format.ensures in
-    formed ∙ pattern_so number item name k c.in_ok-column.field-0 c.in_ok-refuse_pattern.ensures
+    let formed = kinded ∙ format_so number item name k c.in_ok-validate_format.ensures in
+    formed ∙ pattern_so number item name k c.in_ok-column.field-0 c.in_ok-validate_pattern.ensures
     c.in_ok-column.ensures ∙ ap (or_fault (BadConstraint number)) c.in-None.is

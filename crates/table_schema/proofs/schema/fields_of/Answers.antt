@@ -13,7 +13,8 @@ loop-column-preserved c =
     let steps = c.in-Some.ensures.steps in
     let pushed : c.push.new.self.items ≡ before ++ c.of_column.result ∷ [] = c.in_ok-push.ensures.items in
     let len : c.len-in-loop-column.result ≡ length before = search rules in
-    let in_key : c.has-in_key.result ≡ list_any (λ k. k == length before) key = rw (← len) c.has-in_key.ensures in
+    let in_key : c.has_index-in_key.result ≡ list_any (λ k. k == length before) key =
+    rw (← len) c.has_index-in_key.ensures in
     let shared : arc_value c.in_ok-missing.missing ≡ missing = c.in_ok-missing.ensures in
     let made : c.of_column.result ≡ field_of missing key (length before) c.in-Some.column =
     c.of_column.ensures ∙ (rw shared (rw in_key refl)) in
@@ -22,5 +23,5 @@ loop-column-preserved c =
           rw pushed
           (rw made (c.loop-column.invariant.fields_so_far
           ∙ (rw steps.0 (fields_from-next missing key before c.in-Some.column c.next.new.self.rest.items))));
-      places = omega (arith, ap length steps.0, simp length-append at (ap length pushed));
+      indices = omega (arith, ap length steps.0, simp length-append at (ap length pushed));
     }

@@ -7,5 +7,5 @@ abbrev pub invariant-loop-column : goal.invariant-loop-column
 invariant-loop-column l = record {
   fields_so_far : fields_from (arc_value l.missing) l.key 0 l.fn.columns.items ≡ l.fields.items
       ++ fields_from (arc_value l.missing) l.key (length l.fields.items) l.column-iterator.rest.items;
-  places : length l.fields.items + length l.column-iterator.rest.items ≤ 500;
+  indices : length l.fields.items + length l.column-iterator.rest.items ≤ 500;
 }

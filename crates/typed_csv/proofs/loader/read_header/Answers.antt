@@ -1,6 +1,6 @@
 use Rattle.std.proofs.Common.{ap, Ok}
 use Rattle.csv.specs.Records.{fields_of}
-use Rattle.typed_csv.proofs.LoadingLemmas.{layout_given, layout_refused, no_text_header}
+use Rattle.typed_csv.proofs.LoaderLemmas.{layout_given, layout_refused, no_text_header}
 use Rattle.typed_csv.proofs.loader.read_header.Goals as goal
 
 pub returns-in-Record-clause-header : goal.returns-in-Record-clause-header

@@ -7,7 +7,7 @@ use Rattle.csv.specs.Records.{fields_of}
 use Rattle.table_schema.specs.Printed.{IsValue}
 use Rattle.typed_csv.specs.Records.{text_in}
 use Rattle.typed_csv.specs.Rows.{cell_or_bad, cells_reading, rank_of}
-use Rattle.typed_csv.proofs.RowLemmas.{behind, cells-start, cells-next, cells-end, values-next}
+use Rattle.typed_csv.proofs.RowLemmas.{followed_by, cells-start, cells-next, cells-end, values-next}
 use Rattle.typed_csv.proofs.row.cells_of.Goals as goal
 
 pub loop-field-init : goal.loop-field-init
@@ -34,7 +34,7 @@ loop-field-preserved c =
     record {
       read = c.loop-field.invariant.read ∙ cells-next width texts _ _ _ _ field column c.loop-field.read
           c.in_ok-cell.cell more.0 more.1 is
-          ∙ ap (λ r. behind r
+          ∙ ap (λ r. followed_by r
           (cells_reading width texts (iter_rest (zip_first c.next.new.self))
           (iter_rest (zip_second c.next.new.self)))) (sym c.in_ok-read.ensures);
       value = rw c.in_ok-read.ensures

@@ -1,10 +1,10 @@
 use Rattle.std.proofs.Common.{◌≡◌, take}
-use Rattle.typed_csv.specs.Places.{IsLastStart, place_after}
+use Rattle.typed_csv.specs.Positions.{IsLastStart, position_after}
 use Rattle.typed_csv.proofs.scan.scan.Given as goal
 
--- the place behind the bytes so far, and the last place between two records among them
+-- the position after the bytes so far, and the last position between two records among them
 abbrev pub invariant-loop-index : goal.invariant-loop-index
 invariant-loop-index l = record {
-  place : l.place ≡ place_after l.fn.place (take l.index l.bytes);
-  whole : IsLastStart l.fn.place (take l.index l.bytes) l.whole;
+  position : l.position ≡ position_after l.fn.position (take l.index l.bytes);
+  records_end : IsLastStart l.fn.position (take l.index l.bytes) l.records_end;
 }

@@ -18,13 +18,13 @@ invariant_of-self c =
     subst (λ (t : TableValue). IsTable t.schema t.rows t.next_id) c.self.view_is c.self.invariant.table in
     let taken : c.as_slice.result.now ≡ ids =
     c.as_slice.ensures ∙ ap (λ (r : RemovalValue). r.ids) c.removal.view_is in
-    let rows : c.cut.new.self.rows.items ≡ cut_rows ids table.rows =
-    c.cut.ensures.rows ∙ ap₂ cut_rows taken (ap (λ (t : TableValue). t.rows) c.self.view_is) in
+    let rows : c.delete.new.self.rows.items ≡ cut_rows ids table.rows =
+    c.delete.ensures.rows ∙ ap₂ cut_rows taken (ap (λ (t : TableValue). t.rows) c.self.view_is) in
     record {
-      table = subst (λ (s : SchemaValue). IsTable s c.cut.new.self.rows.items c.self.inside.next_id) (sym schema)
-          (subst (λ n. IsTable table.schema c.cut.new.self.rows.items n) (sym next)
+      table = subst (λ (s : SchemaValue). IsTable s c.delete.new.self.rows.items c.self.inside.next_id) (sym schema)
+          (subst (λ n. IsTable table.schema c.delete.new.self.rows.items n) (sym next)
           (subst (λ (r : List Row). IsTable table.schema r table.next_id) (sym rows)
           (cut_rows-table ids table whole c.requires)));
-      sound = c.cut.ensures.sound;
-      columns = c.cut.ensures.columns ∙ c.self.invariant.columns;
+      sound = c.delete.ensures.sound;
+      column_lists = c.delete.ensures.column_lists ∙ c.self.invariant.column_lists;
     }

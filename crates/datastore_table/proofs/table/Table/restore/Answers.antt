@@ -1,10 +1,10 @@
 use Rattle.std.proofs.Common.{subst, sym}
 use Rattle.table_schema.specs.Field.{SchemaValue}
-use Rattle.datastore_table.specs.Index.{IsStockOf}
+use Rattle.datastore_table.specs.Index.{IsStoreOf}
 use Rattle.datastore_table.proofs.table.Table.restore.Goals as goal
 
 pub invariant_of-result : goal.invariant_of-result
 invariant_of-result c =
-    let stock : IsStockOf c.args.schema c.in-Some.stock c.args.next_id =
-    rw c.in-Some.is at c.in_ok-made.ensures.stock in
-    subst (λ (s : SchemaValue). IsStockOf s c.in-Some.stock c.args.next_id) (sym c.in-Ok.ensures.ok) stock
+    let store : IsStoreOf c.args.schema c.in-Some.store c.args.next_id =
+    rw c.in-Some.is at c.in_ok-made.ensures.store in
+    subst (λ (s : SchemaValue). IsStoreOf s c.in-Some.store c.args.next_id) (sym c.in-Ok.ensures.ok) store

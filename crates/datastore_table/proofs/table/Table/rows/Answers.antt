@@ -8,4 +8,4 @@ use Rattle.datastore_table.proofs.table.Table.rows.Goals as goal
 pub returns-clause-values : goal.returns-clause-values
 returns-clause-values c =
     subst (λ (rows : List Row). All (λ row. All IsValue row.cells) rows) (sym c.as_slice.ensures.value)
-    (rows-values (arc_value c.self.inside.schema) c.self.inside.stock.rows.items c.self.invariant.table.meets)
+    (rows-values (arc_value c.self.inside.schema) c.self.inside.store.rows.items c.self.invariant.table.meets)

@@ -1,6 +1,6 @@
 use Rattle.std.proofs.Common.{◌≡◌, ◌∙◌, ◌++◌, ◌∷◌, [], ap, subst₂, sym}
 use Rattle.std.specs.Prelude.{if◌then◌else◌}
-use Rattle.portal_base.specs.Ordered.{placed}
+use Rattle.portal_base.specs.Ordered.{upserted}
 use Rattle.datastore_table.specs.Batch.{AreThoseOf, Written}
 use Rattle.datastore_table.specs.Put.{row_id, written_row}
 use Rattle.datastore_table.specs.Rows.{row_cmp}
@@ -15,14 +15,14 @@ returns-clause-ok c = λ rows up.
     let was = c.self.inside.changed.items in
     let w : Written = record { changed = was; next_id = next_id; written = c.self.inside.written.items } in
     let v : Written = record {
-      changed = c.place-replaced.new.items.items;
+      changed = c.put_sorted-replaced.new.items.items;
       next_id = c.in_ok-next_id.next_id;
       written = c.push.new.self.items;
     } in
-    let changed : v.changed ≡ placed row_cmp (written_row (row_id id next_id) cells) was =
-    c.place-replaced.ensures.items
-    ∙ ap (λ i. placed row_cmp (written_row i cells) c.reserve.new.self.items) c.row_id-id.ensures
-    ∙ ap (placed row_cmp (written_row (row_id id next_id) cells)) c.reserve.ensures.items in
+    let changed : v.changed ≡ upserted row_cmp (written_row (row_id id next_id) cells) was =
+    c.put_sorted-replaced.ensures.items
+    ∙ ap (λ i. upserted row_cmp (written_row i cells) c.reserve.new.self.items) c.row_id-id.ensures
+    ∙ ap (upserted row_cmp (written_row (row_id id next_id) cells)) c.reserve.ensures.items in
     let written : v.written ≡ w.written ++ row_id id next_id ∷ [] =
     c.push.ensures.items
     ∙ ap (λ b. if b then w.written ++ c.row_id-id.result ∷ [] else w.written) c.if-is_err.ensures.negation
@@ -36,9 +36,9 @@ invariant_of-self-2 c =
     let row = written_row id c.args.cells in
     let was = c.self.inside.changed.items in
     let ids = c.self.inside.written.items in
-    let changed : c.place-replaced.new.items.items ≡ placed row_cmp row was =
-    c.place-replaced.ensures.items ∙ ap (placed row_cmp row) c.reserve.ensures.items in
+    let changed : c.put_sorted-replaced.new.items.items ≡ upserted row_cmp row was =
+    c.put_sorted-replaced.ensures.items ∙ ap (upserted row_cmp row) c.reserve.ensures.items in
     let written : c.push.new.self.items ≡ ids ++ id ∷ [] =
     c.push.ensures.items ∙ ap (λ b. if b then ids ++ id ∷ [] else ids) c.if-is_err.ensures.negation in
     let those = AreThoseOf-placed row ids was c.self.invariant.0 c.self.invariant.1 in
-    (c.place-replaced.ensures.ascending, subst₂ AreThoseOf (sym written) (sym changed) those)
+    (c.put_sorted-replaced.ensures.ascending, subst₂ AreThoseOf (sym written) (sym changed) those)

@@ -11,7 +11,7 @@ loop-character-preserved c = (
   search rules,
   rw c.in_ok-push.ensures.bytes
       (run_more c.args.self (string_bytes c.loop-character.value) (chars c.loop-character.rest.now)
-      c.in-Some.character (chars c.in-Some.behind.now)
+      c.in-Some.character (chars c.in-Some.following.now)
       (onto (string_bytes c.args.value.now) (run c.args.self (chars c.args.text.now))) c.in-Some.ensures.some
       c.in-Some.ensures.parts c.loop-character.invariant.1),
 )

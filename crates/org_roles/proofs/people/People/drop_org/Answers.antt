@@ -1,4 +1,4 @@
-use Rattle.portal_base.proofs.Placed.{IsAscending-dropped}
+use Rattle.portal_base.proofs.Upserted.{IsAscending-dropped}
 use Rattle.org_roles.specs.Order.{membership_cmp, membership_in_org_at}
 use Rattle.org_roles.proofs.people.People.drop_org.Goals as goal
 

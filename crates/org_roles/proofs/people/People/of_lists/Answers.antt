@@ -1,5 +1,5 @@
 use Rattle.std.proofs.Common.{◌∙◌}
-use Rattle.org_roles.proofs.PeopleLemmas.{IsPeopled-ascending, are_apart-users, are_apart-orgs, are_apart-roles}
+use Rattle.org_roles.proofs.PeopleLemmas.{AreSorted-ascending, are_apart-users, are_apart-orgs, are_apart-roles}
 use Rattle.org_roles.proofs.people.People.of_lists.Goals as goal
 
 pub sorted-requires : goal.sorted-requires
@@ -13,5 +13,5 @@ sorted-requires-3 c = are_apart-roles c.args.roles ∙ c.requires.roles
 
 pub invariant_of-result : goal.invariant_of-result
 invariant_of-result c =
-    IsPeopled-ascending c.args.users _ c.args.orgs _ c.args.roles _ c.requires.users c.requires.orgs c.requires.roles
+    AreSorted-ascending c.args.users _ c.args.orgs _ c.args.roles _ c.requires.users c.requires.orgs c.requires.roles
     c.sorted.ensures c.sorted-2.ensures c.sorted-3.ensures

@@ -1,6 +1,6 @@
 -- The dataset is at the vacant number, which was entered under the digests of its id and its name.
 use Rattle.std.proofs.Common.{false, None, subst, ap, ◌∙◌, ◌≡◌, true}
-use Rattle.portal_base.specs.Ordered.{placed}
+use Rattle.portal_base.specs.Ordered.{upserted}
 use Rattle.packages.specs.Index.{digest_of, Enters}
 use Rattle.packages.specs.Order.{dataset_cmp}
 use Rattle.packages.specs.Shelf.{datasets_of, with_package, with_room}
@@ -11,11 +11,11 @@ pub enter-requires-2 : goal.enter-requires-2
 enter-requires-2 c =
     let ready : c.self.inside.is_prepared ≡ true =
     is_prepared c.self.inside.datasets c.self.inside.is_prepared c.args.self.now c.self.view_is c.requires.room in
-    c.enter.ensures.room 1 (c.self.invariant.ready ready).places
+    c.enter.ensures.room 1 (c.self.invariant.ready ready).index_room
 
 changed : (c : goal.After-self-1) → IsChanged c.insert_reserved.new.self c.enter-2.new.self false
     (with_room None (with_package c.vacant_key-number.result c.args.package c.args.self.now))
-    (placed dataset_cmp c.args.package (datasets_of c.args.self.now))
+    (upserted dataset_cmp c.args.package (datasets_of c.args.self.now))
 changed c =
     changed-put c.self.inside.datasets c.insert_reserved.new.self c.self.inside.index c.enter.new.self
     c.enter-2.new.self c.self.inside.is_prepared c.vacant_key-number.result c.insert_reserved.result c.args.package
@@ -30,10 +30,10 @@ pub invariant_of-self : goal.invariant_of-self
 invariant_of-self c = (changed c).kept
 
 pub returns-clause-put : goal.returns-clause-put
-returns-clause-put c = (changed c).seen
+returns-clause-put c = (changed c).same_state
 
 pub returns-clause-datasets : goal.returns-clause-datasets
 returns-clause-datasets c = (changed c).by_id
 
-pub returns-clause-shelved : goal.returns-clause-shelved
-returns-clause-shelved c = (changed c).shelved
+pub returns-clause-valid : goal.returns-clause-valid
+returns-clause-valid c = (changed c).valid

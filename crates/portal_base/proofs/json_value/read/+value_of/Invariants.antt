@@ -6,7 +6,7 @@ use Rattle.serde_json.specs.View.{items_view, members_view}
 use Rattle.portal_base.specs.Json.{list_of, entries_of, ItemsAreOrderly, MembersAreOrderly}
 use Rattle.portal_base.proofs.json_value.read.+value_of.Given as goal
 
--- where the rest is orderly all is, and the rest comes behind what is made so far
+-- If the rest is orderly all is, and the values of the rest follow those made so far.
 abbrev pub invariant-list-loop-item : goal.invariant-list-loop-item
 invariant-list-loop-item l =
     (ItemsAreOrderly (items_view (drop l.item-index l.item-items)) → ItemsAreOrderly (items_view l.item-items))

@@ -4,7 +4,7 @@ use Rattle.serde_json.specs.Events.{SendsItems, SendsMembers}
 use Rattle.portal_base.specs.Json.{items_data, members_data}
 use Rattle.portal_base.proofs.json_value.write.+send.Given as goal
 
--- whatever ends it well from here ends it well from the start
+-- What completes the value from here completes it from the start.
 abbrev pub invariant-send_items-loop-item : goal.invariant-send_items-loop-item
 invariant-send_items-loop-item g l =
     (end : Log) → SendsItems (items_data (drop l.item-index l.items)) (g.S.Serializer.written l.out) end

@@ -7,7 +7,7 @@ pub returns-clause-text : goal.returns-clause-text
 returns-clause-text c = IsMomentText-moment_text _ _ c.civil_of-civil.ensures.within (
   c.civil_of-civil.result,
   c.civil_of-civil.ensures.second,
-  c.civil_of-civil.ensures.whole,
+  c.civil_of-civil.ensures.no_fraction,
   c.from.ensures
       ∙ c.in_ok-string.ensures.ok,
 )
@@ -16,7 +16,7 @@ pub returns-clause-civil : goal.returns-clause-civil
 returns-clause-civil c = (
   c.civil_of-civil.result,
   c.civil_of-civil.ensures.second,
-  c.civil_of-civil.ensures.whole,
+  c.civil_of-civil.ensures.no_fraction,
   c.from.ensures
       ∙ c.in_ok-string.ensures.ok,
 )
@@ -25,7 +25,7 @@ pub returns-clause-back : goal.returns-clause-back
 returns-clause-back c = reading-back _ _ c.civil_of-civil.ensures.within (
   c.civil_of-civil.result,
   c.civil_of-civil.ensures.second,
-  c.civil_of-civil.ensures.whole,
+  c.civil_of-civil.ensures.no_fraction,
   c.from.ensures
       ∙ c.in_ok-string.ensures.ok,
 )

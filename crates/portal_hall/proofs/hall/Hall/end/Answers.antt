@@ -28,7 +28,7 @@ fetch_add-requires-2 g c =
       search rules,
       passes_as m.core m.faults m.step _ _ _ _ _ c.args.seat.now.me.0 r.ticket.0 c.args.held c.args.more now
           r.ticket.1 r.some_room
-          r.named r.stands,
+          r.named r.replayed,
     )
 
 pub returns : goal.returns

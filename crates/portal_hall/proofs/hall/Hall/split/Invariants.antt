@@ -1,4 +1,4 @@
 use Rattle.portal_hall.proofs.hall.Hall.split.Given as goal
 
-abbrev pub ghosts-cut : goal.ghosts-cut
-ghosts-cut g a = record { room = a.room }
+abbrev pub ghosts-split_room : goal.ghosts-split_room
+ghosts-split_room g a = record { room = a.room }

@@ -15,7 +15,7 @@ returns-then-branch-clause-line g c is =
     let taken = c.in_ok-take_from.ensures.taken in
     let line : c.measure.result ≡ Line = cc in
     TakesLine-ended c.args.self.now _ (g.S.Source.to_come c.args.source.now) (g.S.Source.to_come c.loop-self.source)
-    c.loop-self.self-inside.window c.loop-self.self-inside.draft.kept.items c.loop-self.self-inside.draft.is_over
+    c.loop-self.self-inside.window c.loop-self.self-inside.partial.kept.items c.loop-self.self-inside.partial.is_over
     taken.0 c.take_from.new.self.kept.items
     c.loop-self.self-inside.longest inv.under_way inv.longest
     c.in_ok-take_from.field-0 c.if-branch.true taken.1 c.take_from.new.self.is_over taken.2
@@ -27,7 +27,7 @@ returns-then-branch-clause-long g c is =
     let taken = c.in_ok-take_from.ensures.taken in
     let long : c.measure.result ≡ TooLong = cc in
     SkipsLine-ended c.args.self.now _ (g.S.Source.to_come c.args.source.now) (g.S.Source.to_come c.loop-self.source)
-    c.loop-self.self-inside.window c.loop-self.self-inside.draft.kept.items c.loop-self.self-inside.draft.is_over
+    c.loop-self.self-inside.window c.loop-self.self-inside.partial.kept.items c.loop-self.self-inside.partial.is_over
     taken.0 c.take_from.new.self.kept.items
     c.loop-self.self-inside.longest inv.under_way inv.longest
     c.in_ok-take_from.field-0 c.if-branch.true taken.1 c.take_from.new.self.is_over taken.2
@@ -39,13 +39,13 @@ returns-in_err-count-clause-lost g c =
     let inv = c.loop-self.invariant in
     let taken = c.in_ok-take_from.ensures.taken in
     let lost = LosesStart-failed c.args.self.now (record {
-      held = c.fill.new.self;
+      buffered = c.fill.new.self;
       line = c.take_from.new.self.kept.items;
-      given = c.loop-self.self-inside.given;
+      received = c.loop-self.self-inside.received;
       longest = c.loop-self.self-inside.longest;
-      most = c.loop-self.self-inside.most;
+      limit = c.loop-self.self-inside.limit;
     }) (g.S.Source.to_come c.args.source.now) (g.S.Source.to_come c.loop-self.source)
-    c.loop-self.self-inside.window c.loop-self.self-inside.draft.kept.items c.loop-self.self-inside.draft.is_over
+    c.loop-self.self-inside.window c.loop-self.self-inside.partial.kept.items c.loop-self.self-inside.partial.is_over
     c.in_ok-take_from.field-0 taken.0 c.take_from.new.window (g.S.Source.to_come c.fill.new.source)
     inv.under_way c.if-branch.false taken.1 c.in_err-count.ensures.kept c.in_err-count.ensures.empty in
     on_err c.from_residual-in_err-count.result lost
@@ -55,18 +55,18 @@ loop-self-preserved g c =
     let inv = c.loop-self.invariant in
     let taken = c.in_ok-take_from.ensures.taken in
     record {
-      under_way = UnderWay-read c.args.self.now.held (g.S.Source.to_come c.args.source.now) c.args.self.now.given
+      under_way = UnderWay-read c.args.self.now.buffered (g.S.Source.to_come c.args.source.now) c.args.self.now.received
           c.args.self.now.longest
-          c.loop-self.self-inside.window (g.S.Source.to_come c.loop-self.source) c.loop-self.self-inside.given
-          c.loop-self.self-inside.draft.kept.items c.loop-self.self-inside.draft.is_over
+          c.loop-self.self-inside.window (g.S.Source.to_come c.loop-self.source) c.loop-self.self-inside.received
+          c.loop-self.self-inside.partial.kept.items c.loop-self.self-inside.partial.is_over
           c.in_ok-take_from.field-0 taken.0 c.take_from.new.window c.take_from.new.self.kept.items
           c.take_from.new.self.is_over
           c.fill.new.self (g.S.Source.to_come c.fill.new.source)
-          (c.loop-self.self-inside.given + c.in_ok-count.count) c.loop-self.self-inside.longest
+          (c.loop-self.self-inside.received + c.in_ok-count.count) c.loop-self.self-inside.longest
           inv.under_way inv.longest c.if-branch.false taken.1 taken.2 c.in_ok-count.ensures.bytes
-          (ap (λ n. c.loop-self.self-inside.given + n) c.in_ok-count.ensures.count);
+          (ap (λ n. c.loop-self.self-inside.received + n) c.in_ok-count.ensures.count);
       longest = inv.longest;
-      most = inv.most;
+      limit = inv.limit;
       bound = c.in_ok-take_from.ensures.bound inv.bound;
       counts = omega (arith, inv.counts, c.in_ok-count.ensures.counts);
       loan = c.in_ok-count.ensures.loan ∙ inv.loan;
@@ -75,18 +75,18 @@ loop-self-preserved g c =
 -- what came is all
 last : (g : _) (c : goal.After-measure_last g)
     → AtLast c.args.self.now (record {
-      held = c.fill.new.self;
+      buffered = c.fill.new.self;
       line = c.take_from.new.self.kept.items;
-      given = c.loop-self.self-inside.given;
+      received = c.loop-self.self-inside.received;
       longest = c.loop-self.self-inside.longest;
-      most = c.loop-self.self-inside.most;
+      limit = c.loop-self.self-inside.limit;
     }) (g.S.Source.to_come c.args.source.now)
     (g.S.Source.to_come c.fill.new.source) c.take_from.new.self.kept.items c.take_from.new.self.is_over
 last g c =
     let inv = c.loop-self.invariant in
     let taken = c.in_ok-take_from.ensures.taken in
     AtLast-read c.args.self.now _ (g.S.Source.to_come c.args.source.now) (g.S.Source.to_come c.loop-self.source)
-    c.loop-self.self-inside.window c.loop-self.self-inside.draft.kept.items c.loop-self.self-inside.draft.is_over
+    c.loop-self.self-inside.window c.loop-self.self-inside.partial.kept.items c.loop-self.self-inside.partial.is_over
     c.in_ok-take_from.field-0
     taken.0 c.take_from.new.window c.take_from.new.self.kept.items c.take_from.new.self.is_over
     (g.S.Source.to_come c.fill.new.source)
@@ -117,5 +117,5 @@ pub returns-then-count-eq0-clause-falls : goal.returns-then-count-eq0-clause-fal
 returns-then-count-eq0-clause-falls g c some =
     let taken = SomeLine-last _ _ _ _ _ c.take_from.new.self.is_over (last g c)
     (λ fits e. some (c.measure_last.ensures.end.1 (fits, e))) in
-    bytes_left-falls _ _ _ _ taken.0 taken.1 c.loop-self.invariant.most
+    bytes_left-falls _ _ _ _ taken.0 taken.1 c.loop-self.invariant.limit
     (omega (arith, c.if-self-from.false, c.from.ensures))

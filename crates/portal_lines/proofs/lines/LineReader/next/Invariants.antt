@@ -5,15 +5,15 @@ use Rattle.portal_lines.proofs.lines.LineReader.next.Given as goal
 -- part of a line came
 abbrev pub invariant-loop-self : goal.invariant-loop-self
 invariant-loop-self g l = record {
-  under_way : UnderWay l.fn.self.held (g.S.Source.to_come l.fn.source) l.fn.self.given l.fn.self.longest
-      l.self-inside.window (g.S.Source.to_come l.source) l.self-inside.given l.self-inside.draft.kept.items
-      l.self-inside.draft.is_over;
+  under_way : UnderWay l.fn.self.buffered (g.S.Source.to_come l.fn.source) l.fn.self.received l.fn.self.longest
+      l.self-inside.window (g.S.Source.to_come l.source) l.self-inside.received l.self-inside.partial.kept.items
+      l.self-inside.partial.is_over;
   longest : l.self-inside.longest ≡ l.fn.self.longest;
-  most : l.self-inside.most ≡ l.fn.self.most;
-  bound : length l.self-inside.draft.kept.items ≤ l.self-inside.longest + 1;
+  limit : l.self-inside.limit ≡ l.fn.self.limit;
+  bound : length l.self-inside.partial.kept.items ≤ l.self-inside.longest + 1;
   counts : g.S.Source.faults l.fn.source ≤ g.S.Source.faults l.source;
   loan : g.S.Source.loan l.source ≡ g.S.Source.loan l.fn.source;
 }
 
 abbrev pub decreases-loop-self : goal.decreases-loop-self
-decreases-loop-self g l = l.self-inside.most + 1 - l.self-inside.given
+decreases-loop-self g l = l.self-inside.limit + 1 - l.self-inside.received

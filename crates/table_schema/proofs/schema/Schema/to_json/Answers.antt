@@ -24,7 +24,7 @@ returns-clause-value c =
     ∙ (rw c.in_ok-add-4.ensures.ok
     (rw c.in_ok-add-3.ensures.ok (rw c.in_ok-add-2.ensures.ok (rw c.in_ok-add.ensures.ok (rw c.new-members.ensures
     (rw c.in_ok-fields_json.ensures
-    (rw c.in_ok-foreigns_json.ensures (rw c.in_ok-texts_json.ensures (rw c.in_ok-names_json.ensures
+    (rw c.in_ok-foreign_keys_json.ensures (rw c.in_ok-texts_json.ensures (rw c.in_ok-names_json.ensures
     (rw c.as_slice-fields.ensures
     (rw c.as_slice.ensures (rw c.as_slice-2.ensures (rw c.deref.ensures (rw c.as_slice-3.ensures refl)))))))))))))))
 

@@ -1,8 +1,8 @@
 use Rattle.typed_csv.proofs.ReceivedLemmas.{received}
 use Rattle.typed_csv.proofs.record_reader.RecordReader.advance.Goals as goal
 
-pub returns-then-self-gt-MOST_BYTES-clause-received : goal.returns-then-self-gt-MOST_BYTES-clause-received
-returns-then-self-gt-MOST_BYTES-clause-received g c =
+pub returns-then-self-gt-MAX_BYTES-clause-received : goal.returns-then-self-gt-MAX_BYTES-clause-received
+returns-then-self-gt-MAX_BYTES-clause-received g c =
     received g.S.Source.to_come _ c.args.self.now c.read.new.self c.in_ok-count.count c.read.new.into c.self.view_is
     c.in_ok-count.ensures.within c.in_ok-count.ensures.bytes
 

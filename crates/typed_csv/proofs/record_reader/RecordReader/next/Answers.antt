@@ -41,7 +41,7 @@ returns-then-not-branch-clause-received g c =
 pub loop-next-preserved : goal.loop-next-preserved
 loop-next-preserved g c =
     record {
-      ahead = grind (arith, common_steps);
+      remaining = grind (arith, common_steps);
       received =
           received_on (g.S.Source.to_come c.args.self.now.source)
           (g.S.Source.to_come c.self-in-loop-next.inside.source) (g.S.Source.to_come c.advance.new.self.source)

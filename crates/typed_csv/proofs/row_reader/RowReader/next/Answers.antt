@@ -1,7 +1,7 @@
 use Rattle.std.proofs.Common.{arith, rules}
 use Rattle.std.proofs.lemmas.Grind.{common_steps}
 use Rattle.csv.specs.Records.{fields_of}
-use Rattle.typed_csv.proofs.LoadingLemmas.{no_text_row, row_refused}
+use Rattle.typed_csv.proofs.LoaderLemmas.{no_text_row, row_refused}
 use Rattle.typed_csv.proofs.row_reader.RowReader.next.Goals as goal
 
 -- the texts are those of the record that was read

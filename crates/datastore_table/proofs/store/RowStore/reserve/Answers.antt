@@ -1,0 +1,16 @@
+use Rattle.std.proofs.Common.{arith}
+use Rattle.datastore_table.proofs.StoreLemmas.{indexed_same}
+use Rattle.datastore_table.proofs.store.RowStore.reserve.Goals as goal
+
+pub returns-in_err-reserve-2-clause-sound : goal.returns-in_err-reserve-2-clause-sound
+returns-in_err-reserve-2-clause-sound c =
+    let old = c.args.self.now in
+    record {
+      indexed = indexed_same old.column_lists.items old.rows.items c.reserve.new.self.items old.index
+          c.reserve-2.new.self
+          c.reserve.ensures.items c.reserve-2.ensures.same c.reserve-2.ensures.colliding c.requires.indexed;
+      ready = record {
+        rows = omega (arith, c.requires.ready.rows, c.reserve.ensures.capacity, c.reserve.ensures.len);
+        index = c.reserve-2.ensures.kept _ c.requires.ready.index;
+      };
+    }

@@ -1,0 +1,298 @@
+//! The store of a table's rows, with their index.
+//!
+//! `reserve` prepares a change and is the only call that takes memory. `put` and `delete` make the change.
+ghost use Rattle.std.specs.Prelude.{◌≡◌, ℕ, ◌+◌, ◌*◌, ◌<◌, ◌≤◌, ◌++◌, [], ◌∷◌, length, vec_len, vec_capacity};
+ghost use Rattle.std.specs.Prelude.{IfOk, OnOk, OnErr};
+ghost use Rattle.portal_base.specs.Ordered.{IsAscending, upserted};
+ghost use Rattle.portal_base.proofs.Unique.{IsIn};
+ghost use Rattle.datastore_table.specs.declared.row.Row.{Row};
+ghost use Rattle.datastore_table.specs.Batch.{cut_rows};
+ghost use Rattle.datastore_table.specs.Index.{column_lists_of, key_column_lists, unique_column_lists, EntersAt};
+ghost use Rattle.datastore_table.specs.Index.{EntersRow, HasRoomFor};
+ghost use Rattle.datastore_table.specs.Index.{IsGone, IsIndexed, IsLedBeside, IsLeft, IsSound};
+ghost use Rattle.datastore_table.specs.Index.{Leaves, LeavesAll, LeavesRows};
+ghost use Rattle.datastore_table.specs.Rows.{row_cmp, rows_after};
+
+use crate::cells::has_null_at;
+use crate::index::Index;
+use crate::lookup_key::digest_at;
+use crate::removal::delete;
+use crate::row::Row;
+use crate::rows::{put_sorted, row_at};
+use portal_base::seq::Seq;
+use std::alloc::{AllocError, Global};
+use table_schema::{Cell, Field, Schema};
+
+/// Rows and their index.
+#[derive(Drop)]
+pub(crate) struct RowStore {
+    pub rows: Vec<Row>,
+    pub index: Index,
+    /// The lists of columns that the index covers: the columns of the primary key, and the column of each unique field.
+    pub column_lists: Vec<Seq<u32>>,
+    /// The count of further rows for which there is memory.
+    pub ready: usize,
+}
+
+impl RowStore {
+    /// A store of these rows.
+    pub(crate) fn of_rows(
+        alloc: Global,
+        schema: &Schema,
+        rows: Vec<Row>,
+    ) -> Result<RowStore, AllocError>
+        ensures rows { IfOk result (λ store. store.rows.items ≡ rows.items) }
+        ensures sound { IfOk result (λ store. IsSound store) }
+        ensures column_lists { IfOk result (λ store. store.column_lists.items ≡ column_lists_of schema.now) }
+        ensures ready { IfOk result (λ store. store.ready ≡ 0) }
+    {
+        let column_lists = column_lists_of(alloc, schema)?;
+        let index = index_of(alloc, column_lists.as_slice(), rows.as_slice())?;
+        Ok(RowStore {
+            rows,
+            index,
+            column_lists,
+            ready: 0,
+        })
+    }
+
+    /// Reserves memory for this count of further rows.
+    pub(crate) fn reserve(&mut self, more: usize) -> Result<(), AllocError>
+        requires { IsSound self.old }
+        ensures sound { IsSound self.new }
+        ensures rows { self.new.rows.items ≡ self.old.rows.items }
+        ensures column_lists { self.new.column_lists.items ≡ self.old.column_lists.items }
+        ensures ready { OnOk result (more ≤ self.new.ready) }
+        ensures same { OnErr result (self.new.ready ≡ self.old.ready) }
+    {
+        if more <= self.ready {
+            return Ok(());
+        }
+        self.rows.reserve(more)?;
+        self.index.reserve(product(more, self.column_lists.len())?)?;
+        self.ready = more;
+        Ok(())
+    }
+
+    /// Writes the changed rows: each replaces the row with its `_id` or is a new row. There is memory for them, so it
+    /// takes none and can't fail.
+    pub(crate) fn put(&mut self, changed: Vec<Row>)
+        requires ascending { IsAscending row_cmp self.old.rows.items }
+        requires sound { IsSound self.old }
+        requires room { length changed.items ≤ self.old.ready }
+        ensures rows { self.new.rows.items ≡ rows_after changed.items self.old.rows.items }
+        ensures sound { IsSound self.new }
+        ensures column_lists { self.new.column_lists.items ≡ self.old.column_lists.items }
+    {
+        let column_lists = self.column_lists.as_slice();
+        leave_rows(
+            &mut self.index,
+            column_lists,
+            self.rows.as_slice(),
+            changed.as_slice(),
+        );
+        put_rows(&mut self.rows, &mut self.index, column_lists, changed);
+        self.ready = 0;
+    }
+
+    /// Deletes the rows with these `_id`s. It takes no memory and can't fail.
+    pub(crate) fn delete(&mut self, ids: &[u64])
+        requires ascending { IsAscending row_cmp self.old.rows.items }
+        requires sound { IsSound self.old }
+        ensures rows { self.new.rows.items ≡ cut_rows ids.now self.old.rows.items }
+        ensures sound { IsSound self.new }
+        ensures column_lists { self.new.column_lists.items ≡ self.old.column_lists.items }
+    {
+        leave_all(
+            &mut self.index,
+            self.column_lists.as_slice(),
+            self.rows.as_slice(),
+            ids,
+        );
+        delete(&mut self.rows, ids);
+        self.ready = 0;
+    }
+}
+
+/// The lists of columns that the index covers.
+fn column_lists_of(alloc: Global, schema: &Schema) -> Result<Vec<Seq<u32>>, AllocError>
+    ensures { IfOk result (λ column_lists. column_lists.items ≡ column_lists_of schema.now) }
+{
+    let mut column_lists = key_column_lists(alloc, schema.key().as_slice())?;
+    add_unique_column_lists(alloc, &mut column_lists, schema.fields().as_slice())?;
+    Ok(column_lists)
+}
+
+fn key_column_lists(alloc: Global, key: &[u32]) -> Result<Vec<Seq<u32>>, AllocError>
+    ensures { IfOk result (λ column_lists. column_lists.items ≡ key_column_lists key.now) }
+{
+    let mut column_lists = Vec::new(alloc);
+    if !key.is_empty() {
+        column_lists.push(copy_columns(alloc, key)?)?;
+    }
+    Ok(column_lists)
+}
+
+fn add_unique_column_lists(
+    alloc: Global,
+    column_lists: &mut Vec<Seq<u32>>,
+    fields: &[Field],
+) -> Result<(), AllocError>
+    ensures { OnOk result (column_lists.new.items ≡ column_lists.old.items ++ unique_column_lists 0 fields.now) }
+{
+    for (column, field) in fields.iter().enumerate() {
+        add_unique_column_list(alloc, column_lists, column, field)?;
+    }
+    Ok(())
+}
+
+fn add_unique_column_list(
+    alloc: Global,
+    column_lists: &mut Vec<Seq<u32>>,
+    column: usize,
+    field: &Field,
+) -> Result<(), AllocError>
+    ensures { OnOk result (column_lists.new.items ≡ column_lists.old.items ++ unique_column_lists column
+        (field.now ∷ [])) }
+{
+    if !field.constraints().unique {
+        return Ok(());
+    }
+    match u32::try_from(column) {
+        Ok(column) => {
+            column_lists.push(copy_columns(alloc, &[column])?)?;
+            Ok(())
+        }
+        // There is no memory for more fields than a `u32` counts.
+        Err(_) => Err(AllocError),
+    }
+}
+
+fn copy_columns(alloc: Global, columns: &[u32]) -> Result<Seq<u32>, AllocError>
+    ensures { IfOk result (λ copy. copy ≡ columns.now) }
+{
+    let mut copy = Vec::with_capacity(alloc, columns.len())?;
+    copy.extend_from_slice(columns)?;
+    Ok(Seq::from(copy))
+}
+
+fn product(rows: usize, column_lists: usize) -> Result<usize, AllocError>
+    ensures { IfOk result (λ product. product ≡ rows * column_lists) }
+{
+    match rows.checked_mul(column_lists) {
+        Some(product) => Ok(product),
+        None => Err(AllocError),
+    }
+}
+
+/// Creates the index of these rows.
+fn index_of(alloc: Global, column_lists: &[Seq<u32>], rows: &[Row]) -> Result<Index, AllocError>
+    ensures { IfOk result (λ index. IsIndexed column_lists.now rows.now index) }
+{
+    let mut index = Index::new(alloc);
+    index.reserve(product(rows.len(), column_lists.len())?)?;
+    enter_all(&mut index, column_lists, rows);
+    Ok(index)
+}
+
+/// Enters all rows into the index, which has room for them.
+fn enter_all(index: &mut Index, column_lists: &[Seq<u32>], rows: &[Row])
+    requires { HasRoomFor index.old (length rows.now * length column_lists.now) }
+    ensures { IsIndexed column_lists.now rows.now index.new }
+{
+    for row in rows {
+        enter_row(index, column_lists, row);
+    }
+}
+
+/// Enters a row by each of these lists of columns.
+fn enter_row(index: &mut Index, column_lists: &[Seq<u32>], row: &Row)
+    requires { HasRoomFor index.old (length column_lists.now) }
+    ensures { EntersRow index.old index.new column_lists.now row.now }
+{
+    for columns in column_lists {
+        enter_at(index, columns.as_slice(), row);
+    }
+}
+
+/// Enters a row by its cells in these columns, unless one of them is Null.
+fn enter_at(index: &mut Index, columns: &[u32], row: &Row)
+    requires { HasRoomFor index.old 1 }
+    ensures { EntersAt index.old index.new columns.now row.now }
+{
+    let cells = row.cells.as_slice();
+    if !has_null_at(cells, columns) {
+        index.enter(digest_at(columns, cells, columns), row.id);
+    }
+}
+
+/// Removes the index entries of the rows that have the `_id` of a changed row.
+fn leave_rows(index: &mut Index, column_lists: &[Seq<u32>], rows: &[Row], changed: &[Row])
+    requires { IsAscending row_cmp rows.now }
+    ensures leaves { LeavesRows index.old index.new changed.now }
+    ensures left { (row : Row) → IsIn row changed.now → IsLeft column_lists.now rows.now row.id index.new }
+{
+    for row in changed {
+        leave_id(index, column_lists, rows, row.id);
+    }
+}
+
+/// Removes the index entries of the rows with these `_id`s.
+fn leave_all(index: &mut Index, column_lists: &[Seq<u32>], rows: &[Row], ids: &[u64])
+    requires { IsAscending row_cmp rows.now }
+    ensures leaves { LeavesAll index.old index.new ids.now }
+    ensures left { (id : ℕ) → IsIn id ids.now → IsLeft column_lists.now rows.now id index.new }
+{
+    for id in ids {
+        leave_id(index, column_lists, rows, *id);
+    }
+}
+
+fn leave_id(index: &mut Index, column_lists: &[Seq<u32>], rows: &[Row], id: u64)
+    requires { IsAscending row_cmp rows.now }
+    ensures leaves { Leaves index.old index.new id }
+    ensures left { IsLeft column_lists.now rows.now id index.new }
+{
+    if let Some(row) = row_at(rows, id) {
+        leave_row(index, column_lists, row.cells.as_slice(), id);
+    }
+}
+
+fn leave_row(index: &mut Index, column_lists: &[Seq<u32>], cells: &[Cell], id: u64)
+    ensures leaves { Leaves index.old index.new id }
+    ensures gone { IsGone column_lists.now cells.now id index.new }
+{
+    index.forget(id);
+    for columns in column_lists {
+        let columns = columns.as_slice();
+        index.leave(digest_at(columns, cells, columns), id);
+    }
+}
+
+/// Writes the changed rows among the others. There is room for them, so it takes no memory and can't fail.
+#[tactic(auto, using(crate::proofs::StoreLemmas::led_placed, crate::proofs::StoreLemmas::led_all))]
+fn put_rows(rows: &mut Vec<Row>, index: &mut Index, column_lists: &[Seq<u32>], changed: Vec<Row>)
+    requires ascending { IsAscending row_cmp rows.old.items }
+    requires room { vec_len rows.old + length changed.items ≤ vec_capacity rows.old }
+    requires index_room { HasRoomFor index.old (length changed.items * length column_lists.now) }
+    requires led { IsLedBeside column_lists.now changed.items rows.old.items index.old }
+    ensures rows { rows.new.items ≡ rows_after changed.items rows.old.items }
+    ensures indexed { IsIndexed column_lists.now rows.new.items index.new }
+{
+    for row in changed {
+        enter_row(index, column_lists, &row);
+        put_row(rows, row);
+    }
+}
+
+/// Writes one row among the others, for which there is room.
+fn put_row(rows: &mut Vec<Row>, row: Row)
+    requires ascending { IsAscending row_cmp rows.old.items }
+    requires room { vec_len rows.old < vec_capacity rows.old }
+    ensures items { rows.new.items ≡ upserted row_cmp row rows.old.items }
+    ensures ascending { IsAscending row_cmp rows.new.items }
+    ensures capacity { vec_capacity rows.old ≤ vec_capacity rows.new }
+    ensures len { vec_len rows.new ≤ vec_len rows.old + 1 }
+{
+    let _replaced = put_sorted(rows, row);
+}

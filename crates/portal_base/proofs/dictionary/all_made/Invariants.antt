@@ -1,5 +1,0 @@
-use Rattle.std.proofs.Common.{◌≡◌, map}
-use Rattle.portal_base.proofs.dictionary.all_made.Given as goal
-
-abbrev pub invariant-loop-member : goal.invariant-loop-member
-invariant-loop-member g l = l.list.items ≡ map g.M.IntoMember.member l.yielded

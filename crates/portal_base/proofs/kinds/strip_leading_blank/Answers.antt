@@ -1,0 +1,11 @@
+use Rattle.std.proofs.Common.{lit<}
+use Rattle.std.proofs.lemmas.Str.Pattern.{strip_prefix_char}
+use Rattle.std.specs.Prelude.{None}
+use Rattle.portal_base.proofs.KindLemmas.{trimmed_start_if_none}
+use Rattle.portal_base.proofs.kinds.strip_leading_blank.Goals as goal
+
+pub returns-in-None-clause-none : goal.returns-in-None-clause-none
+returns-in-None-clause-none c =
+    trimmed_start_if_none c.args.text.now c.strip_prefix-in-None.result
+    (strip_prefix_char 32 c.args.text.now None c.in-None.ensures.cases (lit< tt))
+    (strip_prefix_char 9 c.args.text.now _ c.strip_prefix-in-None.ensures.cases (lit< tt))

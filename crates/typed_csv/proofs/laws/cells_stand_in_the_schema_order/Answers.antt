@@ -1,5 +1,0 @@
-use Rattle.typed_csv.proofs.LawLemmas.{schema-order}
-use Rattle.typed_csv.proofs.laws.cells_stand_in_the_schema_order.Goals as goal
-
-pub returns : goal.returns
-returns c = schema-order
