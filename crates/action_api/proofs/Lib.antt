@@ -1,3 +1,3 @@
-mod Placed
+mod TypeMember
 mod Queries
 mod Texts

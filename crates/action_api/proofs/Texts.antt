@@ -23,12 +23,12 @@ failure_data : (help : List ℕ) (error : Json)
     (member (codes "success") (boolean false) no_members)))
 failure_data help error = search (rules, the_lemmas)
 
--- what is written for a success, of the texts of its help and its value
+-- the rendered success, from the texts of its help and its value
 abbrev success_pieces : List ℕ → List ℕ → List ℕ
 success_pieces help value =
     codes "{\"help\":" ++ (help ++ (codes ",\"result\":" ++ (value ++ codes ",\"success\":true}")))
 
--- what is written for a failure, of the texts of its help and its error
+-- the rendered failure, from the texts of its help and its error
 abbrev failure_pieces : List ℕ → List ℕ → List ℕ
 failure_pieces help error =
     codes "{\"error\":" ++ (error ++ (codes ",\"help\":" ++ (help ++ codes ",\"success\":false}")))

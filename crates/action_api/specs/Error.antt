@@ -1,9 +1,9 @@
--- Error dictionaries: the type of an error, and what is told of it. Their keys ascend by bytes.
+-- Error dictionaries: the type of an error, and its message or the messages of its keys. Their keys ascend by bytes.
 use Rattle.std.specs.Prelude.{ℕ, List, [], ◌∷◌, ◌++◌, codes, map}
 use Rattle.std.specs.declared.cmp.Ordering.{Ordering}
 use Rattle.std.specs.Ordering.{nat_cmp}
 use Rattle.std.specs.Cmp.Lexicographic.{slice_cmp}
-use Rattle.portal_base.specs.Faults.{Fault}
+use Rattle.portal_base.specs.KeyErrors.{KeyError}
 use Rattle.portal_base.specs.Ordered.{inserted}
 use Rattle.portal_base.specs.declared.json_value.Json.{Json, Map, Text}
 use Rattle.portal_base.specs.declared.json_value.Json as json
@@ -12,9 +12,9 @@ use Rattle.portal_calls.specs.declared.answer.Kind.TheVariants.{Dataset, Resourc
 use Rattle.portal_calls.specs.declared.answer.Right.{Right}
 use Rattle.portal_calls.specs.declared.answer.Right.TheVariants.{CreateDataset, EditDataset, PurgeDataset}
 use Rattle.portal_calls.specs.declared.answer.Right.TheVariants.{CreateOrganization, AdministerOrganization}
-use Rattle.portal_core.specs.declared.event.Refusal.{Refusal}
-use Rattle.portal_core.specs.declared.event.Refusal.TheVariants.{NotFound, NotAuthorized, Validation, NameInUse}
-use Rattle.portal_core.specs.declared.event.Refusal.TheVariants.{OutOfMemory}
+use Rattle.portal_calls.specs.declared.event.Refusal.{Refusal}
+use Rattle.portal_calls.specs.declared.event.Refusal.TheVariants.{NotFound, NotAuthorized, Validation, NameInUse}
+use Rattle.portal_calls.specs.declared.event.Refusal.TheVariants.{OutOfMemory}
 use Rattle.action_api.specs.declared.early.Early.{Early}
 use Rattle.action_api.specs.declared.early.Early.TheVariants.{TooLong, NotJson, Fraction, UnknownAction}
 use Rattle.action_api.specs.declared.early.Early.TheVariants.{OutOfMemory as no_memory}
@@ -36,28 +36,28 @@ right_name AdministerOrganization = codes "administer organization"
 abbrev pub error_dictionary : List ℕ → List ℕ → Json
 error_dictionary kind message = Map ((codes "__type", Text kind) ∷ (codes "message", Text message) ∷ [])
 
--- a message as the list of it alone
+-- a list of one message
 abbrev pub list_of_one : List ℕ → Json
 list_of_one message = json.List (Text message ∷ [])
 
--- a key with the list of its message
-abbrev pub fault_member : Fault → List ℕ × Json
+-- the member for a broken rule: its key with the list of its message
+abbrev pub fault_member : KeyError → List ℕ × Json
 fault_member fault = (fault.0, list_of_one fault.1)
 
 -- the order of members by the bytes of their keys
 abbrev pub member_cmp : List ℕ × Json → List ℕ × Json → Ordering
 member_cmp m n = slice_cmp nat_cmp m.0 n.0
 
--- A validation error: each key with its message, and `__type` at its place among the keys.
-abbrev pub validation_dictionary : List Fault → Json
+-- A validation error: `__type`, and each key with the list of its message, ascending by key.
+abbrev pub validation_dictionary : List KeyError → Json
 validation_dictionary faults =
     Map (inserted member_cmp (codes "__type", Text (codes "Validation Error")) (map fault_member faults))
 
--- a name or an id in use, told on its key
+-- the error for a name or an id in use, at its key
 abbrev pub in_use_dictionary : List ℕ → Json
 in_use_dictionary key = validation_dictionary ((key, codes "That name is already in use") ∷ [])
 
--- want of memory
+-- the error when memory runs out
 abbrev pub memory_dictionary : Json
 memory_dictionary = error_dictionary (codes "Memory Error") (codes "Want of memory")
 

@@ -16,7 +16,7 @@ use Rattle.action_api.specs.declared.early.Early.{Early}
 use Rattle.action_api.specs.declared.early.Early.TheVariants.{TooLong}
 use Rattle.action_api.specs.declared.request.TheConstants.{LONGEST_BODY}
 
--- the text that a name or a value stands for: `+` is a space, escapes are decoded, what isn't UTF-8 becomes U+FFFD
+-- the decoded text of a name or a value: `+` is a space, escapes are decoded, what isn't UTF-8 becomes U+FFFD
 abbrev pub text_of : List ℕ → List ℕ
 text_of bytes = utf8_lossy (decode bytes)
 
@@ -29,23 +29,23 @@ abbrev pub or_text : List ℕ → Result Json JsonFault → Json
 or_text text (Ok json) = json
 or_text text (Err fault) = Text text
 
--- the value that a text stands for: a list or a dictionary where it is one, else the text itself
+-- the value of a text: the list or dictionary that it is as JSON, else the text itself
 abbrev pub query_value : List ℕ → Json
 query_value text = if begins_json text then or_text text (json_reading text) else Text text
 
--- the members with a pair's among them, in place of that of an equal key
+-- the members with the pair's member, which replaces one of an equal key
 abbrev pub with_pair : List (List ℕ × Json) → List ℕ × List ℕ → List (List ℕ × Json)
 with_pair members pair = insert_entry (slice_cmp nat_cmp) members (text_of pair.0) (query_value (text_of pair.1))
 
--- The body that a query says: a member for each key, ascending by bytes, of which the last value counts.
+-- The body of a query: a member for each key, ascending by bytes. Of the values of a key the last one counts.
 abbrev pub query_body : List ℕ → Json
 query_body query = Map (fold with_pair [] (raw_pairs query))
 
--- The request for the action of that name, with the body that a query says.
+-- The request for the action of that name, with the body of a query.
 abbrev pub request_of_query : List ℕ → List ℕ → Result Request Early
 request_of_query name query =
     if nat_lt LONGEST_BODY (length query) then Err TooLong else request_for name (query_body query)
 
 -- whether the action of that name only reads, where one has the name
-abbrev pub reads : List ℕ → Option Bool
-reads name = option_map action.is_reading (action.action_named name)
+abbrev pub is_reading_action : List ℕ → Option Bool
+is_reading_action name = option_map action.is_reading (action.action_named name)

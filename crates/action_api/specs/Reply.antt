@@ -1,15 +1,15 @@
--- What is written for a reply, or for an early fault: its status and its JSON (CKAN 2.10, "Making an API request").
+-- The rendering of a reply, or of an early fault: its status and its JSON (CKAN 2.10, "Making an API request").
 use Rattle.std.specs.Prelude.{ℕ, List, [], ◌∷◌, ◌++◌, true, false, codes, Option, Some, None, option_and_then, Result}
 use Rattle.std.specs.Prelude.{Ok, Err}
 use Rattle.portal_base.specs.Json.{json_text}
 use Rattle.portal_base.specs.declared.json_value.Json.{Json, Map, Text, Truth}
 use Rattle.portal_calls.specs.Action.{action_name, action_named}
 use Rattle.portal_calls.specs.declared.action.Action.{Action}
-use Rattle.portal_core.specs.declared.event.Refusal.{Refusal}
-use Rattle.portal_core.specs.declared.event.Refusal.TheVariants.{NotFound, NotAuthorized, Validation, NameInUse}
-use Rattle.portal_core.specs.declared.event.Refusal.TheVariants.{OutOfMemory}
-use Rattle.portal_core.specs.declared.event.Reply.{Reply}
-use Rattle.portal_core.specs.declared.event.Reply.TheVariants.{Accepted, Shown, Refused}
+use Rattle.portal_calls.specs.declared.event.Refusal.{Refusal}
+use Rattle.portal_calls.specs.declared.event.Refusal.TheVariants.{NotFound, NotAuthorized, Validation, NameInUse}
+use Rattle.portal_calls.specs.declared.event.Refusal.TheVariants.{OutOfMemory}
+use Rattle.portal_calls.specs.declared.event.Reply.{Reply}
+use Rattle.portal_calls.specs.declared.event.Reply.TheVariants.{Accepted, Shown, Refused}
 use Rattle.action_api.specs.Error.{refusal_dictionary, early_dictionary}
 use Rattle.action_api.specs.declared.early.Early.{Early}
 use Rattle.action_api.specs.declared.early.Early.TheVariants.{TooLong, NotJson, Fraction, UnknownAction}
@@ -17,19 +17,19 @@ use Rattle.action_api.specs.declared.early.Early.TheVariants.{OutOfMemory as no_
 
 -- ---- help
 
--- the action of that name, where a name is given and an action has it
-abbrev pub known : Option (List ℕ) → Option Action
-known action = option_and_then action_named action
+-- the action of that name, where there is a name and an action has it
+abbrev pub known_action : Option (List ℕ) → Option Action
+known_action action = option_and_then action_named action
 
-abbrev pub help_on : Option Action → List ℕ
-help_on None = []
-help_on (Some action) = codes "/api/3/action/help_show?name=" ++ action_name action
+abbrev pub help_of_action : Option Action → List ℕ
+help_of_action None = []
+help_of_action (Some action) = codes "/api/3/action/help_show?name=" ++ action_name action
 
--- Where help on the action of that name stands. No text where no action has the name.
+-- The location of the help on the action of that name. It is the empty text where no action has the name.
 abbrev pub help_of : Option (List ℕ) → List ℕ
-help_of action = help_on (known action)
+help_of action = help_of_action (known_action action)
 
--- help goes with each refusal but want of memory
+-- each refusal but out of memory has help
 abbrev pub refusal_help : Option (List ℕ) → Refusal → List ℕ
 refusal_help action (NotFound kind) = help_of action
 refusal_help action (NotAuthorized right) = help_of action
@@ -37,7 +37,7 @@ refusal_help action (Validation faults) = help_of action
 refusal_help action (NameInUse key) = help_of action
 refusal_help action OutOfMemory = []
 
--- of early faults it goes with a body that doesn't read
+-- of the early faults, those of a body that can't be read have help
 abbrev pub early_help : Option (List ℕ) → Early → List ℕ
 early_help action TooLong = []
 early_help action NotJson = help_of action
@@ -83,15 +83,15 @@ abbrev pub failure_dictionary : List ℕ → Json → Json
 failure_dictionary help error =
     Map ((codes "error", error) ∷ (codes "help", Text help) ∷ (codes "success", Truth false) ∷ [])
 
--- with this help
-abbrev pub json_with : List ℕ → Result Reply Early → Json
-json_with help (Ok (Accepted value)) = success_dictionary help value
-json_with help (Ok (Shown value)) = success_dictionary help value
-json_with help (Ok (Refused refusal)) = failure_dictionary help (refusal_dictionary refusal)
-json_with help (Err early) = failure_dictionary help (early_dictionary early)
+-- the JSON of a reply with this text at `help`
+abbrev pub json_with_help : List ℕ → Result Reply Early → Json
+json_with_help help (Ok (Accepted value)) = success_dictionary help value
+json_with_help help (Ok (Shown value)) = success_dictionary help value
+json_with_help help (Ok (Refused refusal)) = failure_dictionary help (refusal_dictionary refusal)
+json_with_help help (Err early) = failure_dictionary help (early_dictionary early)
 
 abbrev pub reply_json : Option (List ℕ) → Result Reply Early → Json
-reply_json action reply = json_with (reply_help action reply) reply
+reply_json action reply = json_with_help (reply_help action reply) reply
 
 -- The status of a reply, or of an early fault, to a call of the action of that name, and its JSON as text.
 abbrev pub reply_text : Option (List ℕ) → Result Reply Early → ℕ × List ℕ

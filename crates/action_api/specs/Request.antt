@@ -13,13 +13,13 @@ use Rattle.action_api.specs.declared.early.Early.{Early}
 use Rattle.action_api.specs.declared.early.Early.TheVariants.{TooLong, NotJson, Fraction, UnknownAction, OutOfMemory}
 use Rattle.action_api.specs.declared.request.TheConstants.{LONGEST_BODY}
 
--- the fault that is told of bytes that read as no value
+-- the early fault for bytes that are no JSON value
 abbrev pub early_of : JsonFault → Early
 early_of fault.NotJson = NotJson
 early_of fault.Fraction = Fraction
 early_of fault.OutOfMemory = OutOfMemory
 
--- a body is a dictionary
+-- the body, where it is a dictionary
 abbrev pub if_dictionary : Json → Result Json Early
 if_dictionary json = if is_some (dictionary_in json) then Ok json else Err NotJson
 
@@ -27,22 +27,22 @@ abbrev pub body_of : Result Json JsonFault → Result Json Early
 body_of (Ok json) = if_dictionary json
 body_of (Err why) = Err (early_of why)
 
--- what a body's bytes are read as
+-- the body that the bytes are read as, or its early fault
 abbrev pub body_reading : List ℕ → Result Json Early
 body_reading bytes = if nat_lt LONGEST_BODY (length bytes) then Err TooLong else body_of (json_reading bytes)
 
-abbrev pub request_by : List ℕ → Json → Option Action → Result Request Early
-request_by name body None = Err (UnknownAction name)
-request_by name body (Some action) = Ok (record { action = action; body = body })
+abbrev pub request_for_action : List ℕ → Json → Option Action → Result Request Early
+request_for_action name body None = Err (UnknownAction name)
+request_for_action name body (Some action) = Ok (record { action = action; body = body })
 
 -- the request for the action of that name, with a body
 abbrev pub request_for : List ℕ → Json → Result Request Early
-request_for name body = request_by name body (action_named name)
+request_for name body = request_for_action name body (action_named name)
 
-abbrev pub request_with : List ℕ → Result Json Early → Result Request Early
-request_with name (Ok body) = request_for name body
-request_with name (Err early) = Err early
+abbrev pub request_for_body : List ℕ → Result Json Early → Result Request Early
+request_for_body name (Ok body) = request_for name body
+request_for_body name (Err early) = Err early
 
 -- The request for the action of that name, with a body of these bytes.
 abbrev pub request_of : List ℕ → List ℕ → Result Request Early
-request_of name bytes = request_with name (body_reading bytes)
+request_of name bytes = request_for_body name (body_reading bytes)

@@ -1,4 +1,4 @@
-//! Faults of a call that are found before a portal is asked.
+//! Faults of a call that come before the portal answers it.
 use portal_base::json_value::JsonFault;
 use portal_base::text::Text;
 use std::alloc::AllocError;
@@ -8,13 +8,13 @@ use std::alloc::AllocError;
 pub enum Early {
     /// The body has more than 262,144 bytes.
     TooLong,
-    /// It is no JSON, or no dictionary.
+    /// The body is no JSON, or no dictionary.
     NotJson,
-    /// It is JSON with a number that is neither an `i64` nor a `u64`.
+    /// The body is JSON with a number that is neither an `i64` nor a `u64`.
     Fraction,
     /// No action has this name.
     UnknownAction(Text),
-    /// Want of memory.
+    /// Memory ran out.
     OutOfMemory,
 }
 

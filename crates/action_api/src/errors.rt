@@ -1,4 +1,4 @@
-//! Error dictionaries: the type of an error and what is told of it.
+//! Error dictionaries: the type of an error, and its message or the messages of its keys.
 ghost use Rattle.std.specs.Prelude.{◌≡◌, ◌≤◌, ◌++◌, map, length, codes, IfOk};
 ghost use Rattle.std.specs.List.{prefix_len};
 ghost use Rattle.std.specs.Ordering.{nat_cmp, is_lt};
@@ -15,7 +15,7 @@ use portal_base::json_value::Json;
 use portal_base::seq::Seq;
 use portal_base::text::Text;
 use portal_calls::answer::{Kind, Right};
-use portal_core::event::Refusal;
+use portal_calls::event::Refusal;
 use std::alloc::{AllocError, Global};
 
 fn name_of_kind(kind: Kind) -> &'static str
@@ -70,13 +70,13 @@ fn unknown_action(alloc: Global, name: &Text) -> Result<Json, AllocError>
     )
 }
 
-fn want_of_memory(alloc: Global) -> Result<Json, AllocError>
+fn out_of_memory(alloc: Global) -> Result<Json, AllocError>
     ensures { IfOk result (λ json. json ≡ memory_dictionary) }
 {
     error_json(alloc, "Memory Error", Text::from_static("Want of memory"))
 }
 
-/// An error whose message ends in the name of what it speaks of.
+/// An error whose message ends in a name.
 fn named_error_json(
     alloc: Global,
     kind: &'static str,
@@ -88,7 +88,7 @@ fn named_error_json(
     error_json(alloc, kind, joined(alloc, message, name)?)
 }
 
-/// A message as the list of it alone.
+/// A list of one message.
 fn list_of(alloc: Global, message: Text) -> Result<Json, AllocError>
     ensures { IfOk result (λ json. json ≡ list_of_one message) }
 {
@@ -97,7 +97,7 @@ fn list_of(alloc: Global, message: Text) -> Result<Json, AllocError>
     Ok(Json::List(Seq::from(messages)))
 }
 
-/// A key with the list of its message.
+/// The member for a broken rule: its key with the list of its message.
 fn member_of_fault(alloc: Global, fault: &(Text, Text)) -> Result<(Text, Json), AllocError>
     ensures { IfOk result (λ member. member ≡ fault_member fault.now) }
 {
@@ -106,7 +106,7 @@ fn member_of_fault(alloc: Global, fault: &(Text, Text)) -> Result<(Text, Json), 
     Ok((key, list_of(alloc, message)?))
 }
 
-/// Each key with the list of its message.
+/// The member for each broken rule.
 fn fault_members(alloc: Global, faults: &[(Text, Text)]) -> Result<Vec<(Text, Json)>, AllocError>
     ensures { IfOk result (λ members. members.items ≡ map fault_member faults.now) }
 {
@@ -117,9 +117,9 @@ fn fault_members(alloc: Global, faults: &[(Text, Text)]) -> Result<Vec<(Text, Js
     Ok(members)
 }
 
-/// How many members stand in front of the type.
-fn place_of_type(members: &[(Text, Json)]) -> usize
-    ensures place { result ≡ prefix_len (λ m. is_lt (slice_cmp nat_cmp m.0 (codes "__type"))) members.now }
+/// The index at which `__type` belongs among the members, which ascend by their keys.
+fn index_of_type(members: &[(Text, Json)]) -> usize
+    ensures index { result ≡ prefix_len (λ m. is_lt (slice_cmp nat_cmp m.0 (codes "__type"))) members.now }
     ensures within { result ≤ length members.now }
 {
     members
@@ -128,14 +128,14 @@ fn place_of_type(members: &[(Text, Json)]) -> usize
         .count()
 }
 
-/// A validation error: each key with its message, and the type among them.
+/// A validation error: the type, and each key with its message, ascending by key.
 fn validation_json(alloc: Global, faults: &[(Text, Text)]) -> Result<Json, AllocError>
     ensures { IfOk result (λ json. json ≡ validation_dictionary faults.now) }
 {
     let mut members = fault_members(alloc, faults)?;
-    let place = place_of_type(members.as_slice());
+    let index = index_of_type(members.as_slice());
     let kind = Json::Text(Text::from_static("Validation Error"));
-    members.insert(place, (Text::from_static("__type"), kind))?;
+    members.insert(index, (Text::from_static("__type"), kind))?;
     Ok(Json::Map(Seq::from(members)))
 }
 
@@ -148,7 +148,7 @@ fn in_use_json(alloc: Global, key: &Text) -> Result<Json, AllocError>
     validation_json(alloc, faults.as_slice())
 }
 
-/// What is told of a refusal.
+/// The error dictionary of a refusal.
 pub fn refusal_json(alloc: Global, refusal: &Refusal) -> Result<Json, AllocError>
     ensures { IfOk result (λ json. json ≡ refusal_dictionary refusal.now) }
 {
@@ -169,11 +169,11 @@ pub fn refusal_json(alloc: Global, refusal: &Refusal) -> Result<Json, AllocError
         }
         Refusal::Validation(faults) => validation_json(alloc, faults.as_slice()),
         Refusal::NameInUse(key) => in_use_json(alloc, key),
-        Refusal::OutOfMemory => want_of_memory(alloc),
+        Refusal::OutOfMemory => out_of_memory(alloc),
     }
 }
 
-/// What is told of an early fault.
+/// The error dictionary of an early fault.
 pub fn early_json(alloc: Global, early: &Early) -> Result<Json, AllocError>
     ensures { IfOk result (λ json. json ≡ early_dictionary early.now) }
 {
@@ -185,6 +185,6 @@ pub fn early_json(alloc: Global, early: &Early) -> Result<Json, AllocError>
             "Numbers with a fraction or an exponent are sent as text",
         ),
         Early::UnknownAction(name) => unknown_action(alloc, name),
-        Early::OutOfMemory => want_of_memory(alloc),
+        Early::OutOfMemory => out_of_memory(alloc),
     }
 }

@@ -1,11 +1,11 @@
-//! Where help on an action stands.
+//! The location of the help on an action, which replies name.
 ghost use Rattle.std.specs.Prelude.{◌≡◌, ◌++◌, IfOk, option_copied};
-ghost use Rattle.action_api.specs.Reply.{help_of, known, reply_help};
+ghost use Rattle.action_api.specs.Reply.{help_of, known_action, reply_help};
 
 use crate::early::Early;
 use portal_base::text::Text;
 use portal_calls::action::Action;
-use portal_core::event::{Refusal, Reply};
+use portal_calls::event::{Refusal, Reply};
 use std::alloc::{AllocError, Global};
 
 /// The two texts, one after the other.
@@ -17,9 +17,9 @@ pub fn joined(alloc: Global, first: &str, second: &str) -> Result<Text, AllocErr
     Ok(Text::from(string))
 }
 
-/// The action of that name, where a name is given and an action has it.
-fn known(action: Option<&str>) -> Option<Action>
-    ensures { result ≡ known (option_copied action.entry) }
+/// The action of that name, where there is a name and an action has it.
+fn known_action(action: Option<&str>) -> Option<Action>
+    ensures { result ≡ known_action (option_copied action.entry) }
 {
     match action {
         Some(name) => Action::named(name),
@@ -27,18 +27,18 @@ fn known(action: Option<&str>) -> Option<Action>
     }
 }
 
-/// Where help on that action stands, and no text where no action has the name.
+/// The location of the help on that action. It is the empty text where no action has the name.
 fn help_text(alloc: Global, action: Option<&str>) -> Result<Text, AllocError>
     ensures { IfOk result (λ text. text ≡ help_of (option_copied action.entry)) }
 {
-    match known(action) {
+    match known_action(action) {
         Some(action) => joined(alloc, "/api/3/action/help_show?name=", action.name()),
         None => Ok(Text::new(alloc)),
     }
 }
 
-/// The help that goes with a reply.
-pub fn help_with(
+/// The text at `help` in a reply.
+pub fn reply_help(
     alloc: Global,
     action: Option<&str>,
     reply: &Result<Reply, Early>,

@@ -1,4 +1,4 @@
-//! The Action API's texts: bodies are read to requests, replies are written as JSON with a status.
+//! The texts of the Action API: it reads bodies as requests, and renders replies as JSON with a status.
 #![tactic(auto)]
 
 pub mod early;

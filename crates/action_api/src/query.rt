@@ -1,13 +1,13 @@
-//! Requests that come as queries: each pair of a name and a value is a member of the body (URL Standard, section 5.1).
+//! Reading requests from queries: each pair of a name and a value is a member of the body (URL Standard, section 5.1).
 ghost use Rattle.std.specs.BTreeMap.{insert_entry};
 ghost use Rattle.std.specs.Cmp.Lexicographic.{slice_cmp};
 ghost use Rattle.std.specs.Ordering.{nat_cmp};
 ghost use Rattle.std.specs.Prelude.{◌≡◌, ◌⊎◌, Ok, Err, IfOk, IfErr, OnOk, string_bytes};
 ghost use Rattle.portal_base.specs.declared.json_value.Json.{Map};
-ghost use Rattle.action_api.specs.Query.{begins_json, query_value, query_body, request_of_query, reads};
+ghost use Rattle.action_api.specs.Query.{begins_json, query_value, query_body, request_of_query, is_reading_action};
 
 use crate::early::Early;
-use crate::request::{LONGEST_BODY, request_on};
+use crate::request::{LONGEST_BODY, request_for};
 use portal_base::json_value::{Json, JsonFault};
 use portal_base::seq::Seq;
 use portal_base::text::Text;
@@ -18,7 +18,7 @@ use std::collections::BTreeMap;
 
 /// Whether the action of that name only reads. `None` where no action has the name.
 pub fn is_reading(name: &str) -> Option<bool>
-    ensures { result ≡ reads name.now }
+    ensures { result ≡ is_reading_action name.now }
 {
     match Action::named(name) {
         Some(action) => Some(action.is_reading()),
@@ -36,8 +36,8 @@ fn begins_json(text: &str) -> bool
     }
 }
 
-/// The list or dictionary that a text is, and else the text itself.
-fn value_in(alloc: Global, text: String) -> Result<Json, AllocError>
+/// The value of a text: the list or dictionary that it is as JSON, else the text itself.
+fn read_value(alloc: Global, text: String) -> Result<Json, AllocError>
     ensures { IfOk result (λ json. json ≡ query_value (string_bytes text)) }
 {
     if !begins_json(text.as_str()) {
@@ -50,7 +50,7 @@ fn value_in(alloc: Global, text: String) -> Result<Json, AllocError>
     }
 }
 
-/// Sets the member of a pair.
+/// Sets the member of a pair. It replaces a member of an equal key.
 fn put_pair(
     alloc: Global,
     members: &mut BTreeMap<Text, Json>,
@@ -60,13 +60,13 @@ fn put_pair(
     ensures { OnOk result (members.new.entries
         ≡ insert_entry (slice_cmp nat_cmp) members.old.entries (string_bytes name) (query_value (string_bytes value))) }
 {
-    let value = value_in(alloc, value)?;
+    let value = read_value(alloc, value)?;
     members.insert(Text::from(name), value)?;
     Ok(())
 }
 
 /// The members of a body, ascending by their keys.
-fn members_in(alloc: Global, query: &str) -> Result<BTreeMap<Text, Json>, AllocError>
+fn read_members(alloc: Global, query: &str) -> Result<BTreeMap<Text, Json>, AllocError>
     ensures { IfOk result (λ members. Map members.entries ≡ query_body query.now) }
 {
     let mut members = BTreeMap::new(alloc);
@@ -78,18 +78,18 @@ fn members_in(alloc: Global, query: &str) -> Result<BTreeMap<Text, Json>, AllocE
     Ok(members)
 }
 
-/// The body that a query says.
-fn body_in(alloc: Global, query: &str) -> Result<Json, AllocError>
+/// Reads a query as a body.
+fn read_query_body(alloc: Global, query: &str) -> Result<Json, AllocError>
     ensures { IfOk result (λ body. body ≡ query_body query.now) }
 {
-    let members = members_in(alloc, query)?;
+    let members = read_members(alloc, query)?;
     let list: Vec<(Text, Json)> = members.into_iter().collect(alloc)?;
     Ok(Json::Map(Seq::from(list)))
 }
 
-/// The request for the action of that name, with the body that the query says: a value that begins as a JSON list or
-/// dictionary and is one is that value, every other one is a text, and of equal keys the last one counts. The query's
-/// length is tried first, then whether an action has the name.
+/// The request for the action of that name, with the body of the query. A value that begins as a JSON list or
+/// dictionary and is one has that JSON value, and every other one is a text. Of equal keys the last one counts. It
+/// checks the query's length first, then whether an action has the name.
 pub fn request_of_query(alloc: Global, name: &str, query: &str) -> Result<Request, Early>
     ensures value { IfOk result (λ request. request_of_query name.now query.now ≡ Ok request) }
     ensures fault { IfErr result
@@ -98,6 +98,6 @@ pub fn request_of_query(alloc: Global, name: &str, query: &str) -> Result<Reques
     if query.len() > LONGEST_BODY {
         return Err(Early::TooLong);
     }
-    let body = body_in(alloc, query)?;
-    request_on(alloc, name, body)
+    let body = read_query_body(alloc, query)?;
+    request_for(alloc, name, body)
 }

@@ -1,4 +1,4 @@
-//! The texts of replies: a status and one JSON dictionary, as CKAN's Action API has them.
+//! Rendering replies: a status and one JSON dictionary, as in CKAN's Action API (2.10).
 ghost use Rattle.std.specs.Prelude.{◌≡◌, IfOk, option_copied, string_bytes};
 ghost use Rattle.portal_base.specs.Json.{json_text};
 ghost use Rattle.action_api.specs.Reply.{refusal_status, early_status, reply_status, success_dictionary};
@@ -6,11 +6,11 @@ ghost use Rattle.action_api.specs.Reply.{failure_dictionary, reply_json, reply_t
 
 use crate::early::Early;
 use crate::errors::{early_json, refusal_json};
-use crate::help::help_with;
+use crate::help::reply_help;
 use portal_base::json_value::Json;
 use portal_base::seq::Seq;
 use portal_base::text::Text;
-use portal_core::event::{Refusal, Reply};
+use portal_calls::event::{Refusal, Reply};
 use std::alloc::{AllocError, Global};
 
 /// The HTTP status of a reply (RFC 9110, section 15).
@@ -50,7 +50,7 @@ fn status_of_early(early: &Early) -> u16
 }
 
 /// The text of a success.
-fn success_text(alloc: Global, help: Text, value: &Json) -> Result<String, AllocError>
+fn render_success(alloc: Global, help: Text, value: &Json) -> Result<String, AllocError>
     ensures { IfOk result (λ text. string_bytes text ≡ json_text (success_dictionary help value.now)) }
 {
     let help = Json::Text(help).text(alloc)?;
@@ -60,7 +60,7 @@ fn success_text(alloc: Global, help: Text, value: &Json) -> Result<String, Alloc
 }
 
 /// The text of a failure.
-fn failure_text(alloc: Global, help: Text, error: Json) -> Result<String, AllocError>
+fn render_failure(alloc: Global, help: Text, error: Json) -> Result<String, AllocError>
     ensures { IfOk result (λ text. string_bytes text ≡ json_text (failure_dictionary help error)) }
 {
     let help = Json::Text(help).text(alloc)?;
@@ -70,24 +70,24 @@ fn failure_text(alloc: Global, help: Text, error: Json) -> Result<String, AllocE
 }
 
 /// The compact JSON of a reply to a call of the action of that name.
-fn json_of_reply(
+fn render_reply(
     alloc: Global,
     action: Option<&str>,
     reply: &Result<Reply, Early>,
 ) -> Result<String, AllocError>
     ensures { IfOk result (λ text. string_bytes text ≡ json_text (reply_json (option_copied action.entry) reply.now)) }
 {
-    let help = help_with(alloc, action, reply)?;
+    let help = reply_help(alloc, action, reply)?;
     match reply {
-        Ok(Reply::Accepted(value)) => success_text(alloc, help, value),
-        Ok(Reply::Shown(value)) => success_text(alloc, help, value),
-        Ok(Reply::Refused(refusal)) => failure_text(alloc, help, refusal_json(alloc, refusal)?),
-        Err(early) => failure_text(alloc, help, early_json(alloc, early)?),
+        Ok(Reply::Accepted(value)) => render_success(alloc, help, value),
+        Ok(Reply::Shown(value)) => render_success(alloc, help, value),
+        Ok(Reply::Refused(refusal)) => render_failure(alloc, help, refusal_json(alloc, refusal)?),
+        Err(early) => render_failure(alloc, help, early_json(alloc, early)?),
     }
 }
 
-/// The status and the compact JSON of a reply, or of an early fault, to a call of the action of that name. Help goes
-/// with it only where an action has the name.
+/// The HTTP status and the compact JSON of a reply, or of an early fault, to a call of the action of that name. The
+/// text at `help` is empty where no action has the name.
 pub fn reply_text(
     alloc: Global,
     action: Option<&str>,
@@ -95,6 +95,6 @@ pub fn reply_text(
 ) -> Result<(u16, Seq<u8>), AllocError>
     ensures { IfOk result (λ written. written ≡ reply_text (option_copied action.entry) reply.now) }
 {
-    let text = json_of_reply(alloc, action, reply)?;
+    let text = render_reply(alloc, action, reply)?;
     Ok((status_of(reply), Seq::from(text.into_bytes())))
 }

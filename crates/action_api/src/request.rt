@@ -11,7 +11,7 @@ use portal_calls::action::Action;
 use portal_calls::call::Request;
 use std::alloc::Global;
 
-/// The most bytes of a body.
+/// The limit of a body's length, in bytes.
 pub const LONGEST_BODY: usize = 262_144;
 
 /// The value, if it is a dictionary, as a body has to be.
@@ -24,7 +24,7 @@ pub fn dictionary(json: Json) -> Result<Json, Early>
     }
 }
 
-/// Reads a body: its length is tried first, then whether it is JSON, then whether it is a dictionary.
+/// Reads a body. It checks its length first, then whether it is JSON, then whether it is a dictionary.
 fn read_body(alloc: Global, body: &[u8]) -> Result<Json, Early>
     ensures value { IfOk result (λ json. body_reading body.now ≡ Ok json) }
     ensures fault { IfErr result
@@ -36,8 +36,8 @@ fn read_body(alloc: Global, body: &[u8]) -> Result<Json, Early>
     dictionary(Json::read(alloc, body)?)
 }
 
-/// The request for the action of that name, with a body that is read. It fails where no action has the name.
-pub fn request_on(alloc: Global, name: &str, body: Json) -> Result<Request, Early>
+/// The request for the action of that name, with a body that was read. It fails where no action has the name.
+pub fn request_for(alloc: Global, name: &str, body: Json) -> Result<Request, Early>
     ensures value { IfOk result (λ request. request_for name.now body ≡ Ok request) }
     ensures fault { IfErr result
         (λ early. (early ≡ Early.OutOfMemory) ⊎ (request_for name.now body ≡ Err early)) }
@@ -48,7 +48,7 @@ pub fn request_on(alloc: Global, name: &str, body: Json) -> Result<Request, Earl
     }
 }
 
-/// The request for the action of that name, with this body. The body's length is tried first, then whether it is JSON
+/// The request for the action of that name, with this body. It checks the body's length first, then whether it is JSON
 /// and a dictionary, then whether an action has the name.
 pub fn request(alloc: Global, name: &str, body: &[u8]) -> Result<Request, Early>
     ensures value { IfOk result (λ request. request_of name.now body.now ≡ Ok request) }
@@ -56,5 +56,5 @@ pub fn request(alloc: Global, name: &str, body: &[u8]) -> Result<Request, Early>
         (λ early. (early ≡ Early.OutOfMemory) ⊎ (request_of name.now body.now ≡ Err early)) }
 {
     let body = read_body(alloc, body)?;
-    request_on(alloc, name, body)
+    request_for(alloc, name, body)
 }

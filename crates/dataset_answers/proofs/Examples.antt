@@ -1,20 +1,20 @@
--- Worked examples: the key that names a dataset, what is told of an organization, who may create, and pages of names.
--- ann edits in `city`, bob is a member there, and dan edits in `lake`.
+-- Worked examples: the key that names a dataset, the errors of an organization, who may create, and pages of names.
+-- ann is an editor in `city`, bob is a member there, and dan is an editor in `lake`.
 use Rattle.std.proofs.Common.{◌≡◌, ℕ, true, false, List, [], ◌∷◌, Some, None, refl, rules}
 use Rattle.std.specs.Prelude.{codes, pos}
 use Rattle.portal_base.specs.declared.caller.Caller.TheVariants.{Anonymous, Named}
 use Rattle.portal_base.specs.declared.json_value.Json.{Json, the_lemmas}
 use Rattle.portal_base.specs.declared.json_value.Json as json
-use Rattle.org_roles.specs.Peopled.{Peopled}
+use Rattle.org_roles.specs.PeopleLists.{PeopleLists}
 use Rattle.org_roles.specs.declared.entry.Membership.{Membership}
 use Rattle.org_roles.specs.declared.entry.Org.{Org}
 use Rattle.org_roles.specs.declared.role.Role.{Role}
 use Rattle.org_roles.specs.declared.role.Role.TheVariants.{Member, Editor}
 use Rattle.packages.specs.Package.{fresh_package}
 use Rattle.packages.specs.declared.package.Package.{Package}
-use Rattle.dataset_answers.specs.Answers.{creates_in, page_of}
+use Rattle.dataset_answers.specs.Answers.{can_create_in, page_of}
 use Rattle.dataset_answers.specs.Lookup.{naming_key}
-use Rattle.dataset_answers.specs.Told.{organization_given, told_of_dataset}
+use Rattle.dataset_answers.specs.Bodies.{organization_given, dataset_errors}
 
 abbrev org : List ℕ → Org
 org name = record { name = name; title = name; description = []; created = pos 0 }
@@ -22,7 +22,7 @@ org name = record { name = name; title = name; description = []; created = pos 0
 abbrev member : List ℕ → List ℕ → Role → Membership
 member at name role = record { org = at; user = name; role = role }
 
-abbrev people : Peopled
+abbrev people : PeopleLists
 people = record {
   users = [];
   orgs = org (codes "city") ∷ org (codes "lake") ∷ [];
@@ -53,35 +53,35 @@ by_nothing = search (rules, the_lemmas)
 
 -- ---- the organization of a dataset
 
--- that it isn't there is told before that it can't be changed
-unknown : told_of_dataset people (owned_by (codes "sea")) (Some trees)
+-- an unknown organization precedes one that differs from the old one
+unknown : dataset_errors people (owned_by (codes "sea")) (Some trees)
     ≡ (codes "owner_org", codes "Organization does not exist") ∷ []
 unknown = search (rules, the_lemmas)
 
-other : told_of_dataset people (owned_by (codes "lake")) (Some trees)
+other : dataset_errors people (owned_by (codes "lake")) (Some trees)
     ≡ (codes "owner_org", codes "Organization cannot be changed") ∷ []
 other = search (rules, the_lemmas)
 
-own : told_of_dataset people (owned_by (codes "city")) (Some trees) ≡ []
+own : dataset_errors people (owned_by (codes "city")) (Some trees) ≡ []
 own = search (rules, the_lemmas)
 
 -- ---- who may create
 
--- an organization that is there counts alone
-dan_in_city : creates_in people (Named (codes "dan")) (organization_given people (owned_by (codes "city"))) ≡ false
+-- if the organization exists, it alone decides
+dan_in_city : can_create_in people (Named (codes "dan")) (organization_given people (owned_by (codes "city"))) ≡ false
 dan_in_city = search (rules, the_lemmas)
 
-dan_in_lake : creates_in people (Named (codes "dan")) (organization_given people (owned_by (codes "lake"))) ≡ true
+dan_in_lake : can_create_in people (Named (codes "dan")) (organization_given people (owned_by (codes "lake"))) ≡ true
 dan_in_lake = search (rules, the_lemmas)
 
--- and where it isn't there, whoever edits anywhere
-dan_at_sea : creates_in people (Named (codes "dan")) (organization_given people (owned_by (codes "sea"))) ≡ true
+-- if it doesn't exist, editors of any organization may create
+dan_at_sea : can_create_in people (Named (codes "dan")) (organization_given people (owned_by (codes "sea"))) ≡ true
 dan_at_sea = search (rules, the_lemmas)
 
-bob_at_sea : creates_in people (Named (codes "bob")) (organization_given people (owned_by (codes "sea"))) ≡ false
+bob_at_sea : can_create_in people (Named (codes "bob")) (organization_given people (owned_by (codes "sea"))) ≡ false
 bob_at_sea = search (rules, the_lemmas)
 
-nobody_nowhere : creates_in people Anonymous (organization_given people (json.Map [])) ≡ false
+nobody_nowhere : can_create_in people Anonymous (organization_given people (json.Map [])) ≡ false
 nobody_nowhere = search (rules, the_lemmas)
 
 -- ---- pages

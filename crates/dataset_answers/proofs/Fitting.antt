@@ -1,4 +1,4 @@
--- What the answers on datasets and resources accept is fit to be made.
+-- The changes that the answers on datasets and resources accept can be made.
 use Rattle.std.proofs.Common.{◌≡◌, ◌⊎◌, inl, inr, ℕ, Bool, true, false, List, [], ◌∷◌, Option, Some, None, Ok}
 use Rattle.std.proofs.Common.{refl, sym, ap, ◌∙◌, subst}
 use Rattle.std.specs.Prelude.{codes, option_and_then, option_map, slice_get, is_some, find, not, ◌&&◌}
@@ -7,108 +7,110 @@ use Rattle.std.specs.Ordering.{nat_cmp}
 use Rattle.std.specs.Cmp.Lexicographic.{slice_cmp}
 use Rattle.std.proofs.lemmas.Option.{option_and_then_some, same_Some}
 use Rattle.portal_base.specs.declared.json_value.Json.{Json}
-use Rattle.portal_base.specs.Faults.{Fault, also_noted, kind_message, noted, noted_if}
+use Rattle.portal_base.specs.KeyErrors.{KeyError, with_errors, kind_message, with_error, error_if}
 use Rattle.portal_base.specs.Kinds.{count_at}
 use Rattle.portal_base.specs.Name.{is_name}
 use Rattle.portal_base.specs.Ordered.{IsAscending}
 use Rattle.portal_base.proofs.Unique.{Contains-IsIn}
-use Rattle.org_roles.specs.Peopled.{Peopled, org_in, is_sysadmin_in}
-use Rattle.packages.specs.Body.{built_of, told_of}
-use Rattle.packages.specs.Named.{Placed, has_address, is_named, place_of, placed_at, resource_in, resource_named}
+use Rattle.org_roles.specs.PeopleLists.{PeopleLists, org_in, is_sysadmin_in}
+use Rattle.packages.specs.Body.{built_dataset, body_errors}
+use Rattle.packages.specs.Named.{Located, has_address, is_named, position_of, located_at, resource_in, resource_named}
 use Rattle.packages.specs.Numbered.{AreNumbered}
-use Rattle.packages.specs.Resources.{resource_for, told_of_resource}
+use Rattle.packages.specs.Resources.{resource_for, resource_errors}
 use Rattle.packages.specs.Texts.{text_given}
-use Rattle.packages.specs.Told.{message_unless}
+use Rattle.packages.specs.Errors.{message_unless}
 use Rattle.packages.specs.declared.package.Package.{Package}
 use Rattle.packages.specs.declared.package.Resource.{Resource}
 use Rattle.packages.specs.declared.package.TheConstants.{LONGEST_NAME}
 use Rattle.packages.proofs.Built.{built_id, built_name, built_numbered, built_owner_org, built_source}
 use Rattle.packages.proofs.Built.{built_tags, new_name, new_organization}
-use Rattle.packages.proofs.Faultless.{message_unless-none}
+use Rattle.packages.proofs.NoErrors.{message_unless-none}
 use Rattle.packages.proofs.FindLemmas.{IsIn-find}
-use Rattle.packages.proofs.Numbers.{numbered_with_one_more, numbered_with_place_replaced, numbered_with_same_numbers}
-use Rattle.packages.proofs.Numbers.{numbered_without_place}
-use Rattle.visibility.specs.Seen.{Seen}
+use Rattle.packages.proofs.ResourceNumbers.{numbered_with_one_more, numbered_with_replacement_at}
+use Rattle.packages.proofs.ResourceNumbers.{numbered_with_same_numbers}
+use Rattle.packages.proofs.ResourceNumbers.{numbered_without_resource_at}
+use Rattle.visibility.specs.CallView.{CallView}
 use Rattle.visibility.specs.Visibility.{is_harvested, is_source, may_edit_in}
 use Rattle.portal_calls.specs.Answer.{AcceptsOnly, denial_of}
 use Rattle.portal_calls.specs.declared.answer.Kind.TheVariants as kind
 use Rattle.portal_calls.specs.declared.answer.Right.TheVariants.{CreateDataset, EditDataset, PurgeDataset}
 use Rattle.portal_calls.specs.declared.call.Call.{Call}
-use Rattle.portal_calls.proofs.Answering.{AcceptsOnly-answered, AcceptsOnly-needing, AcceptsOnly-ruled}
-use Rattle.portal_calls.proofs.Answering.{AcceptsOnly-unless, allowed_thing-ok, noted_if-none, thing_at-ok}
+use Rattle.portal_calls.proofs.Answering.{AcceptsOnly-answer_if_found, AcceptsOnly-answer_if_authorized, AcceptsOnly-answer_if_valid}
+use Rattle.portal_calls.proofs.Answering.{AcceptsOnly-answer_unless_denied, authorized_thing-ok, error_if-none, thing_at-ok}
 use Rattle.dataset_answers.specs.Answers.{answer_to_package_create, answer_to_package_change}
 use Rattle.dataset_answers.specs.Answers.{answer_to_package_update, answer_to_package_patch, answer_to_package_delete}
 use Rattle.dataset_answers.specs.Answers.{answer_to_dataset_purge, answer_to_package_show, answer_to_package_list}
 use Rattle.dataset_answers.specs.Answers.{answer_to_resource_create, answer_to_resource_update}
 use Rattle.dataset_answers.specs.Answers.{answer_to_resource_delete, answer_to_resource_show}
 use Rattle.dataset_answers.specs.Answers.{may_create, purgeable_dataset}
-use Rattle.visibility.specs.Held.{Holding, loses_referred}
-use Rattle.dataset_answers.proofs.HeldLemmas.{all-keep, more-keep, place-keeps, unlost}
+use Rattle.visibility.specs.TableSummary.{TableSummary, breaks_references}
+use Rattle.dataset_answers.proofs.TableSummaryLemmas.{all-keep, more-keep, position-keeps, no_table_lost}
 use Rattle.dataset_answers.specs.Fit.{IsFitDataset, IsReplacement, KeepsResources}
-use Rattle.dataset_answers.specs.Lookup.{dataset_at, dataset_named, naming_key, own_dataset_at, own_resource_at}
+use Rattle.dataset_answers.specs.Lookup.{dataset_at, dataset_named, naming_key, editable_dataset_at}
+use Rattle.dataset_answers.specs.Lookup.{editable_resource_at}
 use Rattle.dataset_answers.specs.Lookup.{resource_at}
-use Rattle.dataset_answers.specs.Sound.{IsId, IsSound, Stands}
-use Rattle.dataset_answers.specs.Told.{changed_dataset, created_dataset, deleted_dataset, organization_told}
-use Rattle.dataset_answers.specs.Told.{told_of_dataset, told_of_new_resource, with_new_resource, with_resource_at}
-use Rattle.dataset_answers.specs.Told.{lost_told, told_of_change, without_resource_at}
+use Rattle.dataset_answers.specs.Sound.{IsId, IsSound, OrgExists}
+use Rattle.dataset_answers.specs.Bodies.{changed_dataset, created_dataset, deleted_dataset, organization_error}
+use Rattle.dataset_answers.specs.Bodies.{dataset_errors, new_resource_errors, with_new_resource, with_resource_at}
+use Rattle.dataset_answers.specs.Bodies.{lost_table_error, change_errors, without_resource_at}
 use Rattle.dataset_answers.specs.declared.change.DatasetChange.{DatasetChange}
 
--- ---- what holds where nothing is told
+-- ---- what holds without errors
 
--- Where nothing is noted in the end, nothing was noted before, and nothing more was told.
-also_noted-none : (more faults : List Fault) → also_noted more faults ≡ [] → (more ≡ []) × (faults ≡ [])
-also_noted-none [] faults none = (refl, none)
-also_noted-none (f ∷ fs) faults none =
-    let rest = also_noted-none fs (noted f.0 f.1 faults) none in
-    let here = noted_if-none f.0 (Some f.1) faults rest.1 in
+-- If the list of errors is empty in the end, both lists are empty.
+with_errors-none : (more faults : List KeyError) → with_errors more faults ≡ [] → (more ≡ []) × (faults ≡ [])
+with_errors-none [] faults none = (refl, none)
+with_errors-none (f ∷ fs) faults none =
+    let rest = with_errors-none fs (with_error f.0 f.1 faults) none in
+    let here = error_if-none f.0 (Some f.1) faults rest.1 in
     absurd (cc)
 
--- An organization of which nothing is told is there, where one is given.
-given-stands : (people : Peopled) (body : Json) (org : List ℕ) → organization_told people body ≡ None
-    → text_given (codes "owner_org") body ≡ Some org → Stands people org
-given-stands people body org none given =
+-- An organization that is given without an error exists.
+given-exists : (people : PeopleLists) (body : Json) (org : List ℕ) → organization_error people body ≡ None
+    → text_given (codes "owner_org") body ≡ Some org → OrgExists people org
+given-exists people body org none given =
     let message = codes "Organization does not exist" in
     message_unless-none (is_some (org_in people org)) message
     (sym (ap (option_and_then (λ name. message_unless (is_some (org_in people name)) message)) given) ∙ none)
 
--- what is told of a dataset is told of its body or of its organization
-record IsUntold (people : Peopled) (body : Json) (old : Option Package) : Type 0 where
-  body_untold : told_of body old ≡ []
-  org_untold : organization_told people body ≡ None
+-- a dataset without errors has none in its body and none in its organization
+record HasNoErrors (people : PeopleLists) (body : Json) (old : Option Package) : Type 0 where
+  no_body_errors : body_errors body old ≡ []
+  no_organization_error : organization_error people body ≡ None
 
-dataset-untold : (people : Peopled) (body : Json) (old : Option Package) → told_of_dataset people body old ≡ []
-    → IsUntold people body old
-dataset-untold people body old none =
-    let parts = also_noted-none (told_of body old)
-    (noted_if (codes "owner_org") (organization_told people body) []) none in
+dataset-no_errors : (people : PeopleLists) (body : Json) (old : Option Package) → dataset_errors people body old ≡ []
+    → HasNoErrors people body old
+dataset-no_errors people body old none =
+    let parts = with_errors-none (body_errors body old)
+    (error_if (codes "owner_org") (organization_error people body) []) none in
     record {
-      body_untold = parts.0;
-      org_untold = (noted_if-none (codes "owner_org") (organization_told people body) [] parts.1).1;
+      no_body_errors = parts.0;
+      no_organization_error = (error_if-none (codes "owner_org") (organization_error people body) [] parts.1).1;
     }
 
 -- ---- a new dataset
 
-created-sound : (seen : Seen) → told_of_dataset seen.people seen.call.request.body None ≡ []
-    → IsSound seen.people (created_dataset seen.call)
-created-sound seen none =
-    let body = seen.call.request.body in
-    let untold = dataset-untold seen.people body None none in
+created-sound : (view : CallView) → dataset_errors view.people view.call.request.body None ≡ []
+    → IsSound view.people (created_dataset view.call)
+created-sound view none =
+    let body = view.call.request.body in
+    let valid = dataset-no_errors view.people body None none in
     record {
-      made_here = refl;
-      id = (seen.call.nonce.0, refl);
-      name = new_name body true untold.body_untold;
+      not_harvested = refl;
+      id = (view.call.nonce.0, refl);
+      name = new_name body true valid.no_body_errors;
       org =
-          given-stands seen.people body (built_of body None true).owner_org untold.org_untold
-          (new_organization body true untold.body_untold);
+          given-exists view.people body (built_dataset body None true).owner_org valid.no_organization_error
+          (new_organization body true valid.no_body_errors);
       resources =
-          numbered_with_same_numbers (built_of body None true) (created_dataset seen.call)
-          (built_numbered body None true untold.body_untold tt) refl refl;
+          numbered_with_same_numbers (built_dataset body None true) (created_dataset view.call)
+          (built_numbered body None true valid.no_body_errors tt) refl refl;
       tags = built_tags body None true tt;
     }
 
--- ---- a dataset in place of one that is seen
+-- ---- a dataset that replaces one in the view
 
--- what no change of a dataset changes, and what stays as sound as it was
+-- what no change of a dataset changes, and what stays sound
 record IsLike (old new : Package) : Type 0 where
   source : new.source ≡ old.source
   id : new.id ≡ old.id
@@ -117,44 +119,44 @@ record IsLike (old new : Package) : Type 0 where
   resources : AreNumbered old → AreNumbered new
   tags : IsAscending (slice_cmp nat_cmp) old.tags → IsAscending (slice_cmp nat_cmp) new.tags
 
-like-sound : (people : Peopled) (old new : Package) → IsLike old new → IsSound people old → IsSound people new
+like-sound : (people : PeopleLists) (old new : Package) → IsLike old new → IsSound people old → IsSound people new
 like-sound people old new like sound = record {
-  made_here = ap is_source like.source ∙ sound.made_here;
+  not_harvested = ap is_source like.source ∙ sound.not_harvested;
   id = subst IsId (sym like.id) sound.id;
   name = ap (λ n. is_name n LONGEST_NAME) like.name ∙ sound.name;
-  org = subst (Stands people) (sym like.org) sound.org;
+  org = subst (OrgExists people) (sym like.org) sound.org;
   resources = like.resources sound.resources;
   tags = like.tags sound.tags;
 }
 
-like-replacement : (seen : Seen) (held : List Holding) (old new : Package) → Contains seen.datasets old
-    → IsLike old new → KeepsResources old new ⊎ (loses_referred held new.id new.resources ≡ false)
-    → IsReplacement seen held new
-like-replacement seen held old new stood like spared = record {
+like-replacement : (view : CallView) (summaries : List TableSummary) (old new : Package) → Contains view.datasets old
+    → IsLike old new → KeepsResources old new ⊎ (breaks_references summaries new.id new.resources ≡ false)
+    → IsReplacement view summaries new
+like-replacement view summaries old new is_present like keeps_references = record {
   old = old;
-  stood = stood;
+  is_present = is_present;
   id = sym like.id;
   name = sym like.name;
-  sound = like-sound seen.people old new like;
-  spared = spared;
+  sound = like-sound view.people old new like;
+  keeps_references = keeps_references;
 }
 
-changed-like : (call : Call) (whole : Bool) (old : Package) → told_of call.request.body (Some old) ≡ []
+changed-like : (call : Call) (whole : Bool) (old : Package) → body_errors call.request.body (Some old) ≡ []
     → IsLike old (changed_dataset call whole old)
 changed-like call whole old none =
     let body = call.request.body in
-    let built = built_of body (Some old) whole in
+    let built = built_dataset body (Some old) whole in
     record {
       source = built_source body old whole;
       id = built_id body old whole;
       name = built_name body old whole;
       org = built_owner_org body old whole;
-      resources = λ stood. numbered_with_same_numbers built (changed_dataset call whole old)
-          (built_numbered body (Some old) whole none stood) refl refl;
+      resources = λ is_present. numbered_with_same_numbers built (changed_dataset call whole old)
+          (built_numbered body (Some old) whole none is_present) refl refl;
       tags = built_tags body (Some old) whole;
     }
 
--- Where nothing but resources changes, numbers alone are to be kept.
+-- If only the resources change, only their numbers have to be kept.
 numbered-like : (old new : Package) → new.source ≡ old.source → new.id ≡ old.id → new.name ≡ old.name
     → new.owner_org ≡ old.owner_org → new.tags ≡ old.tags → (AreNumbered old → AreNumbered new) → IsLike old new
 numbered-like old new source id name org tags numbered = record {
@@ -166,165 +168,168 @@ numbered-like old new source id name org tags numbered = record {
   tags = subst (IsAscending (slice_cmp nat_cmp)) (sym tags);
 }
 
--- ---- what is looked up stands among what is seen
+-- ---- what a look-up finds is in the view
 
-found-stood : (test : Package → Bool) (datasets : List Package) (dataset : Package)
+found-is_present : (test : Package → Bool) (datasets : List Package) (dataset : Package)
     → find test datasets ≡ Some dataset → Contains datasets dataset
-found-stood test datasets dataset found =
+found-is_present test datasets dataset found =
     Contains-IsIn dataset datasets (IsIn-find test dataset datasets found).0
 
-pub at-stood : (key : List ℕ) (seen : Seen) (dataset : Package) → dataset_at key seen ≡ Ok dataset
-    → Contains seen.datasets dataset
-at-stood key seen dataset is =
-    let named = thing_at-ok key seen.call.request.body kind.Dataset (dataset_named seen.datasets) dataset is in
-    found-stood (is_named named.name) seen.datasets dataset named.looked
+pub at-is_present : (key : List ℕ) (view : CallView) (dataset : Package) → dataset_at key view ≡ Ok dataset
+    → Contains view.datasets dataset
+at-is_present key view dataset is =
+    let named = thing_at-ok key view.call.request.body kind.Dataset (dataset_named view.datasets) dataset is in
+    found-is_present (is_named named.name) view.datasets dataset named.looked
 
-pub own-stood : (key : List ℕ) (seen : Seen) (dataset : Package) → own_dataset_at key seen ≡ Ok dataset
-    → Contains seen.datasets dataset
-own-stood key seen dataset is =
-    at-stood key seen dataset
-    (allowed_thing-ok (may_edit_in seen.people seen.call.caller) EditDataset (dataset_at key seen) dataset is).1
+pub editable-is_present : (key : List ℕ) (view : CallView) (dataset : Package) → editable_dataset_at key view ≡ Ok dataset
+    → Contains view.datasets dataset
+editable-is_present key view dataset is =
+    at-is_present key view dataset
+    (authorized_thing-ok (may_edit_in view.people view.call.caller) EditDataset (dataset_at key view) dataset is).1
 
--- a resource that stands at its place in a dataset among these
-pub record IsPlaced (datasets : List Package) (placed : Placed) : Type 0 where
-  pub stood : Contains datasets placed.dataset
-  pub there : slice_get placed.dataset.resources placed.place ≡ Some placed.resource
+-- a resource at its position in a dataset among these
+pub record IsLocated (datasets : List Package) (located : Located) : Type 0 where
+  pub is_present : Contains datasets located.dataset
+  pub there : slice_get located.dataset.resources located.position ≡ Some located.resource
 
--- what is placed stands where it is placed
-placed_at-there : (datasets : List Package) (dataset : Package) (place : ℕ) (placed : Placed)
-    → Contains datasets dataset → placed_at dataset place ≡ Some placed → IsPlaced datasets placed
-placed_at-there datasets dataset place placed stood is = by (slice_get dataset.resources place) refl is
+-- the resource at a position of a dataset is located there
+located_at-there : (datasets : List Package) (dataset : Package) (position : ℕ) (located : Located)
+    → Contains datasets dataset → located_at dataset position ≡ Some located → IsLocated datasets located
+located_at-there datasets dataset position located is_present is = by (slice_get dataset.resources position) refl is
   where
-    by : (found : Option Resource) → slice_get dataset.resources place ≡ found
-        → option_map (λ resource. record { dataset = dataset; place = place; resource = resource }) found ≡ Some placed
-        → IsPlaced datasets placed
+    by : (found : Option Resource) → slice_get dataset.resources position ≡ found
+        → option_map (λ resource. record { dataset = dataset; position = position; resource = resource }) found
+        ≡ Some located
+        → IsLocated datasets located
     by None there same = absurd (cc)
     by (Some resource) there same =
-        subst (IsPlaced datasets) (same_Some _ placed same) (record { stood = stood; there = there })
+        subst (IsLocated datasets) (same_Some _ located same) (record { is_present = is_present; there = there })
 
-named-placed : (datasets : List Package) (address : List ℕ) (placed : Placed)
-    → resource_named datasets address ≡ Some placed → IsPlaced datasets placed
-named-placed datasets address placed is =
-    option_and_then_some (resource_in address) (find (has_address address) datasets) placed is
-    (λ dataset found within. option_and_then_some (placed_at dataset) (place_of address dataset) placed within
-    (λ place at there. placed_at-there datasets dataset place placed
-    (found-stood (has_address address) datasets dataset found) there))
+named-located : (datasets : List Package) (address : List ℕ) (located : Located)
+    → resource_named datasets address ≡ Some located → IsLocated datasets located
+named-located datasets address located is =
+    option_and_then_some (resource_in address) (find (has_address address) datasets) located is
+    (λ dataset found within. option_and_then_some (located_at dataset) (position_of address dataset) located within
+    (λ position at there. located_at-there datasets dataset position located
+    (found-is_present (has_address address) datasets dataset found) there))
 
-pub at-placed : (seen : Seen) (placed : Placed) → resource_at seen ≡ Ok placed → IsPlaced seen.datasets placed
-at-placed seen placed is =
+pub at-located : (view : CallView) (located : Located) → resource_at view ≡ Ok located → IsLocated view.datasets located
+at-located view located is =
     let named =
-    thing_at-ok (codes "id") seen.call.request.body kind.Resource (resource_named seen.datasets) placed is in
-    named-placed seen.datasets named.name placed named.looked
+    thing_at-ok (codes "id") view.call.request.body kind.Resource (resource_named view.datasets) located is in
+    named-located view.datasets named.name located named.looked
 
-pub own-placed : (seen : Seen) (placed : Placed) → own_resource_at seen ≡ Ok placed → IsPlaced seen.datasets placed
-own-placed seen placed is =
-    at-placed seen placed
-    (allowed_thing-ok (λ (p : Placed). may_edit_in seen.people seen.call.caller p.dataset) EditDataset
-    (resource_at seen) placed is).1
+pub editable-located : (view : CallView) (located : Located) → editable_resource_at view ≡ Ok located
+    → IsLocated view.datasets located
+editable-located view located is =
+    at-located view located
+    (authorized_thing-ok (λ (p : Located). may_edit_in view.people view.call.caller p.dataset) EditDataset
+    (resource_at view) located is).1
 
 -- ---- the answers
 
-pub create_fit : (seen : Seen) (held : List Holding)
-    → AcceptsOnly (IsFitDataset seen held) (answer_to_package_create seen)
-create_fit seen held =
-    AcceptsOnly-needing (IsFitDataset seen held) (may_create seen) CreateDataset _
-    (λ may. AcceptsOnly-ruled (IsFitDataset seen held) seen.quota
-    (told_of_dataset seen.people seen.call.request.body None) _ (created-sound seen))
+pub create_fit : (view : CallView) (summaries : List TableSummary)
+    → AcceptsOnly (IsFitDataset view summaries) (answer_to_package_create view)
+create_fit view summaries =
+    AcceptsOnly-answer_if_authorized (IsFitDataset view summaries) (may_create view) CreateDataset _
+    (λ may. AcceptsOnly-answer_if_valid (IsFitDataset view summaries) view.quota
+    (dataset_errors view.people view.call.request.body None) _ (created-sound view))
 
-change-fit : (whole : Bool) (seen : Seen) (held : List Holding)
-    → AcceptsOnly (IsFitDataset seen held) (answer_to_package_change whole seen held)
-change-fit whole seen held =
-    let body = seen.call.request.body in
-    AcceptsOnly-answered (IsFitDataset seen held) (own_dataset_at (naming_key body) seen) _
-    (λ dataset own. AcceptsOnly-ruled (IsFitDataset seen held) seen.quota
-    (told_of_change seen.people held body dataset (changed_dataset seen.call whole dataset)) _
-    (λ none. let changed = changed_dataset seen.call whole dataset in
-    let parts = noted_if-none (codes "resources") (lost_told held changed)
-    (told_of_dataset seen.people body (Some dataset)) none in
-    like-replacement seen held dataset changed (own-stood (naming_key body) seen dataset own)
-    (changed-like seen.call whole dataset (dataset-untold seen.people body (Some dataset) parts.0).body_untold)
-    (inr (unlost held changed parts.1))))
+change-fit : (whole : Bool) (view : CallView) (summaries : List TableSummary)
+    → AcceptsOnly (IsFitDataset view summaries) (answer_to_package_change whole view summaries)
+change-fit whole view summaries =
+    let body = view.call.request.body in
+    AcceptsOnly-answer_if_found (IsFitDataset view summaries) (editable_dataset_at (naming_key body) view) _
+    (λ dataset own. AcceptsOnly-answer_if_valid (IsFitDataset view summaries) view.quota
+    (change_errors view.people summaries body dataset (changed_dataset view.call whole dataset)) _
+    (λ none. let changed = changed_dataset view.call whole dataset in
+    let parts = error_if-none (codes "resources") (lost_table_error summaries changed)
+    (dataset_errors view.people body (Some dataset)) none in
+    like-replacement view summaries dataset changed (editable-is_present (naming_key body) view dataset own)
+    (changed-like view.call whole dataset (dataset-no_errors view.people body (Some dataset) parts.0).no_body_errors)
+    (inr (no_table_lost summaries changed parts.1))))
 
-pub update_fit : (seen : Seen) (held : List Holding)
-    → AcceptsOnly (IsFitDataset seen held) (answer_to_package_update seen held)
+pub update_fit : (view : CallView) (summaries : List TableSummary)
+    → AcceptsOnly (IsFitDataset view summaries) (answer_to_package_update view summaries)
 update_fit = change-fit true
 
-pub patch_fit : (seen : Seen) (held : List Holding)
-    → AcceptsOnly (IsFitDataset seen held) (answer_to_package_patch seen held)
+pub patch_fit : (view : CallView) (summaries : List TableSummary)
+    → AcceptsOnly (IsFitDataset view summaries) (answer_to_package_patch view summaries)
 patch_fit = change-fit false
 
-pub delete_fit : (seen : Seen) (held : List Holding)
-    → AcceptsOnly (IsFitDataset seen held) (answer_to_package_delete seen)
-delete_fit seen held =
-    AcceptsOnly-answered (IsFitDataset seen held) (own_dataset_at (codes "id") seen) _
-    (λ dataset own. AcceptsOnly-ruled (IsFitDataset seen held) seen.quota [] _
-    (λ none. let deleted = deleted_dataset seen.call dataset in
-    like-replacement seen held dataset deleted (own-stood (codes "id") seen dataset own)
+pub delete_fit : (view : CallView) (summaries : List TableSummary)
+    → AcceptsOnly (IsFitDataset view summaries) (answer_to_package_delete view)
+delete_fit view summaries =
+    AcceptsOnly-answer_if_found (IsFitDataset view summaries) (editable_dataset_at (codes "id") view) _
+    (λ dataset own. AcceptsOnly-answer_if_valid (IsFitDataset view summaries) view.quota [] _
+    (λ none. let deleted = deleted_dataset view.call dataset in
+    like-replacement view summaries dataset deleted (editable-is_present (codes "id") view dataset own)
     (numbered-like dataset deleted refl refl refl refl refl
-    (λ stood. numbered_with_same_numbers dataset deleted stood refl refl))
+    (λ is_present. numbered_with_same_numbers dataset deleted is_present refl refl))
     (inl (all-keep dataset))))
 
-pub purge_fit : (seen : Seen) (held : List Holding)
-    → AcceptsOnly (IsFitDataset seen held) (answer_to_dataset_purge seen)
-purge_fit seen held =
-    AcceptsOnly-answered (IsFitDataset seen held) (purgeable_dataset seen) _
-    (λ dataset purgeable. AcceptsOnly-ruled (IsFitDataset seen held) seen.quota [] _
+pub purge_fit : (view : CallView) (summaries : List TableSummary)
+    → AcceptsOnly (IsFitDataset view summaries) (answer_to_dataset_purge view)
+purge_fit view summaries =
+    AcceptsOnly-answer_if_found (IsFitDataset view summaries) (purgeable_dataset view) _
+    (λ dataset purgeable. AcceptsOnly-answer_if_valid (IsFitDataset view summaries) view.quota [] _
     (λ none. let found =
-    allowed_thing-ok (λ (d : Package). is_sysadmin_in seen.people seen.call.caller && not (is_harvested d)) PurgeDataset
-    (dataset_at (codes "id") seen) dataset purgeable in
-    record { old = dataset; stood = at-stood (codes "id") seen dataset found.1; id = refl }))
+    authorized_thing-ok (λ (d : Package). is_sysadmin_in view.people view.call.caller && not (is_harvested d)) PurgeDataset
+    (dataset_at (codes "id") view) dataset purgeable in
+    record { old = dataset; is_present = at-is_present (codes "id") view dataset found.1; id = refl }))
 
-pub resource_create_fit : (seen : Seen) (held : List Holding)
-    → AcceptsOnly (IsFitDataset seen held) (answer_to_resource_create seen held)
-resource_create_fit seen held =
-    let body = seen.call.request.body in
-    AcceptsOnly-answered (IsFitDataset seen held) (own_dataset_at (codes "package_id") seen) _
-    (λ dataset own. AcceptsOnly-ruled (IsFitDataset seen held) seen.quota (told_of_new_resource dataset body) _
+pub resource_create_fit : (view : CallView) (summaries : List TableSummary)
+    → AcceptsOnly (IsFitDataset view summaries) (answer_to_resource_create view summaries)
+resource_create_fit view summaries =
+    let body = view.call.request.body in
+    AcceptsOnly-answer_if_found (IsFitDataset view summaries) (editable_dataset_at (codes "package_id") view) _
+    (λ dataset own. AcceptsOnly-answer_if_valid (IsFitDataset view summaries) view.quota (new_resource_errors dataset body) _
     (λ none. let resource = resource_for dataset.next_resource body in
-    let more = with_new_resource seen.call dataset resource in
-    like-replacement seen held dataset more (own-stood (codes "package_id") seen dataset own)
+    let more = with_new_resource view.call dataset resource in
+    like-replacement view summaries dataset more (editable-is_present (codes "package_id") view dataset own)
     (numbered-like dataset more refl refl refl refl refl
-    (λ stood. numbered_with_one_more dataset more resource stood refl refl refl))
+    (λ is_present. numbered_with_one_more dataset more resource is_present refl refl refl))
     (inl (more-keep dataset more resource refl))))
 
-pub resource_update_fit : (seen : Seen) (held : List Holding)
-    → AcceptsOnly (IsFitDataset seen held) (answer_to_resource_update seen held)
-resource_update_fit seen held =
-    let body = seen.call.request.body in
-    AcceptsOnly-answered (IsFitDataset seen held) (own_resource_at seen) _
-    (λ placed own. AcceptsOnly-ruled (IsFitDataset seen held) seen.quota (told_of_resource body) _
-    (λ none. let resource = resource_for placed.resource.number body in
-    let changed = with_resource_at seen.call placed.dataset placed.place resource in
-    let found = own-placed seen placed own in
-    like-replacement seen held placed.dataset changed found.stood
-    (numbered-like placed.dataset changed refl refl refl refl refl
-    (λ stood. numbered_with_place_replaced placed.dataset changed placed.place placed.resource resource stood
+pub resource_update_fit : (view : CallView) (summaries : List TableSummary)
+    → AcceptsOnly (IsFitDataset view summaries) (answer_to_resource_update view summaries)
+resource_update_fit view summaries =
+    let body = view.call.request.body in
+    AcceptsOnly-answer_if_found (IsFitDataset view summaries) (editable_resource_at view) _
+    (λ located own. AcceptsOnly-answer_if_valid (IsFitDataset view summaries) view.quota (resource_errors body) _
+    (λ none. let resource = resource_for located.resource.number body in
+    let changed = with_resource_at view.call located.dataset located.position resource in
+    let found = editable-located view located own in
+    like-replacement view summaries located.dataset changed found.is_present
+    (numbered-like located.dataset changed refl refl refl refl refl
+    (λ is_present. numbered_with_replacement_at located.dataset changed located.position located.resource resource
+    is_present
     found.there refl refl refl))
-    (inl (place-keeps placed.dataset changed placed.place placed.resource resource found.there refl refl))))
+    (inl (position-keeps located.dataset changed located.position located.resource resource found.there refl refl))))
 
-pub resource_delete_fit : (seen : Seen) (held : List Holding)
-    → AcceptsOnly (IsFitDataset seen held) (answer_to_resource_delete seen held)
-resource_delete_fit seen held =
-    AcceptsOnly-answered (IsFitDataset seen held) (own_resource_at seen) _
-    (λ placed own. let less = without_resource_at seen.call placed.dataset placed.place in
-    AcceptsOnly-ruled (IsFitDataset seen held) seen.quota (noted_if (codes "id") (lost_told held less) []) _
-    (λ none. like-replacement seen held placed.dataset less (own-placed seen placed own).stood
-    (numbered-like placed.dataset less refl refl refl refl refl
-    (λ stood. numbered_without_place placed.dataset less placed.place stood refl refl))
-    (inr (unlost held less (noted_if-none (codes "id") (lost_told held less) [] none).1))))
+pub resource_delete_fit : (view : CallView) (summaries : List TableSummary)
+    → AcceptsOnly (IsFitDataset view summaries) (answer_to_resource_delete view summaries)
+resource_delete_fit view summaries =
+    AcceptsOnly-answer_if_found (IsFitDataset view summaries) (editable_resource_at view) _
+    (λ located own. let less = without_resource_at view.call located.dataset located.position in
+    AcceptsOnly-answer_if_valid (IsFitDataset view summaries) view.quota (error_if (codes "id") (lost_table_error summaries less) []) _
+    (λ none. like-replacement view summaries located.dataset less (editable-located view located own).is_present
+    (numbered-like located.dataset less refl refl refl refl refl
+    (λ is_present. numbered_without_resource_at located.dataset less located.position is_present refl refl))
+    (inr (no_table_lost summaries less (error_if-none (codes "id") (lost_table_error summaries less) [] none).1))))
 
--- ---- readings, which accept no change, of whatever kind
+-- ---- reads, which accept no change
 
-pub show_only : (P : DatasetChange → Type 0) (seen : Seen) (held : List Holding)
-    → AcceptsOnly P (answer_to_package_show seen held)
-show_only P seen held = AcceptsOnly-answered P (dataset_at (codes "id") seen) _ (λ dataset found. tt)
+pub show_only : (P : DatasetChange → Type 0) (view : CallView) (summaries : List TableSummary)
+    → AcceptsOnly P (answer_to_package_show view summaries)
+show_only P view summaries = AcceptsOnly-answer_if_found P (dataset_at (codes "id") view) _ (λ dataset found. tt)
 
-pub resource_show_only : (P : DatasetChange → Type 0) (seen : Seen) (held : List Holding)
-    → AcceptsOnly P (answer_to_resource_show seen held)
-resource_show_only P seen held = AcceptsOnly-answered P (resource_at seen) _ (λ placed found. tt)
+pub resource_show_only : (P : DatasetChange → Type 0) (view : CallView) (summaries : List TableSummary)
+    → AcceptsOnly P (answer_to_resource_show view summaries)
+resource_show_only P view summaries = AcceptsOnly-answer_if_found P (resource_at view) _ (λ located found. tt)
 
-pub list_only : (P : DatasetChange → Type 0) (seen : Seen) → AcceptsOnly P (answer_to_package_list seen)
-list_only P seen =
-    AcceptsOnly-unless P
-    (denial_of (noted_if (codes "offset") (kind_message (count_at (codes "offset") seen.call.request.body))
-    (noted_if (codes "limit") (kind_message (count_at (codes "limit") seen.call.request.body)) []))) _ (λ none. tt)
+pub list_only : (P : DatasetChange → Type 0) (view : CallView) → AcceptsOnly P (answer_to_package_list view)
+list_only P view =
+    AcceptsOnly-answer_unless_denied P
+    (denial_of (error_if (codes "offset") (kind_message (count_at (codes "offset") view.call.request.body))
+    (error_if (codes "limit") (kind_message (count_at (codes "limit") view.call.request.body)) []))) _ (λ none. tt)

@@ -1,4 +1,4 @@
 mod Examples
 pub mod Fitting
-pub mod HeldAnswers
-pub mod HeldLemmas
+pub mod TableSummaryAnswers
+pub mod TableSummaryLemmas

@@ -1,27 +1,27 @@
--- The dictionaries in which replies show things, with keys that ascend by bytes. Keys are those of CKAN 2.10.
+-- The dictionaries of replies, with keys that ascend by bytes. The keys are those of CKAN 2.10.
 use Rattle.std.specs.Prelude.{ℕ, ◌+◌, pos, List, [], ◌∷◌, ◌++◌, map, length, codes, option_map, unwrap_or}
 use Rattle.portal_base.specs.MomentText.{moment_text}
 use Rattle.portal_base.specs.declared.json_value.Json.{Json}
 use Rattle.portal_base.specs.declared.json_value.Json as json
-use Rattle.org_roles.specs.Peopled.{Peopled, org_in}
+use Rattle.org_roles.specs.PeopleLists.{PeopleLists, org_in}
 use Rattle.packages.specs.Named.{resource_address}
 use Rattle.packages.specs.declared.package.Package.{Package}
 use Rattle.packages.specs.declared.package.Resource.{Resource}
 use Rattle.packages.specs.declared.package.State.{State}
 use Rattle.packages.specs.declared.package.State.TheVariants.{Draft, Active, Deleted}
-use Rattle.visibility.specs.Held.{Holding, has_table}
+use Rattle.visibility.specs.TableSummary.{TableSummary, has_table}
 
 abbrev pub state_name : State → List ℕ
 state_name Draft = codes "draft"
 state_name Active = codes "active"
 state_name Deleted = codes "deleted"
 
--- the title of the organization of that name, and the empty text without one
-abbrev pub organization_title : Peopled → List ℕ → List ℕ
+-- the title of the organization with that name, or the empty text
+abbrev pub organization_title : PeopleLists → List ℕ → List ℕ
 organization_title people name = unwrap_or (option_map (λ org. org.title) (org_in people name)) []
 
--- an organization as a package shows it
-abbrev pub organization_dictionary : Peopled → List ℕ → Json
+-- an organization in the dictionary of a dataset
+abbrev pub organization_dictionary : PeopleLists → List ℕ → Json
 organization_dictionary people name = json.Map (
     (codes "id", json.Text name)
     ∷ (codes "name", json.Text name)
@@ -31,10 +31,10 @@ organization_dictionary people name = json.Map (
 abbrev pub tag_dictionary : List ℕ → Json
 tag_dictionary tag = json.Map ((codes "display_name", json.Text tag) ∷ (codes "name", json.Text tag) ∷ [])
 
--- a resource at its position in the dataset of that id, and whether it has a table
-abbrev pub resource_dictionary : List Holding → List ℕ → ℕ → Resource → Json
-resource_dictionary held dataset position resource = json.Map (
-    (codes "datastore_active", json.Truth (has_table held dataset resource.number))
+-- a resource at its position in the dataset with that id, and whether it has a table
+abbrev pub resource_dictionary : List TableSummary → List ℕ → ℕ → Resource → Json
+resource_dictionary summaries dataset position resource = json.Map (
+    (codes "datastore_active", json.Truth (has_table summaries dataset resource.number))
     ∷ (codes "description", json.Text resource.description)
     ∷ (codes "format", json.Text resource.format)
     ∷ (codes "id", json.Text (resource_address dataset resource.number))
@@ -46,14 +46,14 @@ resource_dictionary held dataset position resource = json.Map (
     ∷ [])
 
 -- the resources from that position on
-abbrev pub resource_dictionaries : List Holding → List ℕ → ℕ → List Resource → List Json
-resource_dictionaries held dataset position [] = []
-resource_dictionaries held dataset position (r ∷ rs) =
-    resource_dictionary held dataset position r ∷ resource_dictionaries held dataset (position + 1) rs
+abbrev pub resource_dictionaries : List TableSummary → List ℕ → ℕ → List Resource → List Json
+resource_dictionaries summaries dataset position [] = []
+resource_dictionaries summaries dataset position (r ∷ rs) =
+    resource_dictionary summaries dataset position r ∷ resource_dictionaries summaries dataset (position + 1) rs
 
 -- the members of a dataset's dictionary from `author` to `notes`
-abbrev pub described : Package → List (List ℕ × Json)
-described dataset =
+abbrev pub members_to_notes : Package → List (List ℕ × Json)
+members_to_notes dataset =
     (codes "author", json.Text dataset.author)
     ∷ (codes "creator_user_id", json.Text dataset.creator)
     ∷ (codes "id", json.Text dataset.id)
@@ -65,9 +65,9 @@ described dataset =
     ∷ (codes "notes", json.Text dataset.notes)
     ∷ []
 
--- those from `num_resources` to `private`
-abbrev pub placed : Peopled → Package → List (List ℕ × Json)
-placed people dataset =
+-- the members from `num_resources` to `private`
+abbrev pub members_to_private : PeopleLists → Package → List (List ℕ × Json)
+members_to_private people dataset =
     (codes "num_resources", json.Whole (pos (length dataset.resources)))
     ∷ (codes "num_tags", json.Whole (pos (length dataset.tags)))
     ∷ (codes "organization", organization_dictionary people dataset.owner_org)
@@ -75,10 +75,10 @@ placed people dataset =
     ∷ (codes "private", json.Truth dataset.private)
     ∷ []
 
--- those from `resources` to `version`
-abbrev pub listed : List Holding → Package → List (List ℕ × Json)
-listed held dataset =
-    (codes "resources", json.List (resource_dictionaries held dataset.id 0 dataset.resources))
+-- the members from `resources` to `version`
+abbrev pub members_to_version : List TableSummary → Package → List (List ℕ × Json)
+members_to_version summaries dataset =
+    (codes "resources", json.List (resource_dictionaries summaries dataset.id 0 dataset.resources))
     ∷ (codes "state", json.Text (state_name dataset.state))
     ∷ (codes "tags", json.List (map tag_dictionary dataset.tags))
     ∷ (codes "title", json.Text dataset.title)
@@ -87,6 +87,7 @@ listed held dataset =
     ∷ (codes "version", json.Text dataset.version)
     ∷ []
 
--- a dataset, where these resources have tables
-abbrev pub package_dictionary : Peopled → List Holding → Package → Json
-package_dictionary people held dataset = json.Map (described dataset ++ (placed people dataset ++ listed held dataset))
+-- a dataset, given the tables
+abbrev pub package_dictionary : PeopleLists → List TableSummary → Package → Json
+package_dictionary people summaries dataset =
+    json.Map (members_to_notes dataset ++ (members_to_private people dataset ++ members_to_version summaries dataset))

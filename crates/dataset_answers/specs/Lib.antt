@@ -1,7 +1,7 @@
 pub mod Answers
+pub mod Bodies
 pub mod Changed
 pub mod Dictionary
 pub mod Fit
 pub mod Lookup
 pub mod Sound
-pub mod Told

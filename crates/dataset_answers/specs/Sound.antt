@@ -1,11 +1,11 @@
--- The datasets that may stand among the people.
+-- The datasets that may exist, given the people.
 use Rattle.std.specs.Prelude.{◌≡◌, ℕ, List, true, false, is_some}
 use Rattle.std.specs.Ordering.{nat_cmp}
 use Rattle.std.specs.Cmp.Lexicographic.{slice_cmp}
 use Rattle.portal_base.specs.Id.{id_text}
 use Rattle.portal_base.specs.Name.{is_name}
 use Rattle.portal_base.specs.Ordered.{IsAscending}
-use Rattle.org_roles.specs.Peopled.{Peopled, org_in}
+use Rattle.org_roles.specs.PeopleLists.{PeopleLists, org_in}
 use Rattle.packages.specs.Numbered.{AreNumbered}
 use Rattle.packages.specs.declared.package.TheConstants.{LONGEST_NAME}
 use Rattle.packages.specs.declared.package.Package.{Package}
@@ -15,17 +15,17 @@ use Rattle.visibility.specs.Visibility.{is_harvested}
 abbrev pub IsId : List ℕ → Type 0
 IsId text = (number : ℕ) × (text ≡ id_text number)
 
--- Whether the organization stands among the people.
-abbrev pub Stands : Peopled → List ℕ → Type 0
-Stands people org = is_some (org_in people org) ≡ true
+-- the organization exists
+abbrev pub OrgExists : PeopleLists → List ℕ → Type 0
+OrgExists people org = is_some (org_in people org) ≡ true
 
--- A dataset that may stand among the people: made here and not harvested, with an id and a name of the right form, in
--- an organization that stands, with tags that ascend by their bytes without repeats. No name has the form of an id, so
--- no dataset's name is the id of another.
-pub record IsSound (people : Peopled) (dataset : Package) : Type 0 where
-  pub made_here : is_harvested dataset ≡ false
+-- A dataset that wasn't harvested, with an id and a name of the right form, in an organization that exists, with
+-- numbered resources, and with tags that strictly ascend by bytes. No name has the form of an id, so that no dataset's
+-- name is the id of another.
+pub record IsSound (people : PeopleLists) (dataset : Package) : Type 0 where
+  pub not_harvested : is_harvested dataset ≡ false
   pub id : IsId dataset.id
   pub name : is_name dataset.name LONGEST_NAME ≡ true
-  pub org : Stands people dataset.owner_org
+  pub org : OrgExists people dataset.owner_org
   pub resources : AreNumbered dataset
   pub tags : IsAscending (slice_cmp nat_cmp) dataset.tags

@@ -1,88 +1,93 @@
 //! The answers to calls on datasets and resources.
 //!
-//! Each names the thing, the right, the reading of the body and the change. What it answers is a function of the call
-//! and of what the caller sees.
+//! Each function finds the thing, checks the right, reads the body and gives the change. Its answer is a function of
+//! the call and of the caller's view.
 ghost use Rattle.std.specs.Prelude.{◌≡◌, IfOk};
-ghost use Rattle.visibility.specs.Held.{held_seen};
-ghost use Rattle.visibility.specs.Seen.{seen_by};
-ghost use Rattle.dataset_answers.specs.Answers.{answer_to_package_show, answer_to_package_list, creates_in, may_create};
+ghost use Rattle.visibility.specs.TableSummary.{summaries_seen};
+ghost use Rattle.visibility.specs.CallView.{context_view};
+ghost use Rattle.dataset_answers.specs.Answers.{answer_to_package_show, answer_to_package_list};
+ghost use Rattle.dataset_answers.specs.Answers.{can_create_in, may_create};
 ghost use Rattle.dataset_answers.specs.Answers.{answer_to_package_create, answer_to_package_change};
 ghost use Rattle.dataset_answers.specs.Answers.{answer_to_package_update, answer_to_package_patch};
 ghost use Rattle.dataset_answers.specs.Answers.{answer_to_package_delete, answer_to_dataset_purge};
 ghost use Rattle.dataset_answers.specs.Answers.{answer_to_resource_show, answer_to_resource_create};
 ghost use Rattle.dataset_answers.specs.Answers.{answer_to_resource_update, answer_to_resource_delete};
-ghost use Rattle.dataset_answers.specs.Told.{organization_given};
+ghost use Rattle.dataset_answers.specs.Bodies.{organization_given};
 
+use crate::bodies::{
+    change_errors, changed_dataset, created_dataset, dataset_errors, deleted_dataset,
+    deletion_errors, new_resource_errors, organization_given, read_count, with_new_resource,
+    with_resource_at, without_resource_at,
+};
 use crate::change::DatasetChange;
 use crate::dictionary::{package_json, resource_json};
 use crate::lists::{names_json, page_of};
 use crate::lookup::{
-    dataset_at, naming_key, own_dataset_at, own_resource_at, purgeable_dataset, resource_at,
-};
-use crate::told::{
-    changed_dataset, created_dataset, deleted_dataset, organization_given, read_count,
-    told_of_change, told_of_dataset, told_of_deletion, told_of_new_resource, with_new_resource,
-    with_resource_at, without_resource_at,
+    dataset_at, editable_dataset_at, editable_resource_at, naming_key, purgeable_dataset,
+    resource_at,
 };
 use org_roles::role::rights_of;
-use packages::resources::{resource_for, told_of_resource};
+use packages::resources::{resource_errors, resource_for};
 use portal_base::copy::TryClone;
-use portal_base::faults::Faults;
 use portal_base::json_value::Json;
-use portal_calls::answer::{Answer, Denial, Right, denial_by, denial_of};
+use portal_base::key_errors::KeyErrors;
+use portal_calls::answer::{Answer, Denial, Right, denial_of, denial_with_quota};
 use std::alloc::{AllocError, Global};
-use visibility::asked::Asked;
-use visibility::held::{Held, NoTables};
+use visibility::context::CallContext;
+use visibility::table_lookup::{NoTables, TableLookup};
 
-// ---- readings
+// ---- reads
 
 /// The answer to a `package_show`.
-pub fn package_show<H: Held>(
+pub fn package_show<H: TableLookup>(
     alloc: Global,
-    asked: &Asked<'_>,
+    context: &CallContext<'_>,
     tables: &H,
 ) -> Result<Answer<DatasetChange>, AllocError>
-    ensures { IfOk result (λ answer. answer ≡ answer_to_package_show (seen_by asked.now)
-        (held_seen (seen_by asked.now).datasets (H.held tables.now))) }
+    ensures { IfOk result (λ answer. answer ≡ answer_to_package_show (context_view context.now)
+        (summaries_seen (context_view context.now).datasets (H.summaries tables.now))) }
 {
-    match dataset_at(alloc, asked, "id")? {
-        Ok(dataset) => Ok(Answer::Shown(package_json(alloc, asked, tables, dataset)?)),
+    match dataset_at(alloc, context, "id")? {
+        Ok(dataset) => Ok(Answer::Shown(package_json(alloc, context, tables, dataset)?)),
         Err(denial) => Ok(Answer::Refused(denial)),
     }
 }
 
 /// The answer to a `package_list`.
-pub fn package_list(alloc: Global, asked: &Asked<'_>) -> Result<Answer<DatasetChange>, AllocError>
-    ensures { IfOk result (λ answer. answer ≡ answer_to_package_list (seen_by asked.now)) }
+pub fn package_list(
+    alloc: Global,
+    context: &CallContext<'_>,
+) -> Result<Answer<DatasetChange>, AllocError>
+    ensures { IfOk result (λ answer. answer ≡ answer_to_package_list (context_view context.now)) }
 {
-    let mut faults = Faults::new(alloc);
-    let limit = read_count(alloc, &mut faults, &asked.call.request.body, "limit")?;
-    let offset = read_count(alloc, &mut faults, &asked.call.request.body, "offset")?;
+    let mut faults = KeyErrors::new(alloc);
+    let limit = read_count(alloc, &mut faults, &context.call.request.body, "limit")?;
+    let offset = read_count(alloc, &mut faults, &context.call.request.body, "offset")?;
     if let Some(denial) = denial_of(faults) {
         return Ok(Answer::Refused(denial));
     }
-    let names = asked.open_names(alloc)?;
+    let names = context.public_names(alloc)?;
     let page = page_of(limit, offset, names.as_slice());
     Ok(Answer::Shown(Json::List(names_json(alloc, page)?)))
 }
 
 /// The answer to a `resource_show`.
-pub fn resource_show<H: Held>(
+pub fn resource_show<H: TableLookup>(
     alloc: Global,
-    asked: &Asked<'_>,
+    context: &CallContext<'_>,
     tables: &H,
 ) -> Result<Answer<DatasetChange>, AllocError>
-    ensures { IfOk result (λ answer. answer ≡ answer_to_resource_show (seen_by asked.now)
-        (held_seen (seen_by asked.now).datasets (H.held tables.now))) }
+    ensures { IfOk result (λ answer. answer ≡ answer_to_resource_show (context_view context.now)
+        (summaries_seen (context_view context.now).datasets (H.summaries tables.now))) }
 {
-    match resource_at(alloc, asked)? {
-        Ok(placed) => {
+    match resource_at(alloc, context)? {
+        Ok(located) => {
             let shown = resource_json(
                 alloc,
                 tables,
-                &placed.dataset.id,
-                placed.place,
-                placed.resource,
+                &located.dataset.id,
+                located.position,
+                located.resource,
             )?;
             Ok(Answer::Shown(shown))
         }
@@ -90,117 +95,126 @@ pub fn resource_show<H: Held>(
     }
 }
 
-// ---- datasets that come and change
+// ---- creation and change of datasets
 
-/// Whether the caller may make the dataset that the body says.
-fn may_create(asked: &Asked<'_>) -> bool
-    ensures { result ≡ may_create (seen_by asked.now) }
+/// Whether the caller may create the dataset that the body describes.
+fn may_create(context: &CallContext<'_>) -> bool
+    ensures { result ≡ may_create (context_view context.now) }
 {
-    asked.is_sysadmin() || creates_here(asked)
+    context.is_sysadmin() || can_create_here(context)
 }
 
-/// Whether the caller edits in the organization that the body gives, or anywhere, where that one isn't there.
-fn creates_here(asked: &Asked<'_>) -> bool
-    ensures { result ≡ creates_in (seen_by asked.now).people asked.now.call.now.caller
-        (organization_given (seen_by asked.now).people asked.now.call.now.request.body) }
+/// Whether the caller is an editor in the organization that the body gives, or in any, if that one doesn't exist.
+fn can_create_here(context: &CallContext<'_>) -> bool
+    ensures { result ≡ can_create_in (context_view context.now).people context.now.call.now.caller
+        (organization_given (context_view context.now).people context.now.call.now.request.body) }
 {
-    match organization_given(asked) {
-        Some(org) => rights_of(asked.role(&org.name)).edit,
-        None => asked.edits_somewhere(),
+    match organization_given(context) {
+        Some(org) => rights_of(context.role(&org.name)).edit,
+        None => context.edits_somewhere(),
     }
 }
 
 /// The answer to a `package_create`.
-pub fn package_create(alloc: Global, asked: &Asked<'_>) -> Result<Answer<DatasetChange>, AllocError>
-    ensures { IfOk result (λ answer. answer ≡ answer_to_package_create (seen_by asked.now)) }
+pub fn package_create(
+    alloc: Global,
+    context: &CallContext<'_>,
+) -> Result<Answer<DatasetChange>, AllocError>
+    ensures { IfOk result (λ answer. answer ≡ answer_to_package_create (context_view context.now)) }
 {
-    if !may_create(asked) {
+    if !may_create(context) {
         return Ok(Answer::Refused(Denial::NotAuthorized(Right::CreateDataset)));
     }
-    let faults = told_of_dataset(alloc, asked, None)?;
-    if let Some(denial) = denial_by(asked.quota, faults)? {
+    let faults = dataset_errors(alloc, context, None)?;
+    if let Some(denial) = denial_with_quota(context.quota, faults)? {
         return Ok(Answer::Refused(denial));
     }
-    let dataset = created_dataset(alloc, asked.call)?;
-    let shown = package_json(alloc, asked, &NoTables, &dataset)?;
+    let dataset = created_dataset(alloc, context.call)?;
+    let shown = package_json(alloc, context, &NoTables, &dataset)?;
     Ok(Answer::Accepted(shown, DatasetChange::Create(dataset)))
 }
 
 /// The answer to a `package_update`.
-pub fn package_update<H: Held>(
+pub fn package_update<H: TableLookup>(
     alloc: Global,
-    asked: &Asked<'_>,
+    context: &CallContext<'_>,
     tables: &H,
 ) -> Result<Answer<DatasetChange>, AllocError>
-    ensures { IfOk result (λ answer. answer ≡ answer_to_package_update (seen_by asked.now)
-        (held_seen (seen_by asked.now).datasets (H.held tables.now))) }
+    ensures { IfOk result (λ answer. answer ≡ answer_to_package_update (context_view context.now)
+        (summaries_seen (context_view context.now).datasets (H.summaries tables.now))) }
 {
-    package_change(alloc, asked, tables, true)
+    package_change(alloc, context, tables, true)
 }
 
 /// The answer to a `package_patch`.
-pub fn package_patch<H: Held>(
+pub fn package_patch<H: TableLookup>(
     alloc: Global,
-    asked: &Asked<'_>,
+    context: &CallContext<'_>,
     tables: &H,
 ) -> Result<Answer<DatasetChange>, AllocError>
-    ensures { IfOk result (λ answer. answer ≡ answer_to_package_patch (seen_by asked.now)
-        (held_seen (seen_by asked.now).datasets (H.held tables.now))) }
+    ensures { IfOk result (λ answer. answer ≡ answer_to_package_patch (context_view context.now)
+        (summaries_seen (context_view context.now).datasets (H.summaries tables.now))) }
 {
-    package_change(alloc, asked, tables, false)
+    package_change(alloc, context, tables, false)
 }
 
-/// The answer to a call that changes a dataset. `whole` says that absent keys take their defaults, and don't keep what
-/// stands.
-fn package_change<H: Held>(
+/// The answer to a call that changes a dataset. With `whole` absent keys take their defaults (update), and without it
+/// they keep their values (patch).
+fn package_change<H: TableLookup>(
     alloc: Global,
-    asked: &Asked<'_>,
+    context: &CallContext<'_>,
     tables: &H,
     whole: bool,
 ) -> Result<Answer<DatasetChange>, AllocError>
-    ensures { IfOk result (λ answer. answer ≡ answer_to_package_change whole (seen_by asked.now)
-        (held_seen (seen_by asked.now).datasets (H.held tables.now))) }
+    ensures { IfOk result (λ answer. answer ≡ answer_to_package_change whole (context_view context.now)
+        (summaries_seen (context_view context.now).datasets (H.summaries tables.now))) }
 {
-    let key = naming_key(&asked.call.request.body);
-    let dataset = match own_dataset_at(alloc, asked, key)? {
+    let key = naming_key(&context.call.request.body);
+    let dataset = match editable_dataset_at(alloc, context, key)? {
         Ok(dataset) => dataset,
         Err(denial) => return Ok(Answer::Refused(denial)),
     };
-    let changed = changed_dataset(alloc, asked.call, whole, dataset)?;
-    let faults = told_of_change(alloc, asked, tables, dataset, &changed)?;
-    if let Some(denial) = denial_by(asked.quota, faults)? {
+    let changed = changed_dataset(alloc, context.call, whole, dataset)?;
+    let faults = change_errors(alloc, context, tables, dataset, &changed)?;
+    if let Some(denial) = denial_with_quota(context.quota, faults)? {
         return Ok(Answer::Refused(denial));
     }
-    let shown = package_json(alloc, asked, tables, &changed)?;
+    let shown = package_json(alloc, context, tables, &changed)?;
     Ok(Answer::Accepted(shown, DatasetChange::Replace(changed)))
 }
 
-// ---- datasets that go
+// ---- deletion of datasets
 
 /// The answer to a `package_delete`.
-pub fn package_delete(alloc: Global, asked: &Asked<'_>) -> Result<Answer<DatasetChange>, AllocError>
-    ensures { IfOk result (λ answer. answer ≡ answer_to_package_delete (seen_by asked.now)) }
+pub fn package_delete(
+    alloc: Global,
+    context: &CallContext<'_>,
+) -> Result<Answer<DatasetChange>, AllocError>
+    ensures { IfOk result (λ answer. answer ≡ answer_to_package_delete (context_view context.now)) }
 {
-    let dataset = match own_dataset_at(alloc, asked, "id")? {
+    let dataset = match editable_dataset_at(alloc, context, "id")? {
         Ok(dataset) => dataset,
         Err(denial) => return Ok(Answer::Refused(denial)),
     };
-    if let Some(denial) = denial_by(asked.quota, Faults::new(alloc))? {
+    if let Some(denial) = denial_with_quota(context.quota, KeyErrors::new(alloc))? {
         return Ok(Answer::Refused(denial));
     }
-    let deleted = deleted_dataset(alloc, asked.call, dataset)?;
+    let deleted = deleted_dataset(alloc, context.call, dataset)?;
     Ok(Answer::Accepted(Json::Null, DatasetChange::Replace(deleted)))
 }
 
 /// The answer to a `dataset_purge`.
-pub fn dataset_purge(alloc: Global, asked: &Asked<'_>) -> Result<Answer<DatasetChange>, AllocError>
-    ensures { IfOk result (λ answer. answer ≡ answer_to_dataset_purge (seen_by asked.now)) }
+pub fn dataset_purge(
+    alloc: Global,
+    context: &CallContext<'_>,
+) -> Result<Answer<DatasetChange>, AllocError>
+    ensures { IfOk result (λ answer. answer ≡ answer_to_dataset_purge (context_view context.now)) }
 {
-    let dataset = match purgeable_dataset(alloc, asked)? {
+    let dataset = match purgeable_dataset(alloc, context)? {
         Ok(dataset) => dataset,
         Err(denial) => return Ok(Answer::Refused(denial)),
     };
-    if let Some(denial) = denial_by(asked.quota, Faults::new(alloc))? {
+    if let Some(denial) = denial_with_quota(context.quota, KeyErrors::new(alloc))? {
         return Ok(Answer::Refused(denial));
     }
     let id = dataset.id.try_clone(alloc)?;
@@ -210,23 +224,23 @@ pub fn dataset_purge(alloc: Global, asked: &Asked<'_>) -> Result<Answer<DatasetC
 // ---- resources
 
 /// The answer to a `resource_create`.
-pub fn resource_create<H: Held>(
+pub fn resource_create<H: TableLookup>(
     alloc: Global,
-    asked: &Asked<'_>,
+    context: &CallContext<'_>,
     tables: &H,
 ) -> Result<Answer<DatasetChange>, AllocError>
-    ensures { IfOk result (λ answer. answer ≡ answer_to_resource_create (seen_by asked.now)
-        (held_seen (seen_by asked.now).datasets (H.held tables.now))) }
+    ensures { IfOk result (λ answer. answer ≡ answer_to_resource_create (context_view context.now)
+        (summaries_seen (context_view context.now).datasets (H.summaries tables.now))) }
 {
-    let dataset = match own_dataset_at(alloc, asked, "package_id")? {
+    let dataset = match editable_dataset_at(alloc, context, "package_id")? {
         Ok(dataset) => dataset,
         Err(denial) => return Ok(Answer::Refused(denial)),
     };
-    let faults = told_of_new_resource(alloc, dataset, &asked.call.request.body)?;
-    if let Some(denial) = denial_by(asked.quota, faults)? {
+    let faults = new_resource_errors(alloc, dataset, &context.call.request.body)?;
+    if let Some(denial) = denial_with_quota(context.quota, faults)? {
         return Ok(Answer::Refused(denial));
     }
-    let resource = resource_for(alloc, dataset.next_resource, &asked.call.request.body)?;
+    let resource = resource_for(alloc, dataset.next_resource, &context.call.request.body)?;
     let shown = resource_json(
         alloc,
         tables,
@@ -234,50 +248,50 @@ pub fn resource_create<H: Held>(
         dataset.resources.len(),
         &resource,
     )?;
-    let changed = with_new_resource(alloc, asked.call, dataset, resource)?;
+    let changed = with_new_resource(alloc, context.call, dataset, resource)?;
     Ok(Answer::Accepted(shown, DatasetChange::Replace(changed)))
 }
 
 /// The answer to a `resource_update`.
-pub fn resource_update<H: Held>(
+pub fn resource_update<H: TableLookup>(
     alloc: Global,
-    asked: &Asked<'_>,
+    context: &CallContext<'_>,
     tables: &H,
 ) -> Result<Answer<DatasetChange>, AllocError>
-    ensures { IfOk result (λ answer. answer ≡ answer_to_resource_update (seen_by asked.now)
-        (held_seen (seen_by asked.now).datasets (H.held tables.now))) }
+    ensures { IfOk result (λ answer. answer ≡ answer_to_resource_update (context_view context.now)
+        (summaries_seen (context_view context.now).datasets (H.summaries tables.now))) }
 {
-    let placed = match own_resource_at(alloc, asked)? {
-        Ok(placed) => placed,
+    let located = match editable_resource_at(alloc, context)? {
+        Ok(located) => located,
         Err(denial) => return Ok(Answer::Refused(denial)),
     };
-    let faults = told_of_resource(alloc, &asked.call.request.body)?;
-    if let Some(denial) = denial_by(asked.quota, faults)? {
+    let faults = resource_errors(alloc, &context.call.request.body)?;
+    if let Some(denial) = denial_with_quota(context.quota, faults)? {
         return Ok(Answer::Refused(denial));
     }
-    let dataset = placed.dataset;
-    let resource = resource_for(alloc, placed.resource.number, &asked.call.request.body)?;
-    let shown = resource_json(alloc, tables, &dataset.id, placed.place, &resource)?;
-    let changed = with_resource_at(alloc, asked.call, dataset, placed.place, resource)?;
+    let dataset = located.dataset;
+    let resource = resource_for(alloc, located.resource.number, &context.call.request.body)?;
+    let shown = resource_json(alloc, tables, &dataset.id, located.position, &resource)?;
+    let changed = with_resource_at(alloc, context.call, dataset, located.position, resource)?;
     Ok(Answer::Accepted(shown, DatasetChange::Replace(changed)))
 }
 
 /// The answer to a `resource_delete`.
-pub fn resource_delete<H: Held>(
+pub fn resource_delete<H: TableLookup>(
     alloc: Global,
-    asked: &Asked<'_>,
+    context: &CallContext<'_>,
     tables: &H,
 ) -> Result<Answer<DatasetChange>, AllocError>
-    ensures { IfOk result (λ answer. answer ≡ answer_to_resource_delete (seen_by asked.now)
-        (held_seen (seen_by asked.now).datasets (H.held tables.now))) }
+    ensures { IfOk result (λ answer. answer ≡ answer_to_resource_delete (context_view context.now)
+        (summaries_seen (context_view context.now).datasets (H.summaries tables.now))) }
 {
-    let placed = match own_resource_at(alloc, asked)? {
-        Ok(placed) => placed,
+    let located = match editable_resource_at(alloc, context)? {
+        Ok(located) => located,
         Err(denial) => return Ok(Answer::Refused(denial)),
     };
-    let changed = without_resource_at(alloc, asked.call, placed.dataset, placed.place)?;
-    let faults = told_of_deletion(alloc, tables, &changed)?;
-    if let Some(denial) = denial_by(asked.quota, faults)? {
+    let changed = without_resource_at(alloc, context.call, located.dataset, located.position)?;
+    let faults = deletion_errors(alloc, tables, &changed)?;
+    if let Some(denial) = denial_with_quota(context.quota, faults)? {
         return Ok(Answer::Refused(denial));
     }
     Ok(Answer::Accepted(Json::Null, DatasetChange::Replace(changed)))

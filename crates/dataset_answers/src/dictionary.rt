@@ -1,9 +1,9 @@
-//! The dictionaries in which replies show things.
+//! The dictionaries of replies.
 ghost use Rattle.std.specs.Prelude.{◌≡◌, map, IfOk};
 ghost use Rattle.dataset_answers.specs.Dictionary.{state_name, organization_title, organization_dictionary};
 ghost use Rattle.dataset_answers.specs.Dictionary.{tag_dictionary, resource_dictionary, resource_dictionaries};
 ghost use Rattle.dataset_answers.specs.Dictionary.{package_dictionary};
-ghost use Rattle.visibility.specs.Seen.{seen_by};
+ghost use Rattle.visibility.specs.CallView.{context_view};
 
 use packages::named::resource_address;
 use packages::package::{Package, Resource, State};
@@ -12,8 +12,8 @@ use portal_base::json_value::Json;
 use portal_base::seq::Seq;
 use portal_base::text::Text;
 use std::alloc::{AllocError, Global};
-use visibility::asked::Asked;
-use visibility::held::Held;
+use visibility::context::CallContext;
+use visibility::table_lookup::TableLookup;
 
 fn name_of_state(state: State) -> &'static str
     ensures { result.now ≡ state_name state }
@@ -25,10 +25,10 @@ fn name_of_state(state: State) -> &'static str
     }
 }
 
-fn title_of_organization<'a>(asked: &Asked<'a>, name: &Text) -> &'a str
-    ensures { result.now ≡ organization_title (seen_by asked.now).people name.now }
+fn title_of_organization<'a>(context: &CallContext<'a>, name: &Text) -> &'a str
+    ensures { result.now ≡ organization_title (context_view context.now).people name.now }
 {
-    match asked.org(name) {
+    match context.org(name) {
         Some(org) => org.title.as_str(),
         None => "",
     }
@@ -36,12 +36,12 @@ fn title_of_organization<'a>(asked: &Asked<'a>, name: &Text) -> &'a str
 
 fn organization_json<'a>(
     alloc: Global,
-    asked: &Asked<'a>,
+    context: &CallContext<'a>,
     name: &'a Text,
 ) -> Result<Json, AllocError>
-    ensures { IfOk result (λ json. json ≡ organization_dictionary (seen_by asked.now).people name.now) }
+    ensures { IfOk result (λ json. json ≡ organization_dictionary (context_view context.now).people name.now) }
 {
-    let title = title_of_organization(asked, name);
+    let title = title_of_organization(context, name);
     Json::dictionary(
         alloc,
         [
@@ -74,8 +74,8 @@ fn tags_json(alloc: Global, tags: &[Text]) -> Result<Seq<Json>, AllocError>
     Ok(Seq::from(list))
 }
 
-/// The dictionary of a resource at its position in the dataset of that id.
-pub fn resource_json<'a, H: Held>(
+/// The dictionary of a resource at its position in the dataset with that id, from 0.
+pub fn resource_json<'a, H: TableLookup>(
     alloc: Global,
     tables: &H,
     dataset: &'a Text,
@@ -83,7 +83,7 @@ pub fn resource_json<'a, H: Held>(
     resource: &'a Resource,
 ) -> Result<Json, AllocError>
     ensures { IfOk result (λ json.
-        json ≡ resource_dictionary (H.held tables.now) dataset.now position resource.now) }
+        json ≡ resource_dictionary (H.summaries tables.now) dataset.now position resource.now) }
 {
     let id = resource_address(alloc, dataset, resource.number)?;
     Json::dictionary(
@@ -105,13 +105,13 @@ pub fn resource_json<'a, H: Held>(
     )
 }
 
-fn resources_json<H: Held>(
+fn resources_json<H: TableLookup>(
     alloc: Global,
     tables: &H,
     dataset: &Text,
     resources: &[Resource],
 ) -> Result<Seq<Json>, AllocError>
-    ensures { IfOk result (λ list. list ≡ resource_dictionaries (H.held tables.now) dataset.now 0 resources.now) }
+    ensures { IfOk result (λ list. list ≡ resource_dictionaries (H.summaries tables.now) dataset.now 0 resources.now) }
 {
     let mut list = Vec::with_capacity(alloc, resources.len())?;
     for (position, resource) in resources.iter().enumerate() {
@@ -120,17 +120,17 @@ fn resources_json<H: Held>(
     Ok(Seq::from(list))
 }
 
-/// The dictionary of a dataset. Its keys are those of CKAN 2.10's package dictionary that the portal keeps.
-pub fn package_json<H: Held>(
+/// The dictionary of a dataset. Its keys are those of CKAN 2.10's package dictionary that the portal has.
+pub fn package_json<H: TableLookup>(
     alloc: Global,
-    asked: &Asked<'_>,
+    context: &CallContext<'_>,
     tables: &H,
     dataset: &Package,
 ) -> Result<Json, AllocError>
     ensures { IfOk result (λ json.
-        json ≡ package_dictionary (seen_by asked.now).people (H.held tables.now) dataset.now) }
+        json ≡ package_dictionary (context_view context.now).people (H.summaries tables.now) dataset.now) }
 {
-    let organization = organization_json(alloc, asked, &dataset.owner_org)?;
+    let organization = organization_json(alloc, context, &dataset.owner_org)?;
     let resources = resources_json(alloc, tables, &dataset.id, dataset.resources.as_slice())?;
     let tags = tags_json(alloc, dataset.tags.as_slice())?;
     Json::dictionary(

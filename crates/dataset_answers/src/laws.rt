@@ -1,8 +1,8 @@
-//! Laws of the answers: functions with an empty body, whose contracts are the laws.
+//! Laws of the answers. Each function has an empty body, and its contract is the law.
 ghost use Rattle.std.specs.Prelude.{List};
 ghost use Rattle.portal_calls.specs.Answer.{AcceptsOnly, AcceptsNothing};
-ghost use Rattle.visibility.specs.Held.{Holding};
-ghost use Rattle.visibility.specs.Seen.{Seen};
+ghost use Rattle.visibility.specs.TableSummary.{TableSummary};
+ghost use Rattle.visibility.specs.CallView.{CallView};
 ghost use Rattle.dataset_answers.specs.Answers.{answer_to_package_create, answer_to_package_update};
 ghost use Rattle.dataset_answers.specs.Answers.{answer_to_package_patch, answer_to_package_delete};
 ghost use Rattle.dataset_answers.specs.Answers.{answer_to_dataset_purge, answer_to_package_show};
@@ -11,36 +11,36 @@ ghost use Rattle.dataset_answers.specs.Answers.{answer_to_resource_update, answe
 ghost use Rattle.dataset_answers.specs.Answers.{answer_to_resource_show};
 ghost use Rattle.dataset_answers.specs.Fit.{IsFitDataset};
 
-/// What the answers accept is fit to be made: a new dataset may stand among the people, and one that is replaced or
-/// removed is seen, and no table that stays refers to one that goes.
+/// The changes that the answers accept can be made. A new dataset is sound. A dataset that is replaced or removed is in
+/// the caller's view. No table that stays refers to a table that a replacement removes.
 pub fn what_is_accepted_is_fit()
-    ensures package_create { (seen : Seen) (held : List Holding) →
-        AcceptsOnly (IsFitDataset seen held) (answer_to_package_create seen) }
-    ensures package_update { (seen : Seen) (held : List Holding) →
-        AcceptsOnly (IsFitDataset seen held) (answer_to_package_update seen held) }
-    ensures package_patch { (seen : Seen) (held : List Holding) →
-        AcceptsOnly (IsFitDataset seen held) (answer_to_package_patch seen held) }
-    ensures package_delete { (seen : Seen) (held : List Holding) →
-        AcceptsOnly (IsFitDataset seen held) (answer_to_package_delete seen) }
-    ensures dataset_purge { (seen : Seen) (held : List Holding) →
-        AcceptsOnly (IsFitDataset seen held) (answer_to_dataset_purge seen) }
-    ensures package_show { (seen : Seen) (held : List Holding) →
-        AcceptsOnly (IsFitDataset seen held) (answer_to_package_show seen held) }
-    ensures package_list { (seen : Seen) (held : List Holding) →
-        AcceptsOnly (IsFitDataset seen held) (answer_to_package_list seen) }
-    ensures resource_create { (seen : Seen) (held : List Holding) →
-        AcceptsOnly (IsFitDataset seen held) (answer_to_resource_create seen held) }
-    ensures resource_update { (seen : Seen) (held : List Holding) →
-        AcceptsOnly (IsFitDataset seen held) (answer_to_resource_update seen held) }
-    ensures resource_delete { (seen : Seen) (held : List Holding) →
-        AcceptsOnly (IsFitDataset seen held) (answer_to_resource_delete seen held) }
-    ensures resource_show { (seen : Seen) (held : List Holding) →
-        AcceptsOnly (IsFitDataset seen held) (answer_to_resource_show seen held) }
+    ensures package_create { (view : CallView) (summaries : List TableSummary) →
+        AcceptsOnly (IsFitDataset view summaries) (answer_to_package_create view) }
+    ensures package_update { (view : CallView) (summaries : List TableSummary) →
+        AcceptsOnly (IsFitDataset view summaries) (answer_to_package_update view summaries) }
+    ensures package_patch { (view : CallView) (summaries : List TableSummary) →
+        AcceptsOnly (IsFitDataset view summaries) (answer_to_package_patch view summaries) }
+    ensures package_delete { (view : CallView) (summaries : List TableSummary) →
+        AcceptsOnly (IsFitDataset view summaries) (answer_to_package_delete view) }
+    ensures dataset_purge { (view : CallView) (summaries : List TableSummary) →
+        AcceptsOnly (IsFitDataset view summaries) (answer_to_dataset_purge view) }
+    ensures package_show { (view : CallView) (summaries : List TableSummary) →
+        AcceptsOnly (IsFitDataset view summaries) (answer_to_package_show view summaries) }
+    ensures package_list { (view : CallView) (summaries : List TableSummary) →
+        AcceptsOnly (IsFitDataset view summaries) (answer_to_package_list view) }
+    ensures resource_create { (view : CallView) (summaries : List TableSummary) →
+        AcceptsOnly (IsFitDataset view summaries) (answer_to_resource_create view summaries) }
+    ensures resource_update { (view : CallView) (summaries : List TableSummary) →
+        AcceptsOnly (IsFitDataset view summaries) (answer_to_resource_update view summaries) }
+    ensures resource_delete { (view : CallView) (summaries : List TableSummary) →
+        AcceptsOnly (IsFitDataset view summaries) (answer_to_resource_delete view summaries) }
+    ensures resource_show { (view : CallView) (summaries : List TableSummary) →
+        AcceptsOnly (IsFitDataset view summaries) (answer_to_resource_show view summaries) }
 {}
 
-/// And what reads accepts nothing.
+/// The answers to reads accept no change.
 pub fn a_reading_accepts_nothing()
-    ensures package_show { (seen : Seen) (held : List Holding) → AcceptsNothing (answer_to_package_show seen held) }
-    ensures package_list { (seen : Seen) → AcceptsNothing (answer_to_package_list seen) }
-    ensures resource_show { (seen : Seen) (held : List Holding) → AcceptsNothing (answer_to_resource_show seen held) }
+    ensures package_show { (view : CallView) (summaries : List TableSummary) → AcceptsNothing (answer_to_package_show view summaries) }
+    ensures package_list { (view : CallView) → AcceptsNothing (answer_to_package_list view) }
+    ensures resource_show { (view : CallView) (summaries : List TableSummary) → AcceptsNothing (answer_to_resource_show view summaries) }
 {}

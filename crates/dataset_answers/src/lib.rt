@@ -1,10 +1,10 @@
-//! What calls on datasets and resources are answered.
+//! The answers to calls on datasets and resources.
 #![tactic(auto)]
 
 pub mod answers;
+mod bodies;
 pub mod change;
 mod dictionary;
 pub mod laws;
 mod lists;
 mod lookup;
-mod told;

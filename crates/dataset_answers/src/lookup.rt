@@ -1,49 +1,50 @@
-//! The datasets and resources that calls name, among what their callers see.
+//! The datasets and resources that calls name, in their callers' views.
 ghost use Rattle.std.specs.Prelude.{◌≡◌, ◌<◌, IfOk, length};
 ghost use Rattle.std.specs.Result.{result_map_both};
-ghost use Rattle.visibility.specs.Seen.{seen_by};
-ghost use Rattle.packages.specs.Placing.{placed_now};
-ghost use Rattle.dataset_answers.specs.Lookup.{dataset_at, own_dataset_at, naming_key, resource_at, own_resource_at};
+ghost use Rattle.visibility.specs.CallView.{context_view};
+ghost use Rattle.packages.specs.LocatedResource.{located_now};
+ghost use Rattle.dataset_answers.specs.Lookup.{dataset_at, editable_dataset_at, naming_key};
+ghost use Rattle.dataset_answers.specs.Lookup.{resource_at, editable_resource_at};
 ghost use Rattle.dataset_answers.specs.Answers.{purgeable_dataset};
 
-use packages::named::PlacedResource;
+use packages::named::LocatedResource;
 use packages::package::Package;
 use portal_base::json_value::Json;
 use portal_base::kinds::present;
-use portal_calls::answer::{Denial, Kind, Right, at_once, named_by};
+use portal_calls::answer::{Denial, Kind, Right, key_denial, required_text};
 use std::alloc::{AllocError, Global};
-use visibility::asked::Asked;
-use visibility::sight::is_harvested;
+use visibility::context::CallContext;
+use visibility::permissions::is_harvested;
 
-/// The dataset that a key of the body names, or why there is none.
+/// The dataset that a key of the body names, or why the call is refused.
 pub fn dataset_at<'a>(
     alloc: Global,
-    asked: &Asked<'a>,
+    context: &CallContext<'a>,
     key: &'static str,
 ) -> Result<Result<&'a Package, Denial>, AllocError>
     ensures { IfOk result (λ found. result_map_both (λ dataset. dataset.now) (λ denial. denial) found
-        ≡ dataset_at key.now (seen_by asked.now)) }
+        ≡ dataset_at key.now (context_view context.now)) }
 {
-    match named_by(&asked.call.request.body, key) {
-        Ok(name) => match asked.dataset(name.as_str()) {
+    match required_text(&context.call.request.body, key) {
+        Ok(name) => match context.dataset(name.as_str()) {
             Some(dataset) => Ok(Ok(dataset)),
             None => Ok(Err(Denial::NotFound(Kind::Dataset))),
         },
-        Err(fault) => Ok(Err(at_once(alloc, key, fault)?)),
+        Err(fault) => Ok(Err(key_denial(alloc, key, fault)?)),
     }
 }
 
-/// The dataset that a key of the body names, for who may edit it, or why there is none.
-pub fn own_dataset_at<'a>(
+/// The dataset that a key of the body names and the caller may edit, or why the call is refused.
+pub fn editable_dataset_at<'a>(
     alloc: Global,
-    asked: &Asked<'a>,
+    context: &CallContext<'a>,
     key: &'static str,
 ) -> Result<Result<&'a Package, Denial>, AllocError>
     ensures { IfOk result (λ found. result_map_both (λ dataset. dataset.now) (λ denial. denial) found
-        ≡ own_dataset_at key.now (seen_by asked.now)) }
+        ≡ editable_dataset_at key.now (context_view context.now)) }
 {
-    match dataset_at(alloc, asked, key)? {
-        Ok(dataset) => if asked.may_edit(dataset) {
+    match dataset_at(alloc, context, key)? {
+        Ok(dataset) => if context.may_edit(dataset) {
             Ok(Ok(dataset))
         } else {
             Ok(Err(Denial::NotAuthorized(Right::EditDataset)))
@@ -52,16 +53,16 @@ pub fn own_dataset_at<'a>(
     }
 }
 
-/// The dataset that the key `id` names, for who may purge it, or why there is none.
+/// The dataset that the key `id` names and the caller may purge, or why the call is refused.
 pub fn purgeable_dataset<'a>(
     alloc: Global,
-    asked: &Asked<'a>,
+    context: &CallContext<'a>,
 ) -> Result<Result<&'a Package, Denial>, AllocError>
     ensures { IfOk result (λ found. result_map_both (λ dataset. dataset.now) (λ denial. denial) found
-        ≡ purgeable_dataset (seen_by asked.now)) }
+        ≡ purgeable_dataset (context_view context.now)) }
 {
-    match dataset_at(alloc, asked, "id")? {
-        Ok(dataset) => if asked.is_sysadmin() && !is_harvested(dataset) {
+    match dataset_at(alloc, context, "id")? {
+        Ok(dataset) => if context.is_sysadmin() && !is_harvested(dataset) {
             Ok(Ok(dataset))
         } else {
             Ok(Err(Denial::NotAuthorized(Right::PurgeDataset)))
@@ -70,7 +71,7 @@ pub fn purgeable_dataset<'a>(
     }
 }
 
-/// The key that names the dataset of an update.
+/// The key that names the dataset of an update: `name` if `id` is absent and `name` is present, and else `id`.
 pub fn naming_key(body: &Json) -> &'static str
     ensures { result.now ≡ naming_key body.now }
 {
@@ -81,38 +82,38 @@ pub fn naming_key(body: &Json) -> &'static str
     }
 }
 
-/// The resource that the key `id` names, or why there is none.
+/// The resource that the key `id` names, or why the call is refused.
 pub fn resource_at<'a>(
     alloc: Global,
-    asked: &Asked<'a>,
-) -> Result<Result<PlacedResource<'a>, Denial>, AllocError>
-    ensures found { IfOk result (λ found. result_map_both placed_now (λ denial. denial) found
-        ≡ resource_at (seen_by asked.now)) }
-    ensures within { IfOk result (λ found. IfOk found (λ placed.
-        placed.place < length placed.dataset.now.resources)) }
+    context: &CallContext<'a>,
+) -> Result<Result<LocatedResource<'a>, Denial>, AllocError>
+    ensures found { IfOk result (λ found. result_map_both located_now (λ denial. denial) found
+        ≡ resource_at (context_view context.now)) }
+    ensures within { IfOk result (λ found. IfOk found (λ located.
+        located.position < length located.dataset.now.resources)) }
 {
-    match named_by(&asked.call.request.body, "id") {
-        Ok(address) => match asked.resource(address.as_str()) {
-            Some(placed) => Ok(Ok(placed)),
+    match required_text(&context.call.request.body, "id") {
+        Ok(address) => match context.resource(address.as_str()) {
+            Some(located) => Ok(Ok(located)),
             None => Ok(Err(Denial::NotFound(Kind::Resource))),
         },
-        Err(fault) => Ok(Err(at_once(alloc, "id", fault)?)),
+        Err(fault) => Ok(Err(key_denial(alloc, "id", fault)?)),
     }
 }
 
-/// The resource that the key `id` names, for who may edit its dataset, or why there is none.
-pub fn own_resource_at<'a>(
+/// The resource that the key `id` names, if the caller may edit its dataset, or why the call is refused.
+pub fn editable_resource_at<'a>(
     alloc: Global,
-    asked: &Asked<'a>,
-) -> Result<Result<PlacedResource<'a>, Denial>, AllocError>
-    ensures found { IfOk result (λ found. result_map_both placed_now (λ denial. denial) found
-        ≡ own_resource_at (seen_by asked.now)) }
-    ensures within { IfOk result (λ found. IfOk found (λ placed.
-        placed.place < length placed.dataset.now.resources)) }
+    context: &CallContext<'a>,
+) -> Result<Result<LocatedResource<'a>, Denial>, AllocError>
+    ensures found { IfOk result (λ found. result_map_both located_now (λ denial. denial) found
+        ≡ editable_resource_at (context_view context.now)) }
+    ensures within { IfOk result (λ found. IfOk found (λ located.
+        located.position < length located.dataset.now.resources)) }
 {
-    match resource_at(alloc, asked)? {
-        Ok(placed) => if asked.may_edit(placed.dataset) {
-            Ok(Ok(placed))
+    match resource_at(alloc, context)? {
+        Ok(located) => if context.may_edit(located.dataset) {
+            Ok(Ok(located))
         } else {
             Ok(Err(Denial::NotAuthorized(Right::EditDataset)))
         },

@@ -1,14 +1,14 @@
--- What a body describes, and the answer to a call that makes a table.
+-- The tables that bodies describe, and the answer to a call that creates a table.
 use Rattle.std.proofs.Common.{◌≡◌, ℕ, List, [], ◌∷◌, Option, Some, None, Ok, Err, refl}
 use Rattle.std.proofs.Common.{sym, ap, ◌∙◌}
 use Rattle.std.specs.Prelude.{IfOk, Result, codes, unwrap_or}
 use Rattle.std.specs.Borrow.{Bor}
 use Rattle.std.specs.Result.{result_map_both}
-use Rattle.packages.specs.Named.{Placed}
-use Rattle.portal_base.specs.Faults.{Fault, noted_if, read_value}
+use Rattle.packages.specs.Named.{Located}
+use Rattle.portal_base.specs.KeyErrors.{KeyError, error_if, read_value}
 use Rattle.portal_base.specs.declared.json_value.Json.{Json}
 use Rattle.portal_base.specs.Kinds.{list_at, present, texts_at}
-use Rattle.portal_calls.specs.Answer.{ruled}
+use Rattle.portal_calls.specs.Answer.{answer_if_valid}
 use Rattle.portal_calls.specs.declared.answer.Answer.{Answer}
 use Rattle.portal_calls.specs.declared.answer.Quota.{Quota}
 use Rattle.table_schema.specs.Field.{SchemaValue}
@@ -16,120 +16,130 @@ use Rattle.table_schema.specs.Keys.{schema_reading}
 use Rattle.datastore_table.specs.Results.{◌>>>◌}
 use Rattle.datastore_table.proofs.ResultLemmas.{bound-ok}
 use Rattle.datastore_table.specs.declared.method.Method.TheVariants as method
-use Rattle.datastore_answers.specs.Answered.{address_of, answer_with}
-use Rattle.datastore_answers.specs.Answers.{broken, created, created_among, creating}
+use Rattle.datastore_answers.specs.TableAnswers.{address_of, map_answer}
+use Rattle.datastore_answers.specs.Answers.{validation_refusal, create_answer_for, authorized_create_answer}
+use Rattle.datastore_answers.specs.Answers.{accepted_create_or_fill}
 use Rattle.datastore_answers.specs.Changed.{TableChange}
-use Rattle.datastore_answers.specs.Described.{Given, described_in, described_new, names_or_none, schema_told, sound}
-use Rattle.datastore_answers.specs.Described.{table_told, told_of_there, unfilled}
-use Rattle.datastore_answers.specs.Meant.{all_meant}
+use Rattle.datastore_answers.specs.Described.{Given, described_table, described_new, names_or_none, schema_or_error}
+use Rattle.datastore_answers.specs.Described.{unless_errors}
+use Rattle.datastore_answers.specs.Described.{table_of_descriptor, existing_table_errors, empty_table}
+use Rattle.datastore_answers.specs.Resolution.{resolved_targets}
 use Rattle.datastore_answers.specs.Linked.{put_among}
 use Rattle.datastore_answers.specs.Plan.{change_of}
-use Rattle.datastore_answers.specs.Tables.{bare}
-use Rattle.datastore_answers.specs.Told.{Told, put_fault, told_in}
+use Rattle.datastore_answers.specs.Tables.{without_room}
+use Rattle.datastore_answers.specs.Errors.{OrError, put_error, error_of}
 use Rattle.datastore_answers.specs.declared.plan.TablePlan.{TablePlan}
 use Rattle.datastore_answers.specs.declared.resource_table.ResourceTable.{ResourceTable}
-use Rattle.datastore_answers.proofs.AnswerLemmas.{told-now}
+use Rattle.datastore_answers.proofs.AnswerLemmas.{error-now}
 
--- ---- what is sound
+-- ---- values without errors
 
-pub sound-ok : {A : Type 0} (faults : List Fault) (told : Told A) (x : A) → sound faults told ≡ Ok x → told ≡ Ok x
-sound-ok [] (Ok y) x is = let same : y ≡ x = cc in ap Ok same
-sound-ok [] (Err m) x is = absurd (cc)
-sound-ok (f ∷ fs) told x is = absurd (cc)
+pub unless_errors-ok : {A : Type 0} (errors : List KeyError) (read : OrError A) (x : A) → unless_errors errors read
+    ≡ Ok x → read ≡ Ok x
+unless_errors-ok [] (Ok y) x is = let same : y ≡ x = cc in ap Ok same
+unless_errors-ok [] (Err m) x is = absurd (cc)
+unless_errors-ok (f ∷ fs) read x is = absurd (cc)
 
--- what is told leaves nothing else
-pub sound-some : {A : Type 0} (faults : List Fault) (told : Told A) → (faults ≡ [] → ⊥)
-    → sound faults told ≡ Err faults
-sound-some [] told some = absurd (some refl)
-sound-some (f ∷ fs) told some = refl
+-- if there are errors, they are the result
+pub unless_errors-some : {A : Type 0} (errors : List KeyError) (read : OrError A) → (errors ≡ [] → ⊥)
+    → unless_errors errors read ≡ Err errors
+unless_errors-some [] read some = absurd (some refl)
+unless_errors-some (f ∷ fs) read some = refl
 
--- what was read of a key, where it is there
+-- the names that were read of a key, if it is present
 pub names-read : (given : Given (List (List ℕ)))
     → unwrap_or (unwrap_or (read_value given) None) [] ≡ names_or_none given
 names-read (Ok (Some names)) = refl
 names-read (Ok None) = refl
 names-read (Err why) = refl
 
--- What is described is the same by an equal description.
-pub described-same : {E : Type 0} (result : Result (Result ResourceTable (List Fault)) E)
-    (one other : Result ResourceTable (List Fault)) → one ≡ other
-    → IfOk result (λ d. result_map_both bare (λ (f : List Fault). f) d ≡ one)
-    → IfOk result (λ d. result_map_both bare (λ (f : List Fault). f) d ≡ other)
+-- Equal descriptions describe the same table.
+pub described-same : {E : Type 0} (result : Result (Result ResourceTable (List KeyError)) E)
+    (one other : Result ResourceTable (List KeyError)) → one ≡ other
+    → IfOk result (λ d. result_map_both without_room (λ (f : List KeyError). f) d ≡ one)
+    → IfOk result (λ d. result_map_both without_room (λ (f : List KeyError). f) d ≡ other)
 described-same (Err e) one other same is = tt
 described-same (Ok d) one other same is = is ∙ same
 
 -- ---- a new table
 
--- It is the resource's own, has no rows, and its foreign keys mean tables of the dataset.
-pub record IsUnfilled (placed : Placed) (beside : List ResourceTable) (t : ResourceTable) : Type 0 where
+-- The table belongs to the resource, has no rows, and its foreign keys reference tables of the dataset.
+pub record IsEmptyTable (placed : Located) (beside : List ResourceTable) (t : ResourceTable) : Type 0 where
   pub schema : SchemaValue
-  pub means : List ℕ
-  pub meant : all_meant placed beside schema ≡ Ok means
-  pub made : t ≡ unfilled (address_of placed) schema means
+  pub targets : List ℕ
+  pub resolved : resolved_targets placed beside schema ≡ Ok targets
+  pub made : t ≡ empty_table (address_of placed) schema targets
 
-told-unfilled : (placed : Placed) (beside : List ResourceTable) (descriptor : Json) (t : ResourceTable)
-    → table_told placed beside descriptor ≡ Ok t → IsUnfilled placed beside t
-told-unfilled placed beside descriptor t is =
-    let read = bound-ok (schema_told (schema_reading descriptor)) (λ (schema : SchemaValue).
-    (all_meant placed beside schema >>> λ means. Ok (unfilled (address_of placed) schema means))) t is in
-    let meant = bound-ok (all_meant placed beside read.0) (λ means. Ok (unfilled (address_of placed) read.0 means)) t
+descriptor-empty_table : (placed : Located) (beside : List ResourceTable) (descriptor : Json) (t : ResourceTable)
+    → table_of_descriptor placed beside descriptor ≡ Ok t → IsEmptyTable placed beside t
+descriptor-empty_table placed beside descriptor t is =
+    let read = bound-ok (schema_or_error (schema_reading descriptor)) (λ (schema : SchemaValue).
+    (resolved_targets placed beside schema >>> λ targets. Ok (empty_table (address_of placed) schema targets))) t is in
+    let resolved = bound-ok (resolved_targets placed beside read.0)
+    (λ targets. Ok (empty_table (address_of placed) read.0 targets)) t
     read.2 in
-    let same : unfilled (address_of placed) read.0 meant.0 ≡ t = cc in
-    record { schema = read.0; means = meant.0; meant = meant.1; made = sym same }
+    let same : empty_table (address_of placed) read.0 resolved.0 ≡ t = cc in
+    record { schema = read.0; targets = resolved.0; resolved = resolved.1; made = sym same }
 
-pub new-unfilled : (placed : Placed) (beside : List ResourceTable) (body : Json) (t : ResourceTable)
-    → described_in placed beside body None ≡ Ok t → IsUnfilled placed beside t
-new-unfilled placed beside body t is =
+pub new-empty_table : (placed : Located) (beside : List ResourceTable) (body : Json) (t : ResourceTable)
+    → described_table placed beside body None ≡ Ok t → IsEmptyTable placed beside t
+new-empty_table placed beside body t is =
     by (list_at (codes "fields") body) (texts_at (codes "primary_key") body) (present (codes "schema") body) is
   where
     by : (fields : Given (List Json)) (key : Given (List (List ℕ))) (descriptor : Option Json)
-        → described_new placed beside fields key descriptor ≡ Ok t → IsUnfilled placed beside t
+        → described_new placed beside fields key descriptor ≡ Ok t → IsEmptyTable placed beside t
     by (Ok None) key None same = absurd (cc)
     by (Ok None) key (Some descriptor) same =
-        told-unfilled placed beside descriptor t (sound-ok _ (table_told placed beside descriptor) t same)
-    by (Ok (Some items)) key descriptor same = told-unfilled placed beside _ t (sound-ok _ _ t same)
-    by (Err why) key descriptor same = absurd (cc (sound-ok _ _ t same))
+        descriptor-empty_table placed beside descriptor t
+        (unless_errors-ok _ (table_of_descriptor placed beside descriptor) t same)
+    by (Ok (Some items)) key descriptor same = descriptor-empty_table placed beside _ t (unless_errors-ok _ _ t same)
+    by (Err why) key descriptor same = absurd (cc (unless_errors-ok _ _ t same))
 
--- ---- what is answered
+-- ---- answers
 
--- Where no table was described that is told, with what is told of the records.
-pub undescribed-answer : {E : Type 0} (result : Result (Answer TablePlan) E) (quota : Quota)
+-- If the body describes no table, the answer has its errors, and the records' error.
+pub refuse_description-answer : {E : Type 0} (result : Result (Answer TablePlan) E) (quota : Quota)
     (beside : List ResourceTable) (make : List Json → ResourceTable → Answer TableChange)
-    (described : Result ResourceTable (List Fault)) (faults : List Fault) (recs : Result (Bor (List Json)) (List ℕ))
-    → described ≡ Err faults
-    → IfOk result (λ a. answer_with change_of a ≡ broken quota (noted_if (codes "records") (told_in recs) faults))
-    → IfOk result (λ a. answer_with change_of a ≡ created quota beside make described
+    (described : Result ResourceTable (List KeyError)) (errors : List KeyError) (recs : Result (Bor (List Json)) (List ℕ))
+    → described ≡ Err errors
+    → IfOk result (λ a. map_answer change_of a
+    ≡ validation_refusal quota (error_if (codes "records") (error_of recs) errors))
+    → IfOk result (λ a. map_answer change_of a ≡ create_answer_for quota beside make described
     (result_map_both (λ (r : Bor (List Json)). r.now) (λ (m : List ℕ). m) recs))
-undescribed-answer (Err e) quota beside make described faults recs is same = tt
-undescribed-answer (Ok a) quota beside make described faults recs is same =
+refuse_description-answer (Err e) quota beside make described errors recs is same = tt
+refuse_description-answer (Ok a) quota beside make described errors recs is same =
     same
-    ∙ ap (λ told. broken quota (noted_if (codes "records") told faults)) (told-now recs)
-    ∙ ap (λ d. created quota beside make d (result_map_both (λ (r : Bor (List Json)). r.now) (λ (m : List ℕ). m) recs))
+    ∙ ap (λ error. validation_refusal quota (error_if (codes "records") error errors)) (error-now recs)
+    ∙ ap (λ d. create_answer_for quota beside make d
+    (result_map_both (λ (r : Bor (List Json)). r.now) (λ (m : List ℕ). m) recs))
     (sym is)
 
--- Where one was and the records were read, the answer is the one that they get.
+-- If the body describes a table and the records can be read, the answer is that of putting the records into it.
 pub made-answer : {E : Type 0} (result : Result (Answer TablePlan) E) (quota : Quota)
     (beside other : List ResourceTable) (make : List Json → ResourceTable → Answer TableChange)
-    (described : Result ResourceTable (List Fault)) (t : ResourceTable) (records : List Json) (read : Told (List Json))
+    (described : Result ResourceTable (List KeyError)) (t : ResourceTable) (records : List Json)
+    (read : OrError (List Json))
     → described ≡ Ok t → read ≡ Ok records → other ≡ beside
-    → IfOk result (λ a. answer_with change_of a ≡ ruled quota (noted_if (codes "records")
-    (put_fault (put_among other method.Insert records t)) []) (make records t))
-    → IfOk result (λ a. answer_with change_of a ≡ created quota beside make described read)
+    → IfOk result (λ a. map_answer change_of a ≡ answer_if_valid quota (error_if (codes "records")
+    (put_error (put_among other method.Insert records t)) []) (make records t))
+    → IfOk result (λ a. map_answer change_of a ≡ create_answer_for quota beside make described read)
 made-answer (Err e) quota beside other make described t records read is was here same = tt
 made-answer (Ok a) quota beside other make described t records read is was here same =
     rw (is, was, ← here) same
 
--- What is told of a table that is there is answered, with what is told of the records.
-pub other-answer : {E : Type 0} (result : Result (Answer TablePlan) E) (quota : Quota) (placed : Placed)
+-- If the body has errors for an existing table, the answer has them, and the records' error.
+pub other-answer : {E : Type 0} (result : Result (Answer TablePlan) E) (quota : Quota) (placed : Located)
     (beside : List ResourceTable) (body : Json) (recs : Result (Bor (List Json)) (List ℕ))
-    (there : Option ResourceTable) (t : ResourceTable) (faults : List Fault) → Some t ≡ there
-    → faults ≡ told_of_there t.table.schema body → (faults ≡ [] → ⊥)
-    → IfOk result (λ a. answer_with change_of a ≡ broken quota (noted_if (codes "records") (told_in recs) faults))
-    → IfOk result (λ a. answer_with change_of a ≡ created_among quota placed beside body
+    (there : Option ResourceTable) (t : ResourceTable) (errors : List KeyError) → Some t ≡ there
+    → errors ≡ existing_table_errors t.table.schema body → (errors ≡ [] → ⊥)
+    → IfOk result (λ a. map_answer change_of a
+    ≡ validation_refusal quota (error_if (codes "records") (error_of recs) errors))
+    → IfOk result (λ a. map_answer change_of a ≡ authorized_create_answer quota placed beside body
     (result_map_both (λ (r : Bor (List Json)). r.now) (λ (m : List ℕ). m) recs) there)
-other-answer result quota placed beside body recs there t faults is told some same =
-    undescribed-answer result quota beside (creating placed there) (described_in placed beside body there) faults recs
-    (ap (described_in placed beside body) (sym is)
-    ∙ ap (λ fs. sound fs (Ok t)) (sym told)
-    ∙ sound-some faults (Ok t) some)
+other-answer result quota placed beside body recs there t errors is same_errors some same =
+    refuse_description-answer result quota beside (accepted_create_or_fill placed there)
+    (described_table placed beside body there) errors recs
+    (ap (described_table placed beside body) (sym is)
+    ∙ ap (λ fs. unless_errors fs (Ok t)) (sym same_errors)
+    ∙ unless_errors-some errors (Ok t) some)
     same

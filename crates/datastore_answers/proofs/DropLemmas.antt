@@ -1,4 +1,4 @@
--- Tables that go with their resources leave the references of those that stay.
+-- Tables that are removed with their resources break no reference of the tables that stay, if the removal is allowed.
 use Rattle.std.proofs.Common.{◌≡◌, ◌∙◌, ℕ, ◌==◌, Bool, true, false, not, ◌&&◌, ◌||◌, List, [], ◌∷◌, Some, None, cond}
 use Rattle.std.proofs.Common.{refl, sym, ap, subst}
 use Rattle.std.specs.Prelude.{option_and_then}
@@ -9,70 +9,71 @@ use Rattle.packages.proofs.FindLemmas.{IsIn-find, list_any-map}
 use Rattle.portal_base.specs.Ordered.{found}
 use Rattle.portal_base.proofs.Filtered.{found-filter, IsAscending-filter, IsIn-filter, kept_item}
 use Rattle.portal_base.proofs.Unique.{IsIn}
-use Rattle.visibility.specs.Held.{Holding, is_among, loses_referred, means_another}
+use Rattle.visibility.specs.TableSummary.{TableSummary, is_among, breaks_references, refers_outside}
 use Rattle.datastore_table.proofs.KeyLemmas.{true_false}
-use Rattle.datastore_answers.specs.Holdings.{holding_of, holdings_of}
-use Rattle.datastore_answers.specs.Kept.{AreKept}
+use Rattle.datastore_answers.specs.Summaries.{summary_of, summaries_of}
+use Rattle.datastore_answers.specs.Consistent.{AreConsistent}
 use Rattle.datastore_answers.specs.Order.{IsKey-at_address, at_address, is_at, table_cmp, table_cmp_total}
 use Rattle.datastore_answers.specs.Tables.{table_at, tables_in, tables_kept}
 use Rattle.datastore_answers.specs.declared.address.Address.{Address}
 use Rattle.datastore_answers.specs.declared.resource_table.ResourceTable.{ResourceTable}
-use Rattle.datastore_answers.proofs.HoldLemmas.{IsKept, address, beside-found, each-kept, kept-each}
+use Rattle.datastore_answers.proofs.ReferenceLemmas.{IsKept, address, beside-found, each-kept, kept-each}
 use Rattle.datastore_answers.proofs.KeepLemmas.{at-is, holds-among, none-passes, number_is}
 
 -- the table stays
 abbrev pub stays : List ℕ → List Resource → ResourceTable → Bool
 stays dataset resources t = not (bytes_eq t.address.dataset dataset) || is_among resources t.address.number
 
--- what none of the numbers passes is among them all
-meant-among : (resources : List Resource) (means : List ℕ) (number : ℕ) → means_another resources means ≡ false
-    → list_any (λ n. n == number) means ≡ true → is_among resources number ≡ true
-meant-among resources [] number none listed = absurd (cc)
-meant-among resources (n ∷ ns) number none listed =
-    by (is_among resources n) refl (n == number) refl none listed (meant-among resources ns number)
+-- if no number is outside of the resources, each number is among them
+resolved-among : (resources : List Resource) (targets : List ℕ) (number : ℕ) → refers_outside resources targets ≡ false
+    → list_any (λ n. n == number) targets ≡ true → is_among resources number ≡ true
+resolved-among resources [] number none listed = absurd (cc)
+resolved-among resources (n ∷ ns) number none listed =
+    by (is_among resources n) refl (n == number) refl none listed (resolved-among resources ns number)
   where
     by : (a : Bool) → is_among resources n ≡ a → (b : Bool) → (n == number) ≡ b
-        → (not a || means_another resources ns) ≡ false → (b || list_any (λ m. m == number) ns) ≡ true
-        → (means_another resources ns ≡ false → list_any (λ m. m == number) ns ≡ true
+        → (not a || refers_outside resources ns) ≡ false → (b || list_any (λ m. m == number) ns) ≡ true
+        → (refers_outside resources ns ≡ false → list_any (λ m. m == number) ns ≡ true
         → is_among resources number ≡ true) → is_among resources number ≡ true
     by true here true is h l rest = subst (λ m. is_among resources m ≡ true) (number_is n number is) here
     by true here false is h l rest = rest h l
     by false here b is h l rest = absurd (cc)
 
--- where no table that stays loses what it refers to, what it means stays
-unlost : (dataset : List ℕ) (resources : List Resource) (ts : List ResourceTable) (u : ResourceTable) → IsIn u ts
-    → loses_referred (holdings_of ts) dataset resources ≡ false → bytes_eq u.address.dataset dataset ≡ true
-    → stays dataset resources u ≡ true → means_another resources u.means ≡ false
-unlost dataset resources ts u within none own stay =
-    by (is_among resources u.address.number) refl (means_another resources u.means) refl
+-- if no table that stays references a removed resource, the targets of a table that stays are kept
+targets_kept : (dataset : List ℕ) (resources : List Resource) (ts : List ResourceTable) (u : ResourceTable) → IsIn u ts
+    → breaks_references (summaries_of ts) dataset resources ≡ false → bytes_eq u.address.dataset dataset ≡ true
+    → stays dataset resources u ≡ true → refers_outside resources u.targets ≡ false
+targets_kept dataset resources ts u within none own stay =
+    by (is_among resources u.address.number) refl (refers_outside resources u.targets) refl
   where
     tests : ResourceTable → Bool
     tests t = bytes_eq t.address.dataset dataset
-        && (is_among resources t.address.number && means_another resources t.means)
+        && (is_among resources t.address.number && refers_outside resources t.targets)
 
     fails : tests u ≡ false
-    fails = none-passes tests ts (sym (list_any-map holding_of (λ (h : Holding). bytes_eq h.dataset dataset
-        && (is_among resources h.number && means_another resources h.means)) ts) ∙ none) u within
+    fails = none-passes tests ts (sym (list_any-map summary_of (λ (h : TableSummary). bytes_eq h.dataset dataset
+        && (is_among resources h.number && refers_outside resources h.targets)) ts) ∙ none) u within
 
-    by : (a : Bool) → is_among resources u.address.number ≡ a → (b : Bool) → means_another resources u.means ≡ b
+    by : (a : Bool) → is_among resources u.address.number ≡ a → (b : Bool) → refers_outside resources u.targets ≡ b
         → b ≡ false
-    by a is false means = refl
-    by true is true means = let passes : tests u ≡ true = rw (own, is, means) refl in true_false (tests u) passes fails
-    by false is true means =
+    by a is false targets = refl
+    by true is true targets = let passes : tests u
+        ≡ true = rw (own, is, targets) refl in true_false (tests u) passes fails
+    by false is true targets =
         let goes : stays dataset resources u ≡ false = rw (own, is) refl in
         true_false (stays dataset resources u) stay goes
 
--- Where no table that stays refers to one that goes, the tables that stay are kept.
-pub drops-kept : (ts : List ResourceTable) (dataset : List ℕ) (resources : List Resource) → AreKept ts
-    → loses_referred (holdings_of ts) dataset resources ≡ false → AreKept (tables_kept dataset resources ts)
+-- If no table that stays references a removed resource, the tables that stay are consistent.
+pub drops-kept : (ts : List ResourceTable) (dataset : List ℕ) (resources : List Resource) → AreConsistent ts
+    → breaks_references (summaries_of ts) dataset resources ≡ false → AreConsistent (tables_kept dataset resources ts)
 drops-kept ts dataset resources kept none =
     each-kept (tables_kept dataset resources ts)
     (IsAscending-filter table_cmp (stays dataset resources) ts kept.ascending)
     (λ u m. by u (IsIn-filter (stays dataset resources) u ts m))
   where
-    -- a table of the same dataset that is meant stays
+    -- a referenced table of the same dataset stays
     target-stays : (u target : ResourceTable) (number : ℕ) → IsIn u ts → stays dataset resources u ≡ true
-        → list_any (λ n. n == number) u.means ≡ true → target.address ≡ address u.address.dataset number
+        → list_any (λ n. n == number) u.targets ≡ true → target.address ≡ address u.address.dataset number
         → stays dataset resources target ≡ true
     target-stays u target number within stay among there =
         subst (λ (a : Address). (not (bytes_eq a.dataset dataset) || is_among resources a.number) ≡ true) (sym there)
@@ -83,10 +84,10 @@ drops-kept ts dataset resources kept none =
         here false is = ap (λ b. not b || is_among resources number) is
         here true is =
             ap (λ b. not b || is_among resources number) is
-            ∙ meant-among resources u.means number (unlost dataset resources ts u within none is stay) among
+            ∙ resolved-among resources u.targets number (targets_kept dataset resources ts u within none is stay) among
 
     still : (u : ResourceTable) → IsIn u ts → stays dataset resources u ≡ true → (number : ℕ) (target : ResourceTable)
-        → list_any (λ n. n == number) u.means ≡ true → table_at number (tables_in u.address.dataset ts) ≡ Some target
+        → list_any (λ n. n == number) u.targets ≡ true → table_at number (tables_in u.address.dataset ts) ≡ Some target
         → table_at number (tables_in u.address.dataset (tables_kept dataset resources ts)) ≡ Some target
     still u within stay number target among there =
         let at = at_address (address u.address.dataset number) in
@@ -103,19 +104,20 @@ drops-kept ts dataset resources kept none =
         → IsKept (tables_kept dataset resources ts) u
     by u was =
         let before = kept-each ts kept u was.0 in record {
-          whole = before.whole;
-          meant = before.meant;
+          valid = before.valid;
+          resolved = before.resolved;
           holds = holds-among (tables_in u.address.dataset ts)
               (tables_in u.address.dataset (tables_kept dataset resources ts)) u
               (λ number target among there. still u was.0 was.1 number target among there) before.holds;
         }
 
--- where no resource stays none loses what it refers to
-pub none-loses : (ts : List ResourceTable) (dataset : List ℕ) → loses_referred (holdings_of ts) dataset [] ≡ false
-none-loses [] dataset = refl
-none-loses (t ∷ ts) dataset = by (bytes_eq t.address.dataset dataset) (none-loses ts dataset)
+-- if no resource is kept, no reference breaks
+pub none-breaks_reference : (ts : List ResourceTable) (dataset : List ℕ)
+    → breaks_references (summaries_of ts) dataset [] ≡ false
+none-breaks_reference [] dataset = refl
+none-breaks_reference (t ∷ ts) dataset = by (bytes_eq t.address.dataset dataset) (none-breaks_reference ts dataset)
   where
-    by : (b : Bool) → loses_referred (holdings_of ts) dataset [] ≡ false
-        → ((b && false) || loses_referred (holdings_of ts) dataset []) ≡ false
+    by : (b : Bool) → breaks_references (summaries_of ts) dataset [] ≡ false
+        → ((b && false) || breaks_references (summaries_of ts) dataset []) ≡ false
     by true rest = rest
     by false rest = rest

@@ -1,8 +1,8 @@
--- Worked examples: what is told of faults, of methods and of records; what a change makes of the table at an address;
--- what a body describes, and what foreign keys mean.
+-- Worked examples: the messages of faults, methods and records; the table at an address after a change; the tables
+-- that bodies describe, and the resources that foreign keys reference.
 use Rattle.std.proofs.Common.{◌≡◌, ℕ, true, false, List, [], ◌∷◌, ◌++◌, Some, None, Ok, Err, refl, rules}
 use Rattle.std.specs.Prelude.{codes, pos}
-use Rattle.packages.specs.Named.{Placed}
+use Rattle.packages.specs.Named.{Located}
 use Rattle.packages.specs.declared.package.Resource.{Resource}
 use Rattle.portal_base.specs.declared.json_value.Json.{Json, the_lemmas}
 use Rattle.portal_base.specs.declared.json_value.Json as json
@@ -17,13 +17,13 @@ use Rattle.table_schema.specs.declared.foreign.Foreign.{Foreign}
 use Rattle.table_schema.specs.declared.form.Form.TheVariants as form
 use Rattle.datastore_table.specs.declared.fault.TableFault.TheVariants as fault
 use Rattle.datastore_table.specs.declared.method.Method.TheVariants as method
-use Rattle.datastore_answers.specs.Answers.{created}
+use Rattle.datastore_answers.specs.Answers.{create_answer_for}
 use Rattle.datastore_answers.specs.Changed as change
 use Rattle.datastore_answers.specs.Changed.{TableChange, changed_tables}
-use Rattle.datastore_answers.specs.Described.{by_fields, described_new, field_meant, fields_told, is_field}
-use Rattle.datastore_answers.specs.Described.{told_of_same, type_meant}
-use Rattle.datastore_answers.specs.Meant.{fitting, link_text, table_named}
-use Rattle.datastore_answers.specs.Told.{fault_text, method_in, records_in, row_text}
+use Rattle.datastore_answers.specs.Described.{by_fields, described_new, descriptor_field, fields_error, is_field}
+use Rattle.datastore_answers.specs.Described.{same_table_errors, descriptor_type}
+use Rattle.datastore_answers.specs.Resolution.{fitting, link_text, table_named}
+use Rattle.datastore_answers.specs.Errors.{fault_text, read_method, read_records, row_text}
 use Rattle.datastore_answers.specs.Tables.{table_at, tables_in}
 use Rattle.datastore_answers.specs.declared.resource_table.ResourceTable.{ResourceTable}
 
@@ -37,49 +37,49 @@ key_taken = refl
 
 -- ---- methods
 
--- upsert where none is given
-upsert : method_in (0 ∷ []) (json.Map []) ≡ Ok method.Upsert
+-- upsert by default
+upsert : read_method (0 ∷ []) (json.Map []) ≡ Ok method.Upsert
 upsert = search (rules, the_lemmas)
 
-keyless : method_in [] (json.Map []) ≡ Err (codes "Table has no key")
+keyless : read_method [] (json.Map []) ≡ Err (codes "Table has no key")
 keyless = search (rules, the_lemmas)
 
-insert : method_in [] (json.Map ((codes "method", json.Text (codes "insert")) ∷ [])) ≡ Ok method.Insert
+insert : read_method [] (json.Map ((codes "method", json.Text (codes "insert")) ∷ [])) ≡ Ok method.Insert
 insert = search (rules, the_lemmas)
 
-unknown : method_in [] (json.Map ((codes "method", json.Text (codes "replace")) ∷ []))
+unknown : read_method [] (json.Map ((codes "method", json.Text (codes "replace")) ∷ []))
     ≡ Err (codes "Method must be upsert, insert or update")
 unknown = search (rules, the_lemmas)
 
 -- ---- records
 
 -- null counts as absent
-none : records_in (json.Map ((codes "records", json.Null) ∷ [])) ≡ Ok []
+none : read_records (json.Map ((codes "records", json.Null) ∷ [])) ≡ Ok []
 none = search (rules, the_lemmas)
 
-second : records_in (json.Map ((codes "records", json.List (json.Map [] ∷ json.Text (codes "a") ∷ [])) ∷ []))
+second : read_records (json.Map ((codes "records", json.List (json.Map [] ∷ json.Text (codes "a") ∷ [])) ∷ []))
     ≡ Err (row_text 2 ++ codes ": not a dictionary")
 second = search (rules, the_lemmas)
 
 -- ---- columns
 
-float : type_meant (codes "float") ≡ codes "number"
+float : descriptor_type (codes "float") ≡ codes "number"
 float = refl
 
 -- the types of columns aren't those of descriptors
-string : type_meant (codes "string") ≡ []
+string : descriptor_type (codes "string") ≡ []
 string = refl
 
--- a column without a type is of texts
-untyped : field_meant (json.Map ((codes "id", json.Text (codes "k")) ∷ []))
+-- a column without a type holds texts
+untyped : descriptor_field (json.Map ((codes "id", json.Text (codes "k")) ∷ []))
     ≡ json.Map ((codes "name", json.Text (codes "k")) ∷ (codes "type", json.Text (codes "string")) ∷ [])
 untyped = search (rules, the_lemmas)
 
-nameless : field_meant (json.Map ((codes "id", json.Whole (pos 5)) ∷ (codes "type", json.Text (codes "int")) ∷ []))
+nameless : descriptor_field (json.Map ((codes "id", json.Whole (pos 5)) ∷ (codes "type", json.Text (codes "int")) ∷ []))
     ≡ json.Map ((codes "name", json.Null) ∷ (codes "type", json.Text (codes "integer")) ∷ [])
 nameless = search (rules, the_lemmas)
 
-no_column : field_meant (json.Text (codes "k")) ≡ json.Null
+no_column : descriptor_field (json.Text (codes "k")) ≡ json.Null
 no_column = search (rules, the_lemmas)
 
 -- ---- descriptions
@@ -96,28 +96,28 @@ number_field = record {
 abbrev unkeyed : SchemaValue
 unkeyed = record { fields = number_field ∷ []; key = []; foreign = []; missing = [] }
 
--- Neither fields nor a schema. Beside neither, a key is ignored.
-neither : (placed : Placed) (beside : List ResourceTable)
+-- Neither fields nor a schema are given. A key alone is ignored.
+neither : (placed : Located) (beside : List ResourceTable)
     → described_new placed beside (Ok None) (Err NotTexts) None ≡ Err ((codes "fields", codes "Missing value") ∷ [])
 neither placed beside = refl
 
--- Every faulty key is told.
+-- Each faulty key has its error.
 all_told : by_fields (Err NotTexts) (Some json.Null) (Err (codes "no fields"))
     ≡ Err ((codes "fields", codes "no fields") ∷ (codes "primary_key", codes "Must be a list of texts")
     ∷ (codes "schema", codes "Give fields or schema, not both") ∷ [])
 all_told = refl
 
--- a list is wanted before anything else of `fields`
-no_list : (schema : SchemaValue) → fields_told schema (Err NotList) (Ok (Some [])) ≡ Some (codes "Must be a list")
+-- that `fields` isn't a list is reported before anything else of it
+no_list : (schema : SchemaValue) → fields_error schema (Err NotList) (Ok (Some [])) ≡ Some (codes "Must be a list")
 no_list schema = refl
 
--- a key that differs is told on `fields`, also where these are absent
-other_key : told_of_same unkeyed (Ok None) (Ok (Some (codes "k" ∷ []))) None
+-- a key that differs is reported under `fields`, also if these are absent
+other_key : same_table_errors unkeyed (Ok None) (Ok (Some (codes "k" ∷ []))) None
     ≡ (codes "fields", codes "Table exists with other fields") ∷ []
 other_key = refl
 
 -- `[]` fits a table without a key
-no_key : told_of_same unkeyed (Ok None) (Ok (Some [])) None ≡ []
+no_key : same_table_errors unkeyed (Ok None) (Ok (Some [])) None ≡ []
 no_key = refl
 
 -- `float` fits a column of numbers
@@ -125,25 +125,26 @@ float_fits : is_field number_field (json.Map ((codes "id", json.Text (codes "v")
     ∷ (codes "type", json.Text (codes "float")) ∷ [])) ≡ true
 float_fits = search (rules, the_lemmas)
 
--- and the name of a descriptor's type doesn't
+-- and the name of a descriptor's type isn't a column's type
 number_differs : is_field number_field (json.Map ((codes "id", json.Text (codes "v"))
     ∷ (codes "type", json.Text (codes "number")) ∷ [])) ≡ false
 number_differs = search (rules, the_lemmas)
 
--- Where the table is described only faulty records are told, and else they are told beside the rest.
+-- If the body describes a table, only faulty records are reported. Otherwise they are reported with the other errors.
 beside_the_rest : (beside : List ResourceTable) (make : List Json → ResourceTable → Answer TableChange)
-    → created quota.UsedUp beside make (Err ((codes "fields", codes "no fields") ∷ [])) (Err (codes "Must be a list"))
+    → create_answer_for quota.UsedUp beside make (Err ((codes "fields", codes "no fields") ∷ []))
+    (Err (codes "Must be a list"))
     ≡ Refused (Validation ((codes "body", codes "Quota of accepted bytes is used up")
     ∷ (codes "fields", codes "no fields") ∷ (codes "records", codes "Must be a list") ∷ []))
 beside_the_rest beside make = refl
 
 -- ---- tables
 
--- a table without rows of the resource of this number, whose next `_id` is this
+-- a table without rows of the resource with this number, whose next `_id` is this
 abbrev empty : List ℕ → ℕ → ℕ → ResourceTable
 empty dataset number next_id = record {
   address = record { dataset = dataset; number = number };
-  means = [];
+  targets = [];
   table = record {
     schema = record { fields = []; key = []; foreign = []; missing = [] };
     rows = [];
@@ -161,12 +162,12 @@ beside_b = refl
 none_at : table_at 2 (tables_in (codes "b") two) ≡ None
 none_at = refl
 
--- a table comes at its place
+-- a new table is inserted in order
 between : changed_tables (change.Create (empty (codes "a") 2 1)) two
     ≡ empty (codes "a") 1 1 ∷ empty (codes "a") 2 1 ∷ empty (codes "b") 1 1 ∷ []
 between = refl
 
--- and goes at its address alone
+-- and only the table at the address is deleted
 gone : changed_tables (change.Remove (record { dataset = codes "b"; number = 1 })) two ≡ empty (codes "a") 1 1 ∷ []
 gone = refl
 
@@ -186,7 +187,7 @@ resource name number = record {
 abbrev to : List ℕ → List (List ℕ) → Foreign
 to resource target = record { fields = 0 ∷ []; resource = resource; target = target }
 
--- the first of the resources of that name that has a table
+-- the first of the resources with that name that has a table
 second_lamp : table_named (resource (codes "lamp") 1 ∷ resource (codes "lamp") 3 ∷ resource (codes "lamp") 2 ∷ [])
     (empty (codes "a") 2 1 ∷ empty (codes "a") 3 1 ∷ []) (codes "lamp") ≡ Some (empty (codes "a") 3 1)
 second_lamp = refl

@@ -11,10 +11,10 @@ use Rattle.std.proofs.lemmas.Bool.Decides.{nat_tests}
 use Rattle.std.proofs.lemmas.Slice.Eq.{bytes_eq-Decides}
 use Rattle.std.proofs.lemmas.Option.{same_Some}
 use Rattle.packages.proofs.FindLemmas.{IsIn-find, map-IsIn}
-use Rattle.portal_base.specs.Ordered.{IsAscending, IsBelowAll, dropped, found, placed}
+use Rattle.portal_base.specs.Ordered.{IsAscending, IsBelowAll, dropped, found, upserted}
 use Rattle.portal_base.proofs.Filtered.{filter-IsIn}
-use Rattle.portal_base.proofs.Placed.{IsAscending-dropped, IsAscending-placed, IsIn-dropped, IsIn-placed}
-use Rattle.portal_base.proofs.Placed.{found-dropped_other, found-placed_other}
+use Rattle.portal_base.proofs.Upserted.{IsAscending-dropped, IsAscending-upserted, IsIn-dropped, IsIn-upserted}
+use Rattle.portal_base.proofs.Upserted.{found-dropped_other, found-upserted_other}
 use Rattle.portal_base.proofs.Removed.{is_eq_true}
 use Rattle.portal_base.proofs.Unique.{IsIn, below_in}
 use Rattle.table_schema.specs.Field.{SchemaValue}
@@ -24,18 +24,18 @@ use Rattle.datastore_table.specs.References.{is_self}
 use Rattle.datastore_table.proofs.KeyLemmas.{true_false}
 use Rattle.datastore_table.proofs.RowLemmas.{both_hold}
 use Rattle.datastore_answers.specs.Changed.{with_table_at}
-use Rattle.datastore_answers.specs.Kept.{AreKept, is_fitted, own_meant}
-use Rattle.datastore_answers.specs.Meant.{refers_to_key}
+use Rattle.datastore_answers.specs.Consistent.{AreConsistent, is_fitted, own_resolved}
+use Rattle.datastore_answers.specs.Resolution.{refers_to_key}
 use Rattle.datastore_answers.specs.Order.{IsKey-at_address, address_cmp, at_address, is_at, table_cmp, table_cmp_total}
-use Rattle.datastore_answers.specs.Spared.{is_referred, refers_to}
+use Rattle.datastore_answers.specs.Restrict.{is_referenced, refers_to}
 use Rattle.datastore_answers.specs.Tables.{table_at, tables_in}
 use Rattle.datastore_answers.specs.declared.address.Address.{Address}
 use Rattle.datastore_answers.specs.declared.resource_table.ResourceTable.{ResourceTable}
-use Rattle.datastore_answers.proofs.HoldLemmas.{AllHeld, Holds, HoldsAt, IsKept, address, beside-found}
-use Rattle.datastore_answers.proofs.HoldLemmas.{each-kept, kept-each}
+use Rattle.datastore_answers.proofs.ReferenceLemmas.{AllHeld, Holds, HoldsAt, IsKept, address, beside-found}
+use Rattle.datastore_answers.proofs.ReferenceLemmas.{each-kept, kept-each}
 use Rattle.datastore_answers.proofs.TableLemmas.{is_at-parts}
 
--- ---- what can't be
+-- ---- contradictions
 
 pub there_gone : {A X : Type 0} (o : Option X) (x : X) → o ≡ Some x → o ≡ None → A
 there_gone o x is none = absurd (cc)
@@ -48,18 +48,13 @@ number_is a b h = grind (arith, nat_tests)
 pub number_itself : (n : ℕ) → (n == n) ≡ true
 number_itself n = grind (arith, nat_tests)
 
--- A table is at its own address alone.
+-- A table is at no address but its own.
 pub at-is : (key : Address) (t : ResourceTable) → is_at key t ≡ true → t.address ≡ key
 at-is key t is =
     let parts = both_hold (bytes_eq t.address.dataset key.dataset) (t.address.number == key.number)
     (sym (is_at-parts key t) ∙ is) in
     ap₂ address ((bytes_eq-Decides t.address.dataset key.dataset).0 parts.0)
     (number_is t.address.number key.number parts.1)
-
-pub at-itself : (t : ResourceTable) → is_at t.address t ≡ true
-at-itself t =
-    is_at-parts t.address t
-    ∙ rw ((bytes_eq-Decides t.address.dataset t.address.dataset).1 refl, number_itself t.address.number) refl
 
 pub none-passes : {X : Type 0} (p : X → Bool) (xs : List X) → list_any p xs ≡ false → (x : X) → IsIn x xs
     → p x ≡ false
@@ -72,20 +67,20 @@ none-passes {X} p (y ∷ ys) none x m = by (p y) refl none m (none-passes p ys)
     by false is h (inl same) rest = ap p same ∙ is
     by false is h (inr n) rest = rest h x n
 
--- ---- where the tables that are referred to are found still
+-- ---- referenced tables that are still found
 
--- What holds among some tables holds among others in which the same is found.
+-- What holds among some tables holds among others, if these have the same referenced tables.
 pub holds-among : (before after : List ResourceTable) (t : ResourceTable)
-    → ((number : ℕ) (target : ResourceTable) → list_any (λ n. n == number) t.means ≡ true
+    → ((number : ℕ) (target : ResourceTable) → list_any (λ n. n == number) t.targets ≡ true
     → table_at number before ≡ Some target → table_at number after ≡ Some target)
     → Holds before t → Holds after t
-holds-among before after t found_still holds = λ place foreign there self.
-    let h = holds place foreign there self in record {
+holds-among before after t found_still holds = λ index foreign there self.
+    let h = holds index foreign there self in record {
       number = h.number;
-      meant = h.meant;
+      resolved = h.resolved;
       other = h.other;
       target = h.target;
-      there = found_still h.number h.target (listed h.number t.means place h.meant) h.there;
+      there = found_still h.number h.target (listed h.number t.targets index h.resolved) h.there;
       fits = h.fits;
       held = h.held;
     }
@@ -94,30 +89,31 @@ holds-among before after t found_still holds = λ place foreign there self.
     or_true true = refl
     or_true false = refl
 
-    listed : (number : ℕ) (means : List ℕ) (place : ℕ) → slice_get means place ≡ Some number
-        → list_any (λ n. n == number) means ≡ true
-    listed number [] place is = absurd (cc)
+    listed : (number : ℕ) (targets : List ℕ) (index : ℕ) → slice_get targets index ≡ Some number
+        → list_any (λ n. n == number) targets ≡ true
+    listed number [] index is = absurd (cc)
     listed number (n ∷ ns) zero is =
         let same : n ≡ number = cc in
         ap (λ b. b || list_any (λ m. m == number) ns)
         (subst (λ m. (m == number) ≡ true) (sym same) (number_itself number))
-    listed number (n ∷ ns) (suc place) is =
-        ap (λ b. (n == number) || b) (listed number ns place is) ∙ or_true (n == number)
+    listed number (n ∷ ns) (suc index) is =
+        ap (λ b. (n == number) || b) (listed number ns index is) ∙ or_true (n == number)
 
--- ---- a table that comes
+-- ---- a table that is added
 
--- A new table, where none was, leaves what the others refer to.
-pub create-kept : (ts : List ResourceTable) (t : ResourceTable) → AreKept ts → found (at_address t.address) ts ≡ None
+-- A new table of a resource without one keeps the references of the other tables.
+pub create-kept : (ts : List ResourceTable) (t : ResourceTable) → AreConsistent ts → found (at_address t.address) ts
+    ≡ None
     → IsTable t.table.schema t.table.rows t.table.next_id
-    → own_meant t.address.number t.table.schema.foreign t.means ≡ true → Holds (tables_in t.address.dataset ts) t
-    → AreKept (placed table_cmp t ts)
-create-kept ts t kept none whole meant holds =
-    each-kept (placed table_cmp t ts) (IsAscending-placed table_cmp table_cmp_total t ts kept.ascending)
-    (λ u m. by u (IsIn-placed table_cmp t u ts m))
+    → own_resolved t.address.number t.table.schema.foreign t.targets ≡ true → Holds (tables_in t.address.dataset ts) t
+    → AreConsistent (upserted table_cmp t ts)
+create-kept ts t kept none valid resolved holds =
+    each-kept (upserted table_cmp t ts) (IsAscending-upserted table_cmp table_cmp_total t ts kept.ascending)
+    (λ u m. by u (IsIn-upserted table_cmp t u ts m))
   where
     still : (u : ResourceTable) (number : ℕ) (target : ResourceTable)
         → table_at number (tables_in u.address.dataset ts) ≡ Some target
-        → table_at number (tables_in u.address.dataset (placed table_cmp t ts)) ≡ Some target
+        → table_at number (tables_in u.address.dataset (upserted table_cmp t ts)) ≡ Some target
     still u number target there = apart (is_at key t) refl
       where
         key : Address
@@ -130,51 +126,51 @@ create-kept ts t kept none whole meant holds =
         alike here = ap (λ a. found (at_address a) ts) (sym (at-is key t here)) ∙ none
 
         apart : (b : Bool) → is_at key t ≡ b
-            → table_at number (tables_in u.address.dataset (placed table_cmp t ts)) ≡ Some target
+            → table_at number (tables_in u.address.dataset (upserted table_cmp t ts)) ≡ Some target
         apart false is =
-            beside-found u.address.dataset number (placed table_cmp t ts)
-            ∙ found-placed_other table_cmp table_cmp_total (at_address key) (IsKey-at_address key) t ts is
+            beside-found u.address.dataset number (upserted table_cmp t ts)
+            ∙ found-upserted_other table_cmp table_cmp_total (at_address key) (IsKey-at_address key) t ts is
             ∙ was
         apart true is = there_gone (found (at_address key) ts) target was (alike is)
 
     by : (u : ResourceTable) → (u ≡ t) ⊎ (IsIn u ts × (is_eq (table_cmp u t) ≡ false))
-        → IsKept (placed table_cmp t ts) u
-    by u (inl same) = subst (IsKept (placed table_cmp t ts)) (sym same) (record {
-      whole = whole;
-      meant = meant;
-      holds = holds-among (tables_in t.address.dataset ts) (tables_in t.address.dataset (placed table_cmp t ts)) t
+        → IsKept (upserted table_cmp t ts) u
+    by u (inl same) = subst (IsKept (upserted table_cmp t ts)) (sym same) (record {
+      valid = valid;
+      resolved = resolved;
+      holds = holds-among (tables_in t.address.dataset ts) (tables_in t.address.dataset (upserted table_cmp t ts)) t
           (λ number target among there. still t number target there) holds;
     })
     by u (inr was) =
         let before = kept-each ts kept u was.0 in record {
-          whole = before.whole;
-          meant = before.meant;
-          holds = holds-among (tables_in u.address.dataset ts) (tables_in u.address.dataset (placed table_cmp t ts)) u
+          valid = before.valid;
+          resolved = before.resolved;
+          holds = holds-among (tables_in u.address.dataset ts) (tables_in u.address.dataset (upserted table_cmp t ts)) u
               (λ number target among there. still u number target there) before.holds;
         }
 
--- ---- a table that goes
+-- ---- a table that is deleted
 
--- A table that none of another resource refers to leaves what the others refer to.
-pub remove-kept : (ts : List ResourceTable) (key : Address) → AreKept ts
-    → is_referred key.number (tables_in key.dataset ts) ≡ false → AreKept (dropped (at_address key) ts)
-remove-kept ts key kept spared =
+-- Deleting a table that no other references keeps the references of the others.
+pub remove-kept : (ts : List ResourceTable) (key : Address) → AreConsistent ts
+    → is_referenced key.number (tables_in key.dataset ts) ≡ false → AreConsistent (dropped (at_address key) ts)
+remove-kept ts key kept keeps_references =
     each-kept (dropped (at_address key) ts)
     (IsAscending-dropped table_cmp (at_address key) ts kept.ascending)
     (λ u m. by u (IsIn-dropped (at_address key) u ts m))
   where
-    -- What a table of another resource means isn't the one that goes.
+    -- The target of another resource's table isn't the deleted table.
     unmeant : (u : ResourceTable) → IsIn u ts → is_at key u ≡ false → (number : ℕ)
-        → list_any (λ n. n == number) u.means ≡ true → u.address.dataset ≡ key.dataset → number ≡ key.number → ⊥
+        → list_any (λ n. n == number) u.targets ≡ true → u.address.dataset ≡ key.dataset → number ≡ key.number → ⊥
     unmeant u m other number among dataset same =
         let beside : IsIn u (tables_in key.dataset ts) =
         filter-IsIn (λ v. bytes_eq v.address.dataset key.dataset) u ts m
         ((bytes_eq-Decides u.address.dataset key.dataset).1 dataset) in
         let none : refers_to key.number u ≡ false =
-        none-passes (refers_to key.number) (tables_in key.dataset ts) spared u beside in
+        none-passes (refers_to key.number) (tables_in key.dataset ts) keeps_references u beside in
         let apart : (u.address.number == key.number) ≡ false = away u other dataset in
-        let listed : list_any (λ n. n == key.number) u.means ≡ true =
-        subst (λ k. list_any (λ n. n == k) u.means ≡ true) same among in
+        let listed : list_any (λ n. n == key.number) u.targets ≡ true =
+        subst (λ k. list_any (λ n. n == k) u.targets ≡ true) same among in
         let refers : refers_to key.number u ≡ true = rw (apart, listed) refl in
         true_false (refers_to key.number u) refers none
       where
@@ -188,7 +184,7 @@ remove-kept ts key kept spared =
             sym is ∙ e
 
     still : (u : ResourceTable) → IsIn u ts → is_at key u ≡ false → (number : ℕ) (target : ResourceTable)
-        → list_any (λ n. n == number) u.means ≡ true → table_at number (tables_in u.address.dataset ts) ≡ Some target
+        → list_any (λ n. n == number) u.targets ≡ true → table_at number (tables_in u.address.dataset ts) ≡ Some target
         → table_at number (tables_in u.address.dataset (dropped (at_address key) ts)) ≡ Some target
     still u m other number target among there =
         beside-found u.address.dataset number (dropped (at_address key) ts)
@@ -212,25 +208,25 @@ remove-kept ts key kept spared =
     by : (u : ResourceTable) → IsIn u ts × (is_at key u ≡ false) → IsKept (dropped (at_address key) ts) u
     by u was =
         let before = kept-each ts kept u was.0 in record {
-          whole = before.whole;
-          meant = before.meant;
+          valid = before.valid;
+          resolved = before.resolved;
           holds = holds-among (tables_in u.address.dataset ts)
               (tables_in u.address.dataset (dropped (at_address key) ts)) u
               (λ number target among there. still u was.0 was.1 number target among there) before.holds;
         }
 
--- ---- a table of which something is made
+-- ---- a table that is changed
 
 abbrev pub made_at : Address → (ResourceTable → ResourceTable) → ResourceTable → ResourceTable
 made_at key make u = if is_at key u then make u else u
 
--- What is made of a table at an address, where it stays there with its schema and what its foreign keys mean.
+-- A change of the table at an address that keeps its address, its schema and its targets.
 pub record IsMade (make : ResourceTable → ResourceTable) (t : ResourceTable) : Type 0 where
   pub address : (make t).address ≡ t.address
-  pub means : (make t).means ≡ t.means
+  pub targets : (make t).targets ≡ t.targets
   pub schema : (make t).table.schema ≡ t.table.schema
 
--- What is found at its address of tables in order is the one that stands there.
+-- In ordered tables, the table found at the address of one of them is that one.
 pub found-in : (key : Address) (ts : List ResourceTable) (u : ResourceTable) → IsAscending table_cmp ts → IsIn u ts
     → is_at key u ≡ true → found (at_address key) ts ≡ Some u
 found-in key [] u up m is = absurd m
@@ -242,7 +238,7 @@ found-in key (t ∷ ts) u up (inr m) is =
     let less : table_cmp t u ≡ Less = below_in table_cmp t u ts up.0 m in
     ap (λ r. cond (is_eq r) (Some t) (found (at_address key) ts)) (before ∙ less) ∙ found-in key ts u up.1 m is
 
--- Tables in place of others at their addresses ascend as those do.
+-- If each table is replaced by one at its own address, the tables still ascend.
 ascending-made : (f : ResourceTable → ResourceTable) (ts : List ResourceTable)
     → ((u : ResourceTable) → IsIn u ts → (f u).address ≡ u.address) → IsAscending table_cmp ts
     → IsAscending table_cmp (map f ts)
@@ -273,20 +269,20 @@ found-made f key (t ∷ ts) same =
     by true rest = refl
     by false rest = rest
 
--- What is made of the table at an address keeps the references where it is a table, its own rows hold by its foreign
--- keys, and those of the others hold by theirs.
+-- A change of the table at an address keeps the tables consistent if it makes a valid table, the table's own
+-- references hold, and the references of the others to it hold.
 pub made-kept : (ts : List ResourceTable) (key : Address) (make : ResourceTable → ResourceTable) (t : ResourceTable)
-    → AreKept ts → found (at_address key) ts ≡ Some t → IsMade make t
+    → AreConsistent ts → found (at_address key) ts ≡ Some t → IsMade make t
     → IsTable (make t).table.schema (make t).table.rows (make t).table.next_id
-    → ((place : ℕ) (foreign : Foreign) → slice_get t.table.schema.foreign place ≡ Some foreign
-    → is_self foreign ≡ false → (h : HoldsAt (tables_in t.address.dataset ts) t place foreign)
+    → ((index : ℕ) (foreign : Foreign) → slice_get t.table.schema.foreign index ≡ Some foreign
+    → is_self foreign ≡ false → (h : HoldsAt (tables_in t.address.dataset ts) t index foreign)
     → AllHeld foreign h.target (make t).table.rows)
-    → ((u : ResourceTable) → IsIn u ts → (place : ℕ) (foreign : Foreign)
-    → slice_get u.table.schema.foreign place ≡ Some foreign → is_self foreign ≡ false
-    → (h : HoldsAt (tables_in u.address.dataset ts) u place foreign) → u.address.dataset ≡ t.address.dataset
+    → ((u : ResourceTable) → IsIn u ts → (index : ℕ) (foreign : Foreign)
+    → slice_get u.table.schema.foreign index ≡ Some foreign → is_self foreign ≡ false
+    → (h : HoldsAt (tables_in u.address.dataset ts) u index foreign) → u.address.dataset ≡ t.address.dataset
     → h.number ≡ t.address.number → AllHeld foreign t u.table.rows → AllHeld foreign (make t) u.table.rows)
-    → AreKept (with_table_at key make ts)
-made-kept ts key make t kept there made whole own others =
+    → AreConsistent (with_table_at key make ts)
+made-kept ts key make t kept there made valid own others =
     each-kept after (ascending-made f ts stays kept.ascending)
     (λ z m. let w = map-IsIn f z ts m in subst (IsKept after) (sym w.2) (image w.0 w.1 (is_at key w.0) refl))
   where
@@ -324,93 +320,93 @@ made-kept ts key make t kept there made whole own others =
         ∙ found-made f (address dataset number) ts stays
         ∙ ap (option_map f) (sym (beside-found dataset number ts) ∙ was)
 
-    -- the target that is found stands at its address
+    -- the target that is found is at its address
     target_in : (dataset : List ℕ) (number : ℕ) (target : ResourceTable)
         → table_at number (tables_in dataset ts) ≡ Some target
         → IsIn target ts × (target.address ≡ address dataset number)
     target_in dataset number target was =
         let at_key : found (at_address (address dataset number)) ts ≡ Some target =
         sym (beside-found dataset number ts) ∙ was in
-        let stood = IsIn-find (is_at (address dataset number)) target ts at_key in
-        (stood.0, at-is (address dataset number) target stood.1)
+        let found_there = IsIn-find (is_at (address dataset number)) target ts at_key in
+        (found_there.0, at-is (address dataset number) target found_there.1)
 
-    -- which is fitted as it was
-    fits_after : (u : ResourceTable) (place : ℕ) (foreign : Foreign)
-        → (h : HoldsAt (tables_in u.address.dataset ts) u place foreign)
+    -- the foreign key fits it as before
+    fits_after : (u : ResourceTable) (index : ℕ) (foreign : Foreign)
+        → (h : HoldsAt (tables_in u.address.dataset ts) u index foreign)
         → is_fitted u foreign (Some (f h.target)) ≡ true
-    fits_after u place foreign h =
+    fits_after u index foreign h =
         subst (λ (s : SchemaValue). refers_to_key u.table.schema.fields s.fields foreign.fields s.key foreign.target
         ≡ true)
         (sym (schema_stays h.target (target_in u.address.dataset h.number h.target h.there).0)) h.fits
 
-    other_held : (u : ResourceTable) → IsIn u ts → (place : ℕ) (foreign : Foreign)
-        → slice_get u.table.schema.foreign place ≡ Some foreign → is_self foreign ≡ false
-        → (h : HoldsAt (tables_in u.address.dataset ts) u place foreign) → (b : Bool) → is_at key h.target ≡ b
+    other_held : (u : ResourceTable) → IsIn u ts → (index : ℕ) (foreign : Foreign)
+        → slice_get u.table.schema.foreign index ≡ Some foreign → is_self foreign ≡ false
+        → (h : HoldsAt (tables_in u.address.dataset ts) u index foreign) → (b : Bool) → is_at key h.target ≡ b
         → AllHeld foreign (if b then make h.target else h.target) u.table.rows
-    other_held u m place foreign slot self h false is = h.held
-    other_held u m place foreign slot self h true is =
-        let stood = target_in u.address.dataset h.number h.target h.there in
-        let same : h.target ≡ t = one h.target stood.0 is in
+    other_held u m index foreign slot self h false is = h.held
+    other_held u m index foreign slot self h true is =
+        let found_there = target_in u.address.dataset h.number h.target h.there in
+        let same : h.target ≡ t = one h.target found_there.0 is in
         let key_same : address u.address.dataset h.number ≡ t.address =
-        sym stood.1 ∙ ap (λ (v : ResourceTable). v.address) same in
+        sym found_there.1 ∙ ap (λ (v : ResourceTable). v.address) same in
         subst (λ v. AllHeld foreign (make v) u.table.rows) (sym same)
-        (others u m place foreign slot self h (ap (λ (a : Address). a.dataset) key_same)
+        (others u m index foreign slot self h (ap (λ (a : Address). a.dataset) key_same)
         (ap (λ (a : Address). a.number) key_same)
         (subst (λ v. AllHeld foreign v u.table.rows) same h.held))
 
-    own_held : (place : ℕ) (foreign : Foreign) → slice_get t.table.schema.foreign place ≡ Some foreign
-        → is_self foreign ≡ false → (h : HoldsAt (tables_in t.address.dataset ts) t place foreign) → (b : Bool)
+    own_held : (index : ℕ) (foreign : Foreign) → slice_get t.table.schema.foreign index ≡ Some foreign
+        → is_self foreign ≡ false → (h : HoldsAt (tables_in t.address.dataset ts) t index foreign) → (b : Bool)
         → is_at key h.target ≡ b → AllHeld foreign (if b then make h.target else h.target) (make t).table.rows
-    own_held place foreign slot self h false is = own place foreign slot self h
-    own_held place foreign slot self h true is =
-        let stood = target_in t.address.dataset h.number h.target h.there in
-        let same : h.target ≡ t = one h.target stood.0 is in
+    own_held index foreign slot self h false is = own index foreign slot self h
+    own_held index foreign slot self h true is =
+        let found_there = target_in t.address.dataset h.number h.target h.there in
+        let same : h.target ≡ t = one h.target found_there.0 is in
         let key_same : address t.address.dataset h.number ≡ t.address =
-        sym stood.1 ∙ ap (λ (v : ResourceTable). v.address) same in
+        sym found_there.1 ∙ ap (λ (v : ResourceTable). v.address) same in
         let number : h.number ≡ t.address.number = ap (λ (a : Address). a.number) key_same in
         let same_number : (h.number == t.address.number) ≡ true =
         ap (λ n. n == t.address.number) number ∙ number_itself t.address.number in
         true_false (h.number == t.address.number) same_number h.other
 
-    own_meant_after : own_meant (make t).address.number (make t).table.schema.foreign (make t).means ≡ true
+    own_meant_after : own_resolved (make t).address.number (make t).table.schema.foreign (make t).targets ≡ true
     own_meant_after =
-        let before = (kept-each ts kept t (IsIn-find (is_at key) t ts there).0).meant in
-        ap (λ (a : Address). own_meant a.number (make t).table.schema.foreign (make t).means) made.address
-        ∙ ap (λ (s : SchemaValue). own_meant t.address.number s.foreign (make t).means) made.schema
-        ∙ ap (own_meant t.address.number t.table.schema.foreign) made.means
+        let before = (kept-each ts kept t (IsIn-find (is_at key) t ts there).0).resolved in
+        ap (λ (a : Address). own_resolved a.number (make t).table.schema.foreign (make t).targets) made.address
+        ∙ ap (λ (s : SchemaValue). own_resolved t.address.number s.foreign (make t).targets) made.schema
+        ∙ ap (own_resolved t.address.number t.table.schema.foreign) made.targets
         ∙ before
 
     image : (u : ResourceTable) → IsIn u ts → (b : Bool) → is_at key u ≡ b → IsKept after (if b then make u else u)
     image u m false is =
         let before = kept-each ts kept u m in record {
-          whole = before.whole;
-          meant = before.meant;
-          holds = λ place foreign slot self.
-              let h = before.holds place foreign slot self in record {
+          valid = before.valid;
+          resolved = before.resolved;
+          holds = λ index foreign slot self.
+              let h = before.holds index foreign slot self in record {
                 number = h.number;
-                meant = h.meant;
+                resolved = h.resolved;
                 other = h.other;
                 target = f h.target;
                 there = found_after u.address.dataset h.number h.target h.there;
-                fits = fits_after u place foreign h;
-                held = other_held u m place foreign slot self h (is_at key h.target) refl;
+                fits = fits_after u index foreign h;
+                held = other_held u m index foreign slot self h (is_at key h.target) refl;
               };
         }
     image u m true is = subst (λ v. IsKept after (make v)) (sym (one u m is)) (record {
-      whole = whole;
-      meant = own_meant_after;
-      holds = λ place foreign slot self.
-          let was : slice_get t.table.schema.foreign place ≡ Some foreign =
-          ap (λ (s : SchemaValue). slice_get s.foreign place) (sym made.schema) ∙ slot in
-          let h = (kept-each ts kept t (IsIn-find (is_at key) t ts there).0).holds place foreign was self in record {
+      valid = valid;
+      resolved = own_meant_after;
+      holds = λ index foreign slot self.
+          let was : slice_get t.table.schema.foreign index ≡ Some foreign =
+          ap (λ (s : SchemaValue). slice_get s.foreign index) (sym made.schema) ∙ slot in
+          let h = (kept-each ts kept t (IsIn-find (is_at key) t ts there).0).holds index foreign was self in record {
             number = h.number;
-            meant = ap (λ ms. slice_get ms place) made.means ∙ h.meant;
+            resolved = ap (λ ms. slice_get ms index) made.targets ∙ h.resolved;
             other = ap (λ (a : Address). h.number == a.number) made.address ∙ h.other;
             target = f h.target;
             there = ap (λ (a : Address). table_at h.number (tables_in a.dataset after)) made.address
                 ∙ found_after t.address.dataset h.number h.target h.there;
             fits = subst (λ (s : SchemaValue). refers_to_key s.fields (f h.target).table.schema.fields foreign.fields
-                (f h.target).table.schema.key foreign.target ≡ true) (sym made.schema) (fits_after t place foreign h);
-            held = own_held place foreign was self h (is_at key h.target) refl;
+                (f h.target).table.schema.key foreign.target ≡ true) (sym made.schema) (fits_after t index foreign h);
+            held = own_held index foreign was self h (is_at key h.target) refl;
           };
     })

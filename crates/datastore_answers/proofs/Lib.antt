@@ -6,15 +6,15 @@ pub mod DropLemmas
 mod Examples
 pub mod FilledLemmas
 pub mod FitLemmas
-pub mod HoldLemmas
-pub mod HoldingLemmas
+pub mod ReferenceLemmas
+pub mod SummaryLemmas
 pub mod KeepLemmas
-mod KeptExamples
+mod ConsistencyExamples
 pub mod LinkLemmas
-pub mod MeantLemmas
+pub mod LengthLemmas
 pub mod RangeLemmas
-pub mod RowsHeld
-pub mod SeenLemmas
-pub mod SpareLemmas
+pub mod RowReferences
+pub mod ViewLemmas
+pub mod RestrictLemmas
 pub mod TableLemmas
-pub mod ToldLemmas
+pub mod ErrorLemmas

@@ -1,4 +1,4 @@
--- Where the tables of one dataset stand, and what is left where those of some of its resources are dropped.
+-- The range of one dataset's tables, and the tables that are left if those of some of its resources are removed.
 use Rattle.std.proofs.Common.{◌≡◌, ◌∙◌, ◌<◌, ◌≤◌, ℕ, zero, suc, ◌+◌, Bool, true, false, not, ◌||◌, cond, List, []}
 use Rattle.std.proofs.Common.{◌∷◌, ◌++◌, ◌⊎◌, inl, inr, refl, sym, ap, subst, map, length, get_or, take, drop, arith}
 use Rattle.std.proofs.Common.{append_assoc, add-one}
@@ -17,19 +17,19 @@ use Rattle.std.proofs.lemmas.List.Elements.{Contains-get_or, filter-append}
 use Rattle.std.proofs.lemmas.List.Sums.{prefix_len_passes, prefix_len_stops}
 use Rattle.std.proofs.lemmas.Map.Text.{is_eq-slice_cmp}
 use Rattle.packages.specs.declared.package.Resource.{Resource}
-use Rattle.visibility.specs.Held.{is_among}
+use Rattle.visibility.specs.TableSummary.{is_among}
 use Rattle.portal_base.specs.Ordered.{IsAscending}
 use Rattle.portal_base.proofs.Filtered.{filter-all}
 use Rattle.portal_base.proofs.Unique.{Contains-IsIn, IsIn, IsIn-Contains, below_in}
 use Rattle.datastore_table.proofs.KeyLemmas.{true_false}
 use Rattle.datastore_answers.specs.Order.{table_cmp}
-use Rattle.datastore_answers.specs.Tables.{bare, tables_kept}
+use Rattle.datastore_answers.specs.Tables.{without_room, tables_kept}
 use Rattle.datastore_answers.specs.declared.resource_table.ResourceTable.{ResourceTable}
 use Rattle.datastore_answers.proofs.DropLemmas.{stays}
 
 -- ---- tables by their datasets alone
 
--- how the table's dataset stands to this one
+-- compares the table's dataset with this one
 abbrev pub to_dataset : List ℕ → ResourceTable → Ordering
 to_dataset dataset t = slice_cmp nat_cmp t.address.dataset dataset
 
@@ -38,7 +38,7 @@ le_of_then Less s h = refl
 le_of_then Equal s h = refl
 le_of_then Greater s h = absurd (cc)
 
--- What stands before a table is of the same dataset, or of one below all datasets that aren't below that table's.
+-- A table before another is of the same dataset, or of one below each dataset that is above that table's.
 nearer : (a b d : List ℕ) (e : Ordering) → slice_cmp nat_cmp a b ≡ e → is_le e ≡ true
     → (slice_cmp nat_cmp a d ≡ slice_cmp nat_cmp b d)
     ⊎ (is_le (slice_cmp nat_cmp b d) ≡ true → slice_cmp nat_cmp a d ≡ Less)
@@ -51,7 +51,8 @@ nearer a b d Less e h = inr (by (slice_cmp nat_cmp b d) refl)
 nearer a b d Equal e h = inl (nat_list_cmp_total.congr a b d e)
 nearer a b d Greater e h = absurd (cc)
 
--- A test that passes what is below a dataset, and at most what is of it besides, passes the tables at the front.
+-- A test that passes every table below a dataset, and otherwise at most the dataset's own, passes a prefix of the
+-- tables.
 pub partitioned : (p : Ordering → Bool) → p Less ≡ true → ((r : Ordering) → p r ≡ true → is_le r ≡ true)
     → (dataset : List ℕ) (ts : List ResourceTable) → IsAscending table_cmp ts
     → IsPartitionedBy (λ t. p (to_dataset dataset t)) ts
@@ -90,25 +91,25 @@ pub to_before : (dataset : List ℕ) (ts : List ResourceTable) → IsAscending t
     → IsPartitionedBy (λ t. is_le (to_dataset dataset t)) ts
 to_before = partitioned is_le refl (λ r h. h)
 
--- What fails the test first is followed by what fails it.
-fails_behind : (p : ResourceTable → Bool) (ts : List ResourceTable) → IsPartitionedBy p ts → (k : ℕ)
+-- After the first item that fails the test, each item fails it.
+fails_after : (p : ResourceTable → Bool) (ts : List ResourceTable) → IsPartitionedBy p ts → (k : ℕ)
     (d : ResourceTable) → prefix_len p ts ≤ k → k < length ts → p (get_or ts k d) ≡ false
-fails_behind p ts parted k d behind within = by (p (get_or ts k d)) refl
+fails_after p ts parted k d beyond within = by (p (get_or ts k d)) refl
   where
     first : p (get_or ts (prefix_len p ts) d) ≡ false
     first = prefix_len_stops p ts d (omega arith)
 
     by : (b : Bool) → p (get_or ts k d) ≡ b → b ≡ false
     by false is = refl
-    by true is = true_false (p (get_or ts (prefix_len p ts) d)) (parted (prefix_len p ts) k d behind within is) first
+    by true is = true_false (p (get_or ts (prefix_len p ts) d)) (parted (prefix_len p ts) k d beyond within is) first
 
 -- ---- the dataset's tables in order
 
-abbrev pub from_place : List ℕ → List ResourceTable → ℕ
-from_place dataset ts = prefix_len (λ t. is_lt (to_dataset dataset t)) ts
+abbrev pub from_index : List ℕ → List ResourceTable → ℕ
+from_index dataset ts = prefix_len (λ t. is_lt (to_dataset dataset t)) ts
 
-abbrev pub to_place : List ℕ → List ResourceTable → ℕ
-to_place dataset ts = prefix_len (λ t. is_le (to_dataset dataset t)) ts
+abbrev pub to_index : List ℕ → List ResourceTable → ℕ
+to_index dataset ts = prefix_len (λ t. is_le (to_dataset dataset t)) ts
 
 passes_longer : (p q : ResourceTable → Bool) → ((t : ResourceTable) → p t ≡ true → q t ≡ true)
     → (ts : List ResourceTable) → prefix_len p ts ≤ prefix_len q ts
@@ -121,7 +122,7 @@ passes_longer p q more (t ∷ ts) = by (p t) refl (q t) refl (passes_longer p q 
     by true is false isnt rest = true_false (q t) (more t is) isnt
     by false is b also rest = omega arith
 
-pub places_ordered : (dataset : List ℕ) (ts : List ResourceTable) → from_place dataset ts ≤ to_place dataset ts
+pub places_ordered : (dataset : List ℕ) (ts : List ResourceTable) → from_index dataset ts ≤ to_index dataset ts
 places_ordered dataset ts =
     passes_longer (λ t. is_lt (to_dataset dataset t)) (λ t. is_le (to_dataset dataset t))
     (λ t h. lt_le (to_dataset dataset t) h) ts
@@ -145,33 +146,33 @@ between_eq Less f h = absurd (cc)
 between_eq Equal f h = refl
 between_eq Greater f h = absurd (cc)
 
--- No table before them is the dataset's.
-other_before : (dataset : List ℕ) (ts : List ResourceTable) (k : ℕ) (d : ResourceTable) → k < from_place dataset ts
+-- No table before the range is the dataset's,
+other_before : (dataset : List ℕ) (ts : List ResourceTable) (k : ℕ) (d : ResourceTable) → k < from_index dataset ts
     → bytes_eq (get_or ts k d).address.dataset dataset ≡ false
 other_before dataset ts k d lt =
     own_is dataset (get_or ts k d) false
     (lt_apart (to_dataset dataset (get_or ts k d))
     (prefix_len_passes (λ t. is_lt (to_dataset dataset t)) ts k d lt))
 
--- no table behind them
-other_behind : (dataset : List ℕ) (ts : List ResourceTable) → IsAscending table_cmp ts → (k : ℕ) (d : ResourceTable)
-    → to_place dataset ts ≤ k → k < length ts → bytes_eq (get_or ts k d).address.dataset dataset ≡ false
-other_behind dataset ts up k d le lt =
+-- and none after it.
+other_after : (dataset : List ℕ) (ts : List ResourceTable) → IsAscending table_cmp ts → (k : ℕ) (d : ResourceTable)
+    → to_index dataset ts ≤ k → k < length ts → bytes_eq (get_or ts k d).address.dataset dataset ≡ false
+other_after dataset ts up k d le lt =
     own_is dataset (get_or ts k d) false
     (above_apart (to_dataset dataset (get_or ts k d))
-    (fails_behind (λ t. is_le (to_dataset dataset t)) ts (to_before dataset ts up) k d le lt))
+    (fails_after (λ t. is_le (to_dataset dataset t)) ts (to_before dataset ts up) k d le lt))
 
--- All others are.
+-- All tables in the range are.
 pub own_between : (dataset : List ℕ) (ts : List ResourceTable) → IsAscending table_cmp ts → (k : ℕ)
-    (d : ResourceTable) → from_place dataset ts ≤ k → k < to_place dataset ts → k < length ts
+    (d : ResourceTable) → from_index dataset ts ≤ k → k < to_index dataset ts → k < length ts
     → bytes_eq (get_or ts k d).address.dataset dataset ≡ true
 own_between dataset ts up k d le lt within =
     own_is dataset (get_or ts k d) true
     (between_eq (to_dataset dataset (get_or ts k d))
-    (fails_behind (λ t. is_lt (to_dataset dataset t)) ts (below_before dataset ts up) k d le within)
+    (fails_after (λ t. is_lt (to_dataset dataset t)) ts (below_before dataset ts up) k d le within)
     (prefix_len_passes (λ t. is_le (to_dataset dataset t)) ts k d lt))
 
--- ---- lists that are gone through from behind
+-- ---- lists that are walked backwards
 
 get_front : {X : Type 0} (ts rest : List X) (k : ℕ) (d : X) → k < length ts
     → get_or (take (suc k) ts ++ rest) k d ≡ get_or ts k d
@@ -189,16 +190,16 @@ drop_front [] rest k lt = absurd (omega (arith, lt))
 drop_front (t ∷ ts) rest zero lt = refl
 drop_front (t ∷ ts) rest (suc k) lt = drop_front ts rest k (omega (arith, lt))
 
--- the items from this place on that pass, behind all that stand before it
+-- all items before this index, and those after it that pass the test
 abbrev pub kept_from : {X : Type 0} → (X → Bool) → ℕ → List X → List X
 kept_from p k ts = take k ts ++ filter p (drop k ts)
 
--- The item in front of the place is the one that stood there.
+-- The item before the index is unchanged.
 pub item_before : {X : Type 0} (p : X → Bool) (ts : List X) (k : ℕ) (d : X) → k < length ts
     → get_or (kept_from p (k + 1) ts) k d ≡ get_or ts k d
 item_before p ts k d lt = rw add-one (get_front ts (filter p (drop (suc k) ts)) k d lt)
 
--- It stays where it passes.
+-- It stays if it passes the test.
 pub kept_before : {X : Type 0} (p : X → Bool) (ts : List X) (k : ℕ) (d : X) → k < length ts
     → p (get_or ts k d) ≡ true → kept_from p (k + 1) ts ≡ kept_from p k ts
 kept_before {X} p ts k d lt passes =
@@ -208,7 +209,7 @@ kept_before {X} p ts k d lt passes =
     (sym (ap (λ b. cond b (get_or ts k d ∷ filter p (drop (k + 1) ts)) (filter p (drop (k + 1) ts))) passes))
     ∙ ap (λ l. take k ts ++ filter p l) (sym (drop_more ts k d lt))
 
--- Where it fails it is taken out.
+-- It is removed if it fails the test.
 pub removed_before : {X : Type 0} (p : X → Bool) (ts : List X) (k : ℕ) (d : X) → k < length ts
     → p (get_or ts k d) ≡ false
     → take k (kept_from p (k + 1) ts) ++ drop (k + 1) (kept_from p (k + 1) ts) ≡ kept_from p k ts
@@ -223,7 +224,7 @@ removed_before {X} p ts k d lt fails = rw add-one (
     drop_more_suc : drop k ts ≡ get_or ts k d ∷ drop (suc k) ts
     drop_more_suc = rw add-one at (drop_more ts k d lt)
 
--- ---- what is kept
+-- ---- the tables that are kept
 
 IsIn-drop : {X : Type 0} (ts : List X) (n : ℕ) (x : X) → IsIn x (drop n ts)
     → (k : ℕ) × (n ≤ k) × (k < length ts) × (get_or ts k x ≡ x)
@@ -235,9 +236,9 @@ other_stays : (dataset : List ℕ) (resources : List Resource) (t : ResourceTabl
     → bytes_eq t.address.dataset dataset ≡ false → stays dataset resources t ≡ true
 other_stays dataset resources t other = rw other refl
 
--- Before anything is dropped, all tables behind the dataset's are kept.
+-- Before any removal, all tables after the range are kept.
 pub keep-begin : (dataset : List ℕ) (resources : List Resource) (ts : List ResourceTable) → IsAscending table_cmp ts
-    → ts ≡ kept_from (stays dataset resources) (to_place dataset ts) ts
+    → ts ≡ kept_from (stays dataset resources) (to_index dataset ts) ts
 keep-begin dataset resources ts up =
     sym (take-append-drop to ts)
     ∙ ap (λ l. take to ts ++ l)
@@ -246,14 +247,14 @@ keep-begin dataset resources ts up =
     let at = IsIn-drop ts to x m in
     other_stays dataset resources x
     (subst (λ (t : ResourceTable). bytes_eq t.address.dataset dataset ≡ false) at.3
-    (other_behind dataset ts up at.0 x at.1 at.2)))))
+    (other_after dataset ts up at.0 x at.1 at.2)))))
   where
     to : ℕ
-    to = to_place dataset ts
+    to = to_index dataset ts
 
--- So are all before them.
+-- In the end, all tables before the range are kept too.
 pub keep-end : (dataset : List ℕ) (resources : List Resource) (ts : List ResourceTable)
-    → kept_from (stays dataset resources) (from_place dataset ts) ts ≡ tables_kept dataset resources ts
+    → kept_from (stays dataset resources) (from_index dataset ts) ts ≡ tables_kept dataset resources ts
 keep-end dataset resources ts =
     ap (λ l. l ++ filter (stays dataset resources) (drop from ts))
     (sym (filter-all (stays dataset resources) (take from ts) (λ x m. front x m)))
@@ -261,7 +262,7 @@ keep-end dataset resources ts =
     ∙ ap (filter (stays dataset resources)) (take-append-drop from ts)
   where
     from : ℕ
-    from = from_place dataset ts
+    from = from_index dataset ts
 
     front : (x : ResourceTable) → IsIn x (take from ts) → stays dataset resources x ≡ true
     front x m =
@@ -271,20 +272,20 @@ keep-end dataset resources ts =
         (subst (λ (t : ResourceTable). bytes_eq t.address.dataset dataset ≡ false)
         (sym (get_or-take from ts at.0 x lt) ∙ at.2) (other_before dataset ts at.0 x lt))
 
--- ---- one table after another, from behind
+-- ---- one table after another, backwards
 
--- These are the tables where those of the dataset from this place on have been gone through.
-pub record IsKeptBehind (dataset : List ℕ) (resources : List Resource) (ts us : List ResourceTable) (k : ℕ)
+-- These are the tables after the dataset's tables from this index on were visited.
+pub record IsKeptFrom (dataset : List ℕ) (resources : List Resource) (ts us : List ResourceTable) (k : ℕ)
     : Type 0 where
   pub up : IsAscending table_cmp ts
-  pub from : from_place dataset ts ≤ k
-  pub to : k < to_place dataset ts
+  pub from : from_index dataset ts ≤ k
+  pub to : k < to_index dataset ts
   pub within : k < length ts
   pub kept : us ≡ kept_from (stays dataset resources) (k + 1) ts
 
--- The table in front of the place is the dataset's, and stays just where its resource does.
+-- The table before the index is the dataset's, and is kept just if its resource is.
 item_stays : (dataset : List ℕ) (resources : List Resource) (ts us : List ResourceTable) (k : ℕ) (t : ResourceTable)
-    → IsKeptBehind dataset resources ts us k → t ≡ get_or us k t
+    → IsKeptFrom dataset resources ts us k → t ≡ get_or us k t
     → stays dataset resources (get_or ts k t) ≡ is_among resources t.address.number
 item_stays dataset resources ts us k t at read =
     ap (λ b. not b || is_among resources (get_or ts k t).address.number)
@@ -293,7 +294,7 @@ item_stays dataset resources ts us k t at read =
     (sym (read ∙ ap (λ l. get_or l k t) at.kept ∙ item_before (stays dataset resources) ts k t at.within))
 
 pub kept_one : (dataset : List ℕ) (resources : List Resource) (ts us : List ResourceTable) (k : ℕ) (t : ResourceTable)
-    → IsKeptBehind dataset resources ts us k → t ≡ get_or us k t → is_among resources t.address.number ≡ true
+    → IsKeptFrom dataset resources ts us k → t ≡ get_or us k t → is_among resources t.address.number ≡ true
     → us ≡ kept_from (stays dataset resources) k ts
 kept_one dataset resources ts us k t at read among =
     at.kept
@@ -301,7 +302,7 @@ kept_one dataset resources ts us k t at read among =
     (item_stays dataset resources ts us k t at read ∙ among)
 
 pub removed_one : (dataset : List ℕ) (resources : List Resource) (ts us : List ResourceTable) (k : ℕ)
-    (t : ResourceTable) → IsKeptBehind dataset resources ts us k → t ≡ get_or us k t
+    (t : ResourceTable) → IsKeptFrom dataset resources ts us k → t ≡ get_or us k t
     → is_among resources t.address.number ≡ false
     → take k us ++ drop (k + 1) us ≡ kept_from (stays dataset resources) k ts
 removed_one dataset resources ts us k t at read among =
@@ -309,14 +310,16 @@ removed_one dataset resources ts us k t at read among =
     ∙ removed_before (stays dataset resources) ts k t at.within
     (item_stays dataset resources ts us k t at read ∙ among)
 
--- What memory tables hold ready changes nothing.
-pub kept_bare : (dataset : List ℕ) (resources : List Resource) (ts : List ResourceTable)
-    → map bare (tables_kept dataset resources ts) ≡ tables_kept dataset resources (map bare ts)
-kept_bare dataset resources [] = refl
-kept_bare dataset resources (t ∷ ts) = by (stays dataset resources t) (kept_bare dataset resources ts)
+-- The memory that tables have ready changes nothing.
+pub kept_without_room : (dataset : List ℕ) (resources : List Resource) (ts : List ResourceTable)
+    → map without_room (tables_kept dataset resources ts) ≡ tables_kept dataset resources (map without_room ts)
+kept_without_room dataset resources [] = refl
+kept_without_room dataset resources (t ∷ ts) = by (stays dataset resources t) (kept_without_room dataset resources ts)
   where
-    by : (b : Bool) → map bare (tables_kept dataset resources ts) ≡ tables_kept dataset resources (map bare ts)
-        → map bare (cond b (t ∷ tables_kept dataset resources ts) (tables_kept dataset resources ts))
-        ≡ cond b (bare t ∷ tables_kept dataset resources (map bare ts)) (tables_kept dataset resources (map bare ts))
-    by true rest = ap (λ l. bare t ∷ l) rest
+    by : (b : Bool) → map without_room (tables_kept dataset resources ts)
+        ≡ tables_kept dataset resources (map without_room ts)
+        → map without_room (cond b (t ∷ tables_kept dataset resources ts) (tables_kept dataset resources ts))
+        ≡ cond b (without_room t ∷ tables_kept dataset resources (map without_room ts))
+        (tables_kept dataset resources (map without_room ts))
+    by true rest = ap (λ l. without_room t ∷ l) rest
     by false rest = rest

@@ -1,149 +1,161 @@
--- The answers to calls on the tables of resources: functions of the call and of what its caller sees. Names, rights
--- and results are those of CKAN 2.10's DataStore; rules and messages are the portal's own.
+-- The answers to calls on the tables of resources: functions of the call and of its caller's view. Names, rights and
+-- results are those of CKAN 2.10's DataStore; rules and messages are the portal's own.
 use Rattle.std.specs.Prelude.{ℕ, List, [], codes, Option, Some, None, Result, Ok, Err, length}
-use Rattle.portal_base.specs.Faults.{Fault, noted_if}
+use Rattle.portal_base.specs.KeyErrors.{KeyError, error_if}
 use Rattle.portal_base.specs.declared.json_value.Json.{Json}
-use Rattle.packages.specs.Named.{Placed, resource_address}
-use Rattle.portal_calls.specs.Answer.{needing, quota_told, ruled}
+use Rattle.packages.specs.Named.{Located, resource_address}
+use Rattle.portal_calls.specs.Answer.{answer_if_authorized, quota_error, answer_if_valid}
 use Rattle.portal_calls.specs.declared.answer.Answer.{Answer}
 use Rattle.portal_calls.specs.declared.answer.Answer.TheVariants.{Shown, Refused, Accepted}
 use Rattle.portal_calls.specs.declared.answer.Denial.TheVariants.{Validation}
 use Rattle.portal_calls.specs.declared.answer.Quota.{Quota}
 use Rattle.portal_calls.specs.declared.answer.Right.TheVariants.{EditDataset}
-use Rattle.visibility.specs.Seen.{Seen}
+use Rattle.visibility.specs.CallView.{CallView}
 use Rattle.visibility.specs.Visibility.{may_edit_in}
 use Rattle.datastore_table.specs.declared.method.Method.{Method}
 use Rattle.datastore_table.specs.declared.method.Method.TheVariants as method
-use Rattle.datastore_answers.specs.Answered.{address_of, answer_on, on_thing, resource_at, tables_beside}
+use Rattle.datastore_answers.specs.TableAnswers.{address_of, answer_for_resource, or_refused, resource_at}
+use Rattle.datastore_answers.specs.TableAnswers.{tables_beside}
 use Rattle.datastore_answers.specs.Changed.{TableChange, put_into}
 use Rattle.datastore_answers.specs.Changed as change
-use Rattle.datastore_answers.specs.Described.{described_in}
-use Rattle.datastore_answers.specs.Dictionary.{create_dictionary, cut_dictionary, gone_dictionary, info_dictionary}
+use Rattle.datastore_answers.specs.Described.{described_table}
+use Rattle.datastore_answers.specs.Dictionary.{create_dictionary, delete_rows_dictionary, delete_dictionary}
+use Rattle.datastore_answers.specs.Dictionary.{info_dictionary}
 use Rattle.datastore_answers.specs.Dictionary.{upsert_dictionary}
 use Rattle.datastore_answers.specs.Tables.{table_at}
-use Rattle.datastore_answers.specs.Told.{Told, method_in, records_in, told_in, told_of_cut, told_of_put}
-use Rattle.datastore_answers.specs.Told.{told_of_removal}
+use Rattle.datastore_answers.specs.Errors.{OrError, read_method, read_records, error_of, delete_rows_errors, put_errors}
+use Rattle.datastore_answers.specs.Errors.{remove_errors}
 use Rattle.datastore_answers.specs.declared.answer.TableAnswer.{TableAnswer}
 use Rattle.datastore_answers.specs.declared.answer.TableAnswer.TheVariants.{Answered}
 use Rattle.datastore_answers.specs.declared.resource_table.ResourceTable.{ResourceTable}
 
--- the answer for who may edit the resource's dataset
-abbrev pub editing : Seen → Placed → Answer TableChange → Answer TableChange
-editing seen placed answer =
-    needing (may_edit_in seen.people seen.call.caller placed.dataset) EditDataset answer
+-- the answer if the caller may edit the resource's dataset, and else a refusal
+abbrev pub authorize_edit : CallView → Located → Answer TableChange → Answer TableChange
+authorize_edit view placed answer =
+    answer_if_authorized (may_edit_in view.people view.call.caller placed.dataset) EditDataset answer
 
--- what was read, and else this
-abbrev pub read_or : {A : Type 0} → A → Told A → A
-read_or d (Ok x) = x
-read_or d (Err message) = d
+-- the value, or this one in place of an error
+abbrev pub value_or : {A : Type 0} → A → OrError A → A
+value_or d (Ok x) = x
+value_or d (Err message) = d
 
--- what is told of a body that breaks rules, the quota with it
-abbrev pub broken : {C : Type 0} → Quota → List Fault → Answer C
-broken quota faults = Refused (Validation (noted_if (codes "body") (quota_told quota) faults))
+-- the refusal for these errors, with the error of the quota if it is used up
+abbrev pub validation_refusal : {C : Type 0} → Quota → List KeyError → Answer C
+validation_refusal quota errors = Refused (Validation (error_if (codes "body") (quota_error quota) errors))
 
--- the id of a resource
-abbrev pub id_of : Placed → List ℕ
+-- the resource's id
+abbrev pub id_of : Located → List ℕ
 id_of placed = resource_address placed.dataset.id placed.resource.number
 
 -- ---- readings
 
-abbrev pub answer_to_datastore_info : Seen → List ResourceTable → TableAnswer TableChange
-answer_to_datastore_info seen tables =
-    answer_on (codes "id") seen tables (λ placed beside t. Shown (info_dictionary t))
+abbrev pub answer_to_datastore_info : CallView → List ResourceTable → TableAnswer TableChange
+answer_to_datastore_info view tables =
+    answer_for_resource (codes "id") view tables (λ placed beside t. Shown (info_dictionary t))
 
--- ---- tables that come
+-- ---- tables that are created
 
--- a new table, with the records in it
-abbrev pub making : Placed → List Json → ResourceTable → Answer TableChange
-making placed records t =
+-- a new table is created, with the records in it
+abbrev pub accepted_create : Located → List Json → ResourceTable → Answer TableChange
+accepted_create placed records t =
     Accepted (create_dictionary (id_of placed) t.table.schema) (change.Create (put_into method.Insert records t))
 
--- the records, put into the table that is there
-abbrev pub filling : Placed → List Json → ResourceTable → Answer TableChange
-filling placed records t =
+-- the records are put into the existing table
+abbrev pub accepted_fill : Located → List Json → ResourceTable → Answer TableChange
+accepted_fill placed records t =
     Accepted (create_dictionary (id_of placed) t.table.schema)
     (change.Put (address_of placed) method.Insert records)
 
--- a table that is described, whether it is new or there
-abbrev pub creating : Placed → Option ResourceTable → List Json → ResourceTable → Answer TableChange
-creating placed None records t = making placed records t
-creating placed (Some there) records t = filling placed records t
+-- the accepted change for a table that the body describes, whether it is new or exists
+abbrev pub accepted_create_or_fill : Located → Option ResourceTable → List Json → ResourceTable → Answer TableChange
+accepted_create_or_fill placed None records t = accepted_create placed records t
+accepted_create_or_fill placed (Some there) records t = accepted_fill placed records t
 
--- Where a table was described the records are put into it; else what is told of the body is told.
-abbrev pub created : Quota → List ResourceTable → (List Json → ResourceTable → Answer TableChange)
-    → Result ResourceTable (List Fault) → Told (List Json) → Answer TableChange
-created quota beside make (Ok t) records =
-    ruled quota (told_of_put beside t (Ok method.Insert) records) (make (read_or [] records) t)
-created quota beside make (Err faults) records = broken quota (noted_if (codes "records") (told_in records) faults)
+-- If the body describes a table, the records are put into it; otherwise the body's errors are the answer.
+abbrev pub create_answer_for : Quota → List ResourceTable → (List Json → ResourceTable → Answer TableChange)
+    → Result ResourceTable (List KeyError) → OrError (List Json) → Answer TableChange
+create_answer_for quota beside make (Ok t) records =
+    answer_if_valid quota (put_errors beside t (Ok method.Insert) records) (make (value_or [] records) t)
+create_answer_for quota beside make (Err errors) records = validation_refusal quota
+    (error_if (codes "records") (error_of records) errors)
 
--- the answer on the resource and the table that it has, if it has one, for who may edit its dataset
-abbrev pub created_among : Quota → Placed → List ResourceTable → Json → Told (List Json) → Option ResourceTable
+-- the answer to a caller that may edit the resource's dataset, given the table that the resource has, if it has one
+abbrev pub authorized_create_answer : Quota → Located → List ResourceTable → Json → OrError (List Json)
+    → Option ResourceTable
     → Answer TableChange
-created_among quota placed beside body records there =
-    created quota beside (creating placed there) (described_in placed beside body there) records
+authorized_create_answer quota placed beside body records there =
+    create_answer_for quota beside (accepted_create_or_fill placed there) (described_table placed beside body there)
+    records
 
-abbrev pub creating_at : Seen → Placed → List ResourceTable → Option ResourceTable → Answer TableChange
-creating_at seen placed beside there =
-    editing seen placed
-    (created_among seen.quota placed beside seen.call.request.body (records_in seen.call.request.body) there)
+abbrev pub create_answer : CallView → Located → List ResourceTable → Option ResourceTable → Answer TableChange
+create_answer view placed beside there =
+    authorize_edit view placed
+    (authorized_create_answer view.quota placed beside view.call.request.body (read_records view.call.request.body)
+    there)
 
-abbrev pub creating_on : Seen → Placed → List ResourceTable → TableAnswer TableChange
-creating_on seen placed beside = Answered (creating_at seen placed beside (table_at placed.resource.number beside))
+abbrev pub create_table_answer : CallView → Located → List ResourceTable → TableAnswer TableChange
+create_table_answer view placed beside = Answered
+    (create_answer view placed beside (table_at placed.resource.number beside))
 
--- A resource without a table is no fault here.
-abbrev pub answer_to_datastore_create : Seen → List ResourceTable → TableAnswer TableChange
-answer_to_datastore_create seen tables =
-    on_thing (resource_at (codes "resource_id") seen) (λ placed. creating_on seen placed (tables_beside placed tables))
+-- A resource needs no table here.
+abbrev pub answer_to_datastore_create : CallView → List ResourceTable → TableAnswer TableChange
+answer_to_datastore_create view tables =
+    or_refused (resource_at (codes "resource_id") view)
+    (λ placed. create_table_answer view placed (tables_beside placed tables))
 
--- ---- rows that come and change
+-- ---- rows that are put
 
--- records that are put into the table
-abbrev pub putting : Placed → Method → List Json → Answer TableChange
-putting placed how records =
+-- the records are put into the table
+abbrev pub accepted_put : Located → Method → List Json → Answer TableChange
+accepted_put placed how records =
     Accepted (upsert_dictionary (id_of placed) how records) (change.Put (address_of placed) how records)
 
--- the answer where the method and the records were read as these
-abbrev pub upserting_as : Seen → Placed → List ResourceTable → ResourceTable → Told Method → Told (List Json)
+-- the answer, given the method and the records, or their errors
+abbrev pub upsert_answer_for : CallView → Located → List ResourceTable → ResourceTable → OrError Method
+    → OrError (List Json)
     → Answer TableChange
-upserting_as seen placed beside t how records =
-    editing seen placed
-    (ruled seen.quota (told_of_put beside t how records)
-    (putting placed (read_or method.Upsert how) (read_or [] records)))
+upsert_answer_for view placed beside t how records =
+    authorize_edit view placed
+    (answer_if_valid view.quota (put_errors beside t how records)
+    (accepted_put placed (value_or method.Upsert how) (value_or [] records)))
 
-abbrev pub upserting : Seen → Placed → List ResourceTable → ResourceTable → Answer TableChange
-upserting seen placed beside t =
-    upserting_as seen placed beside t (method_in t.table.schema.key seen.call.request.body)
-    (records_in seen.call.request.body)
+abbrev pub upsert_answer : CallView → Located → List ResourceTable → ResourceTable → Answer TableChange
+upsert_answer view placed beside t =
+    upsert_answer_for view placed beside t (read_method t.table.schema.key view.call.request.body)
+    (read_records view.call.request.body)
 
-abbrev pub answer_to_datastore_upsert : Seen → List ResourceTable → TableAnswer TableChange
-answer_to_datastore_upsert seen tables = answer_on (codes "resource_id") seen tables (upserting seen)
+abbrev pub answer_to_datastore_upsert : CallView → List ResourceTable → TableAnswer TableChange
+answer_to_datastore_upsert view tables = answer_for_resource (codes "resource_id") view tables (upsert_answer view)
 
--- ---- tables that go
+-- ---- tables that are deleted
 
--- the table of a resource, gone
-abbrev pub removing : Placed → Answer TableChange
-removing placed = Accepted (gone_dictionary (id_of placed)) (change.Remove (address_of placed))
+-- the resource's table is deleted
+abbrev pub accepted_remove : Located → Answer TableChange
+accepted_remove placed = Accepted (delete_dictionary (id_of placed)) (change.Remove (address_of placed))
 
-abbrev pub deleting : Seen → Placed → List ResourceTable → ResourceTable → Answer TableChange
-deleting seen placed beside t =
-    editing seen placed (ruled seen.quota (told_of_removal beside placed.resource.number) (removing placed))
+abbrev pub delete_answer : CallView → Located → List ResourceTable → ResourceTable → Answer TableChange
+delete_answer view placed beside t =
+    authorize_edit view placed (answer_if_valid view.quota (remove_errors beside placed.resource.number) (accepted_remove placed))
 
--- without filters, where the table goes
-abbrev pub answer_to_datastore_delete : Seen → List ResourceTable → TableAnswer TableChange
-answer_to_datastore_delete seen tables = answer_on (codes "resource_id") seen tables (deleting seen)
+-- without filters, the table is deleted
+abbrev pub answer_to_datastore_delete : CallView → List ResourceTable → TableAnswer TableChange
+answer_to_datastore_delete view tables = answer_for_resource (codes "resource_id") view tables (delete_answer view)
 
--- ---- rows that go
+-- ---- rows that are deleted
 
--- rows of these `_id`s, gone
-abbrev pub cutting : Placed → List ℕ → Answer TableChange
-cutting placed ids = Accepted (cut_dictionary (length ids) (id_of placed)) (change.Cut (address_of placed) ids)
+-- the rows with these `_id`s are deleted
+abbrev pub accepted_delete_rows : Located → List ℕ → Answer TableChange
+accepted_delete_rows placed ids = Accepted (delete_rows_dictionary (length ids) (id_of placed))
+    (change.DeleteRows (address_of placed) ids)
 
-abbrev pub deleting_rows : Seen → Told (List ℕ) → Placed → List ResourceTable → ResourceTable → Answer TableChange
-deleting_rows seen found placed beside t =
-    editing seen placed
-    (ruled seen.quota (told_of_cut beside placed.resource.number t found) (cutting placed (read_or [] found)))
+abbrev pub delete_rows_answer : CallView → OrError (List ℕ) → Located → List ResourceTable → ResourceTable
+    → Answer TableChange
+delete_rows_answer view found placed beside t =
+    authorize_edit view placed
+    (answer_if_valid view.quota (delete_rows_errors beside placed.resource.number t found)
+    (accepted_delete_rows placed (value_or [] found)))
 
--- With filters the rows go that these found, or what is told of them is told.
-abbrev pub answer_to_datastore_delete_rows : Seen → List ResourceTable → Told (List ℕ) → TableAnswer TableChange
-answer_to_datastore_delete_rows seen tables found =
-    answer_on (codes "resource_id") seen tables (deleting_rows seen found)
+-- With filters, the rows that they select are deleted; if the filters have an error, it is the answer.
+abbrev pub answer_to_datastore_delete_rows : CallView → List ResourceTable → OrError (List ℕ) → TableAnswer TableChange
+answer_to_datastore_delete_rows view tables found =
+    answer_for_resource (codes "resource_id") view tables (delete_rows_answer view found)

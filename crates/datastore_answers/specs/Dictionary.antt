@@ -1,4 +1,4 @@
--- The dictionaries in which replies show tables, with keys that ascend by bytes. Keys are those of CKAN 2.10's
+-- The dictionaries that describe tables in replies, with keys that ascend by bytes. Keys are those of CKAN 2.10's
 -- DataStore.
 use Rattle.std.specs.Prelude.{ℕ, pos, List, [], ◌∷◌, map, length, codes}
 use Rattle.portal_base.specs.declared.json_value.Json.{Json}
@@ -38,21 +38,21 @@ fields_shown schema = json.List (map field_dictionary schema.fields)
 abbrev pub key_shown : SchemaValue → Json
 key_shown schema = names_value schema.fields schema.key
 
--- how many rows a table has, and its key
+-- the count of a table's rows, and its key
 abbrev pub meta_dictionary : ℕ → Json → Json
 meta_dictionary count key = json.Map (
     (codes "count", json.Whole (pos count))
     ∷ (codes "primary_key", key)
     ∷ [])
 
--- a table: its fields, how many rows it has, and its key
+-- a table: its fields, the count of its rows, and its key
 abbrev pub info_dictionary : ResourceTable → Json
 info_dictionary t = json.Map (
     (codes "fields", fields_shown t.table.schema)
     ∷ (codes "meta", meta_dictionary (length t.table.rows) (key_shown t.table.schema))
     ∷ [])
 
--- these fields and this key of the table of the resource of that id
+-- these fields and this key of the table of the resource with this id
 abbrev pub description_dictionary : Json → Json → List ℕ → Json
 description_dictionary fields key resource = json.Map (
     (codes "fields", fields)
@@ -60,7 +60,7 @@ description_dictionary fields key resource = json.Map (
     ∷ (codes "resource_id", json.Text resource)
     ∷ [])
 
--- a table of the resource of that id that was made, or that is there: its fields and its key
+-- the reply to the creation of a table, or to records for an existing one: its resource's id, its fields and its key
 abbrev pub create_dictionary : List ℕ → SchemaValue → Json
 create_dictionary resource schema = description_dictionary (fields_shown schema) (key_shown schema) resource
 
@@ -69,7 +69,7 @@ method_name method.Upsert = codes "upsert"
 method_name method.Insert = codes "insert"
 method_name method.Update = codes "update"
 
--- a batch that was put into the table of the resource of that id: how many records it had
+-- the reply to a batch for the table of the resource with this id: the count of its records
 abbrev pub upsert_dictionary : List ℕ → Method → List Json → Json
 upsert_dictionary resource how records = json.Map (
     (codes "count", json.Whole (pos (length records)))
@@ -77,15 +77,15 @@ upsert_dictionary resource how records = json.Map (
     ∷ (codes "resource_id", json.Text resource)
     ∷ [])
 
--- ---- tables that go
+-- ---- deletions
 
--- a table that is gone, of the resource of that id
-abbrev pub gone_dictionary : List ℕ → Json
-gone_dictionary resource = json.Map ((codes "resource_id", json.Text resource) ∷ [])
+-- the reply to the deletion of the table of the resource with this id
+abbrev pub delete_dictionary : List ℕ → Json
+delete_dictionary resource = json.Map ((codes "resource_id", json.Text resource) ∷ [])
 
--- so many rows that are gone of the table of the resource of that id
-abbrev pub cut_dictionary : ℕ → List ℕ → Json
-cut_dictionary count resource = json.Map (
+-- the reply to the deletion of this count of rows from the table of the resource with this id
+abbrev pub delete_rows_dictionary : ℕ → List ℕ → Json
+delete_rows_dictionary count resource = json.Map (
     (codes "deleted", json.Whole (pos count))
     ∷ (codes "resource_id", json.Text resource)
     ∷ [])

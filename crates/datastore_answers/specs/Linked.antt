@@ -15,33 +15,33 @@ use Rattle.datastore_answers.specs.Tables.{table_at, tables_in}
 use Rattle.datastore_answers.specs.declared.resource_table.ResourceTable.{ResourceTable}
 use Rattle.table_schema.specs.declared.foreign.Foreign.{Foreign}
 
--- ---- what is referred to
+-- ---- referenced tables
 
--- Among a dataset's tables that of the resource that the foreign key at this place means, counted from 0.
+-- The table, among the dataset's tables, that the foreign key with this index references. The index counts from 0.
 abbrev pub target_of : List ResourceTable → ResourceTable → ℕ → Option ResourceTable
-target_of beside t place = option_and_then (λ number. table_at number beside) (slice_get t.means place)
+target_of beside t index = option_and_then (λ number. table_at number beside) (slice_get t.targets index)
 
--- Each row that one of the records wrote refers by the foreign key to a row that is there.
-abbrev pub held_by : Option ResourceTable → Foreign → Worked → Result (Unit {0}) TableFault
-held_by None foreign worked = Ok tt
-held_by (Some target) foreign worked =
+-- Each row that one of the records wrote references, by the foreign key, a row that exists.
+abbrev pub target_checked : Option ResourceTable → Foreign → Worked → Result (Unit {0}) TableFault
+target_checked None foreign worked = Ok tt
+target_checked (Some target) foreign worked =
     foreign_checked foreign.fields target.table.schema.key target.table.rows worked.rows worked.written
 
 abbrev pub link_checked : List ResourceTable → ResourceTable → Worked → ℕ → Foreign → Unit {0}
     → Result (Unit {0}) TableFault
-link_checked beside t worked place foreign u =
-    if is_self foreign then Ok tt else held_by (target_of beside t place) foreign worked
+link_checked beside t worked index foreign u =
+    if is_self foreign then Ok tt else target_checked (target_of beside t index) foreign worked
 
 -- the foreign keys to other tables, in the schema's order
 abbrev pub links_checked : List ResourceTable → ResourceTable → Worked → Result (Unit {0}) TableFault
 links_checked beside t worked = in_turn (link_checked beside t worked) 0 t.table.schema.foreign tt
 
--- a batch at work as the rows that it writes, where nothing else stands
+-- the rows that a batch writes, without the table's other rows
 abbrev pub alone : Written → Worked
 alone work = record { rows = work.changed; next_id = work.next_id; written = work.written }
 
--- What a batch makes of a table, among the tables of its dataset; or the fault that refuses it: of the table itself,
--- and else of its references to others.
+-- The result of a batch on a table, among the tables of its dataset, or the fault that refuses it: the table's own
+-- fault first, and then that of its references to other tables.
 abbrev pub put_among : List ResourceTable → Method → List Json → ResourceTable → Result Worked TableFault
 put_among beside method records t =
     put_records method records t.table >>> λ worked. (links_checked beside t worked >>> λ _. Ok worked)
@@ -50,35 +50,35 @@ abbrev pub put_for : List ResourceTable → Method → List Json → Option Reso
 put_for beside method records None = Err OutOfMemory
 put_for beside method records (Some t) = put_among beside method records t
 
--- the same of the table of the resource of this number, where it is there
+-- the same for the table of the resource with this number, if it exists
 abbrev pub put_at : List ResourceTable → ℕ → Method → List Json → Result Worked TableFault
 put_at beside number method records = put_for beside method records (table_at number beside)
 
--- what a batch makes of a table alone, where it is there
+-- the result of a batch on a table alone, if it exists
 abbrev pub put_own : Method → List Json → Option ResourceTable → Result Worked TableFault
 put_own method records None = Err OutOfMemory
 put_own method records (Some t) = put_records method records t.table
 
 -- ---- tables whose references hold
 
--- no row refers by the foreign key to one that isn't there
+-- each reference of the rows, by the foreign key, finds its row
 abbrev pub holds_in : Option ResourceTable → Foreign → List Row → Bool
 holds_in None foreign rows = true
 holds_in (Some target) foreign rows =
     list_all (λ row. not (is_broken foreign.fields target.table.schema.key target.table.rows row)) rows
 
--- the references of a dataset's table to others of them hold, by these foreign keys, the first of which stands at this
--- place
+-- The table's references to other tables of the dataset hold by these foreign keys, the first of which has this
+-- index.
 abbrev pub links_hold : List ResourceTable → ResourceTable → ℕ → List Foreign → Bool
-links_hold beside t place [] = true
-links_hold beside t place (foreign ∷ foreigns) =
-    (is_self foreign || holds_in (target_of beside t place) foreign t.table.rows)
-    && links_hold beside t (place + 1) foreigns
+links_hold beside t index [] = true
+links_hold beside t index (foreign ∷ foreigns) =
+    (is_self foreign || holds_in (target_of beside t index) foreign t.table.rows)
+    && links_hold beside t (index + 1) foreigns
 
 abbrev pub is_linked : List ResourceTable → ResourceTable → Bool
 is_linked beside t = links_hold beside t 0 t.table.schema.foreign
 
--- so do those of all tables
+-- this holds of all tables
 abbrev pub are_linked : List ResourceTable → Bool
 are_linked tables = list_all (λ t. is_linked (tables_in t.address.dataset tables) t) tables
 

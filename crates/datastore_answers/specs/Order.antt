@@ -1,4 +1,4 @@
--- The order of the tables of resources: by their dataset's id, and then by their number there.
+-- The order of the tables of resources: by their dataset's id, and then by their number in the dataset.
 use Rattle.std.specs.Prelude.{Bool}
 use Rattle.std.specs.declared.cmp.Ordering.{Ordering}
 use Rattle.std.specs.Ordering.{is_eq, nat_cmp, ordering_then}
@@ -21,13 +21,13 @@ table_cmp t u = address_cmp t.address u.address
 pub table_cmp_total : IsTotalOrder table_cmp
 table_cmp_total = on_total (λ t. t.address) address_cmp_total
 
--- how a table stands to an address
+-- compares a table's address with this one
 abbrev pub at_address : Address → ResourceTable → Ordering
 at_address address t = address_cmp t.address address
 
 pub IsKey-at_address : (address : Address) → IsKey table_cmp (at_address address)
 IsKey-at_address address = IsKey-field (λ t. t.address) address_cmp_total address
 
--- it is the table at this address
+-- the table is at this address
 abbrev pub is_at : Address → ResourceTable → Bool
 is_at address t = is_eq (at_address address t)

@@ -1,10 +1,10 @@
-//! By what the tables of resources are named, and the order in which they stand.
+//! The addresses of resources' tables, and the order of the tables.
 use crate::resource_table::ResourceTable;
 use portal_base::ordered::{Key, Ordered};
 use portal_base::text::Text;
 use std::cmp::Ordering;
 
-/// A resource's id in its two parts: the id of its dataset, and its number there.
+/// The address of a resource and of its table: the id of its dataset, and its number in that dataset.
 #[derive(Drop)]
 pub struct Address {
     pub dataset: Text,
@@ -15,7 +15,7 @@ impl Address {
     ghost use Rattle.std.specs.Prelude.{◌≡◌};
     ghost use Rattle.datastore_answers.specs.Order.{address_cmp};
 
-    /// The order by dataset, and then by number.
+    /// Compares the datasets' ids first, and then the numbers.
     pub fn order(&self, other: &Address) -> Ordering
         ensures { result ≡ address_cmp self.now other.now }
     {
@@ -45,7 +45,7 @@ impl Key<ResourceTable> for Address {
 
     ghost is_key = { IsKey-at_address };
 
-    fn stands(&self, item: &ResourceTable) -> Ordering {
+    fn compare_item(&self, item: &ResourceTable) -> Ordering {
         item.address.order(self)
     }
 }

@@ -1,11 +1,11 @@
 //! Answers on the table of a resource.
 use portal_calls::answer::Answer;
 
-/// What a call on the table of a resource is answered.
+/// The answer to a call on the table of a resource.
 #[derive(Drop)]
 pub enum TableAnswer<C> {
-    /// The resource is seen, and has no table.
+    /// The caller sees the resource, and it has no table.
     NoTable,
-    /// Its table is there, or what the call names isn't seen.
+    /// The answer. It is a refusal if the caller doesn't see the resource that the call names.
     Answered(Answer<C>),
 }

@@ -13,11 +13,11 @@ ghost use Rattle.datastore_answers.specs.Linked.{AreLinked, alone, link_checked,
 ghost use Rattle.datastore_answers.specs.Linked.{put_own, target_of};
 ghost use Rattle.datastore_answers.specs.Order.{at_address};
 ghost use Rattle.datastore_answers.specs.Plan.{IsBatchAt, IsPutReady};
-ghost use Rattle.datastore_answers.specs.Tables.{bare, table_at, tables_in, tables_of};
-ghost use Rattle.datastore_answers.specs.Told.{put_fault};
+ghost use Rattle.datastore_answers.specs.Tables.{without_room, table_at, tables_in, tables_of};
+ghost use Rattle.datastore_answers.specs.Errors.{put_error};
 
-use crate::place::place_at;
 use crate::resource_table::ResourceTable;
+use crate::table_index::find_index;
 use crate::tables::Tables;
 use datastore_table::{Batch, Method, TableFault, check_foreign};
 use portal_base::json_value::Json;
@@ -25,14 +25,14 @@ use portal_base::seq::Seq;
 use portal_base::text::Text;
 use table_schema::Foreign;
 
-// Prepares a batch on the table, which stays as it is.
+// Prepares a batch on the table. The table stays unchanged.
 fn prepared(
     table: &mut ResourceTable,
     method: Method,
     records: &Seq<Json>,
 ) -> Result<Batch, TableFault>
     requires { IsTrue (list_all is_map records.now) }
-    ensures same { bare table.new ≡ bare table.old }
+    ensures same { without_room table.new ≡ without_room table.old }
     ensures schema { IfOk result (λ batch. batch.schema ≡ table.new.table.schema) }
     ensures changed { IfOk result (λ batch. IsAscending row_cmp batch.work.changed) }
     ensures rows { IfOk result (λ _. IsAscending row_cmp table.new.table.rows) }
@@ -49,8 +49,9 @@ fn prepared(
 }
 
 impl Tables {
-    /// Prepares a batch of records, which are dictionaries, on the table of the dataset's resource of this number. It
-    /// takes all the memory of the batch. The tables stay as they are.
+    /// Prepares a batch of records, which are dictionaries, on the table of the resource with this number. It
+    /// allocates all memory that the batch needs. The tables stay unchanged. Fails if the table refuses the batch, if
+    /// a row references a row of another table that doesn't exist, or if no memory is left.
     pub(crate) fn batch(
         &mut self,
         dataset: &Text,
@@ -58,11 +59,11 @@ impl Tables {
         method: Method,
         records: &Seq<Json>,
     ) -> Result<Batch, TableFault>
-        requires stands { IsSome (table_at number (tables_in dataset.now (tables_of self.old))) }
+        requires exists { IsSome (table_at number (tables_in dataset.now (tables_of self.old))) }
         requires maps { IsTrue (list_all is_map records.now) }
         requires linked { AreLinked (tables_of self.old) }
         ensures same { tables_of self.new ≡ tables_of self.old }
-        ensures taken { IfOk result (λ _. put_fault
+        ensures taken { IfOk result (λ _. put_error
             (put_at (tables_in dataset.now (tables_of self.old)) number method records.now) ≡ None) }
         ensures ready { IfOk result (λ batch. IsPutReady (record { dataset = dataset.now; number = number })
             method records.now batch self.new) }
@@ -79,7 +80,7 @@ impl Tables {
         }
     }
 
-    /// The table without rows, with the records in it, which are dictionaries.
+    /// Puts the records, which are dictionaries, into a table without rows. Fails as `batch` does.
     pub(crate) fn filled(
         &self,
         table: ResourceTable,
@@ -87,11 +88,13 @@ impl Tables {
     ) -> Result<ResourceTable, TableFault>
         requires maps { IsTrue (list_all is_map records.now) }
         requires empty { table.table.rows ≡ [] }
-        ensures table { IfOk result (λ t. bare t ≡ put_into Method.Insert records.now (bare table)) }
-        ensures taken { IfOk result (λ _. put_fault (put_among
-            (tables_in table.address.dataset (tables_of self.now)) Method.Insert records.now (bare table)) ≡ None) }
+        ensures table { IfOk result (λ t. without_room t ≡ put_into Method.Insert records.now (without_room table)) }
+        ensures taken { IfOk result (λ _. put_error (put_among
+            (tables_in table.address.dataset (tables_of self.now)) Method.Insert records.now (without_room table))
+            ≡ None) }
         ensures fault { IfErr result (λ fault. (fault ≡ OutOfMemory)
-            ⊎ (put_among (tables_in table.address.dataset (tables_of self.now)) Method.Insert records.now (bare table)
+            ⊎ (put_among (tables_in table.address.dataset (tables_of self.now)) Method.Insert records.now
+            (without_room table)
             ≡ Err fault)) }
     {
         let mut table = table;
@@ -101,7 +104,7 @@ impl Tables {
         Ok(table)
     }
 
-    // Prepares a batch on that table, whose references to other tables aren't looked at.
+    // Prepares a batch on that table. References to other tables aren't checked here.
     fn prepared_at(
         &mut self,
         dataset: &Text,
@@ -109,7 +112,7 @@ impl Tables {
         method: Method,
         records: &Seq<Json>,
     ) -> Result<Batch, TableFault>
-        requires stands { IsSome
+        requires exists { IsSome
             (found (at_address (record { dataset = dataset.now; number = number })) self.old.tables) }
         requires maps { IsTrue (list_all is_map records.now) }
         ensures same { tables_of self.new ≡ tables_of self.old }
@@ -118,13 +121,13 @@ impl Tables {
         ensures fault { IfErr result (λ fault. (fault ≡ OutOfMemory) ⊎ (put_own method records.now
             (found (at_address (record { dataset = dataset.now; number = number })) self.old.tables) ≡ Err fault)) }
     {
-        match place_at(self.tables.as_slice(), dataset, number) {
-            Some(place) => prepared(&mut self.tables[place], method, records),
+        match find_index(self.tables.as_slice(), dataset, number) {
+            Some(index) => prepared(&mut self.tables[index], method, records),
             None => unreachable!(),
         }
     }
 
-    // Whether each row of the batch on the table refers to rows of other tables that are there.
+    // Checks that each row of the batch references existing rows of other tables.
     fn check_links(&self, table: &ResourceTable, batch: &Batch) -> Result<(), TableFault>
         requires schema { batch.now.schema ≡ table.now.table.schema }
         ensures ok { OnOk result (links_checked (tables_in table.now.address.dataset (tables_of self.now)) table.now
@@ -133,46 +136,46 @@ impl Tables {
             ⊎ (links_checked (tables_in table.now.address.dataset (tables_of self.now)) table.now
             (alone batch.now.work) ≡ Err fault)) }
     {
-        for (place, foreign) in table.table.schema().foreign().as_slice().iter().enumerate() {
-            self.check_link(table, batch, place, foreign)?;
+        for (index, foreign) in table.table.schema().foreign().as_slice().iter().enumerate() {
+            self.check_link(table, batch, index, foreign)?;
         }
         Ok(())
     }
 
-    // The same by the foreign key at this place, counted from 0.
+    // Checks this for the foreign key with this index, counted from 0.
     fn check_link(
         &self,
         table: &ResourceTable,
         batch: &Batch,
-        place: usize,
+        index: usize,
         foreign: &Foreign,
     ) -> Result<(), TableFault>
         requires schema { batch.now.schema ≡ table.now.table.schema }
-        requires stands { slice_get table.now.table.schema.foreign place ≡ Some foreign.now }
+        requires exists { slice_get table.now.table.schema.foreign index ≡ Some foreign.now }
         ensures ok { OnOk result (link_checked (tables_in table.now.address.dataset (tables_of self.now)) table.now
-            (alone batch.now.work) place foreign.now tt ≡ Ok tt) }
+            (alone batch.now.work) index foreign.now tt ≡ Ok tt) }
         ensures err { IfErr result (λ fault. (fault ≡ OutOfMemory)
             ⊎ (link_checked (tables_in table.now.address.dataset (tables_of self.now)) table.now
-            (alone batch.now.work) place foreign.now tt ≡ Err fault)) }
+            (alone batch.now.work) index foreign.now tt ≡ Err fault)) }
     {
         if foreign.resource.is_empty() {
             return Ok(());
         }
-        let Ok(number) = u32::try_from(place) else {
+        let Ok(number) = u32::try_from(index) else {
             return Err(TableFault::OutOfMemory);
         };
-        match self.target(table, place) {
+        match self.target(table, index) {
             Some(target) => check_foreign(batch, number, &target.table),
             None => Ok(()),
         }
     }
 
-    // The table of the resource that the foreign key at this place means.
-    fn target(&self, table: &ResourceTable, place: usize) -> Option<&ResourceTable>
-        ensures { option_map bare (option_copied result)
-            ≡ target_of (tables_in table.now.address.dataset (tables_of self.now)) table.now place }
+    // The table that the foreign key with this index references, if there is one.
+    fn target(&self, table: &ResourceTable, index: usize) -> Option<&ResourceTable>
+        ensures { option_map without_room (option_copied result)
+            ≡ target_of (tables_in table.now.address.dataset (tables_of self.now)) table.now index }
     {
-        match table.means.as_slice().get(place) {
+        match table.targets.as_slice().get(index) {
             Some(number) => self.get(&table.address.dataset, *number),
             None => None,
         }

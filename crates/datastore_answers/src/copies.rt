@@ -1,4 +1,4 @@
-//! Copies of JSON values, which equal what they copy.
+//! Copies of JSON values. A copy equals the value that it is made of.
 ghost use Rattle.std.specs.Prelude.{◌≡◌, IfOk};
 
 use portal_base::copy::TryClone;

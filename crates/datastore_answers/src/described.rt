@@ -1,33 +1,34 @@
-//! Tables as the bodies of calls describe them: by fields and a key, or by a descriptor.
+//! Tables as the bodies of calls describe them: by fields and a key, or by a Table Schema descriptor.
 ghost use Rattle.std.specs.Prelude.{◌≡◌, ◌∷◌, [], map, codes, Err, IfOk, None, Ok, OnOk, Some, option_copied};
 ghost use Rattle.std.specs.Prelude.{unwrap_or};
 ghost use Rattle.std.specs.Result.{result_map_both};
-ghost use Rattle.portal_base.specs.Faults.{kind_message, noted_if};
+ghost use Rattle.portal_base.specs.KeyErrors.{kind_message, error_if};
 ghost use Rattle.portal_base.specs.Kinds.{list_at, message_of, present, text_at, texts_at};
 ghost use Rattle.portal_base.specs.declared.json_value.Json as json;
-ghost use Rattle.packages.specs.Placing.{placed_now};
+ghost use Rattle.packages.specs.LocatedResource.{located_now};
 ghost use Rattle.table_schema.specs.Keys.{schema_reading};
 ghost use Rattle.table_schema.specs.Messages.{schema_fault_text};
-ghost use Rattle.datastore_answers.specs.Answered.{address_of};
-ghost use Rattle.datastore_answers.specs.Described.{are_fields, are_names, by_fields, described_in, described_new};
-ghost use Rattle.datastore_answers.specs.Described.{descriptor_of, descriptor_told, field_meant, fields_fit};
-ghost use Rattle.datastore_answers.specs.Described.{fields_told, is_field, is_name, is_schema, key_fits, name_given};
-ghost use Rattle.datastore_answers.specs.Described.{schema_told, sound, table_told, told_beside, told_of_there};
-ghost use Rattle.datastore_answers.specs.Described.{type_given, type_meant, type_shown, unfilled};
-ghost use Rattle.datastore_answers.specs.Tables.{bare, tables_in, tables_of};
-ghost use Rattle.datastore_answers.specs.Told.{told_in};
+ghost use Rattle.datastore_answers.specs.TableAnswers.{address_of};
+ghost use Rattle.datastore_answers.specs.Described.{are_fields, are_names, by_fields, described_table, described_new};
+ghost use Rattle.datastore_answers.specs.Described.{descriptor_of, descriptor_error, descriptor_field, fields_fit};
+ghost use Rattle.datastore_answers.specs.Described.{fields_error, is_field, is_name, is_schema, key_fits, name_given};
+ghost use Rattle.datastore_answers.specs.Described.{schema_or_error, unless_errors, table_of_descriptor};
+ghost use Rattle.datastore_answers.specs.Described.{both_given_error, existing_table_errors};
+ghost use Rattle.datastore_answers.specs.Described.{type_given, descriptor_type, type_shown, empty_table};
+ghost use Rattle.datastore_answers.specs.Tables.{without_room, tables_in, tables_of};
+ghost use Rattle.datastore_answers.specs.Errors.{error_of};
 
 use crate::dictionary::{name_at, type_name};
+use crate::errors::is_map;
 use crate::lookup::address_of;
 use crate::resource_table::ResourceTable;
 use crate::tables::Tables;
-use crate::told::is_map;
 use datastore_table::Table;
-use packages::named::PlacedResource;
+use packages::named::LocatedResource;
 use portal_base::copy::TryClone;
 use portal_base::dictionary::Value;
-use portal_base::faults::Faults;
 use portal_base::json_value::Json;
+use portal_base::key_errors::KeyErrors;
 use portal_base::kinds::{KindFault, list_at, present, text_at, texts_at};
 use portal_base::seq::Seq;
 use portal_base::text::Text;
@@ -36,8 +37,8 @@ use table_schema::{Field, Schema, SchemaFault};
 
 // ---- fields as a descriptor
 
-fn type_meant(name: &str) -> &'static str
-    ensures { result.now ≡ type_meant name.now }
+fn descriptor_type(name: &str) -> &'static str
+    ensures { result.now ≡ descriptor_type name.now }
 {
     match name {
         "text" => "string",
@@ -71,9 +72,9 @@ fn type_given(item: &Json) -> &str
     }
 }
 
-// What a column means as a field of a descriptor.
-fn field_meant(alloc: Global, item: &Json) -> Result<Json, AllocError>
-    ensures { IfOk result (λ json. json ≡ field_meant item.now) }
+// A column as a field of a descriptor.
+fn descriptor_field(alloc: Global, item: &Json) -> Result<Json, AllocError>
+    ensures { IfOk result (λ json. json ≡ descriptor_field item.now) }
 {
     if !is_map(item) {
         return Ok(Json::Null);
@@ -83,17 +84,17 @@ fn field_meant(alloc: Global, item: &Json) -> Result<Json, AllocError>
         alloc,
         [
             ("name", Value::Json(name)),
-            ("type", Value::Static(type_meant(type_given(item)))),
+            ("type", Value::Static(descriptor_type(type_given(item)))),
         ],
     )
 }
 
-fn fields_meant(alloc: Global, items: &[Json]) -> Result<Seq<Json>, AllocError>
-    ensures { IfOk result (λ list. list ≡ map field_meant items.now) }
+fn descriptor_fields(alloc: Global, items: &[Json]) -> Result<Seq<Json>, AllocError>
+    ensures { IfOk result (λ list. list ≡ map descriptor_field items.now) }
 {
     let mut list = Vec::with_capacity(alloc, items.len())?;
     for item in items {
-        list.push(field_meant(alloc, item)?)?;
+        list.push(descriptor_field(alloc, item)?)?;
     }
     Ok(Seq::from(list))
 }
@@ -108,7 +109,7 @@ fn texts_json(alloc: Global, texts: &[Text]) -> Result<Seq<Json>, AllocError>
     Ok(Seq::from(list))
 }
 
-// The descriptor of these fields and this key.
+// The descriptor with these fields and this key.
 fn descriptor_json(alloc: Global, fields: Seq<Json>, names: Seq<Json>) -> Result<Json, AllocError>
     ensures { IfOk result (λ made. made
         ≡ json.Map ((codes "fields", json.List fields) ∷ (codes "primaryKey", json.List names) ∷ [])) }
@@ -122,42 +123,43 @@ fn descriptor_json(alloc: Global, fields: Seq<Json>, names: Seq<Json>) -> Result
     )
 }
 
-// The descriptor that columns and a key mean.
+// The descriptor of these columns and this key.
 fn descriptor_of(alloc: Global, items: &[Json], key: &[Text]) -> Result<Json, AllocError>
     ensures { IfOk result (λ json. json ≡ descriptor_of items.now key.now) }
 {
-    let fields = fields_meant(alloc, items)?;
+    let fields = descriptor_fields(alloc, items)?;
     let names = texts_json(alloc, key)?;
     descriptor_json(alloc, fields, names)
 }
 
 // ---- a table by a descriptor
 
-fn fault_told(alloc: Global, fault: &SchemaFault) -> Result<Text, AllocError>
+fn schema_fault_message(alloc: Global, fault: &SchemaFault) -> Result<Text, AllocError>
     ensures { IfOk result (λ text. text ≡ schema_fault_text fault.now) }
 {
     Ok(Text::from(format!(in alloc; "{fault}")?))
 }
 
-// The schema that a descriptor means, or what is told of it.
-fn schema_told(alloc: Global, descriptor: &Json) -> Result<Result<Schema, Text>, AllocError>
-    ensures { IfOk result (λ told. told ≡ schema_told (schema_reading descriptor.now)) }
+// The schema that a descriptor describes, or its error.
+fn schema_or_error(alloc: Global, descriptor: &Json) -> Result<Result<Schema, Text>, AllocError>
+    ensures { IfOk result (λ read. read ≡ schema_or_error (schema_reading descriptor.now)) }
 {
     match Schema::of_json(alloc, descriptor) {
         Ok(schema) => Ok(Ok(schema)),
         Err(SchemaFault::OutOfMemory) => Err(AllocError),
-        Err(fault) => Ok(Err(fault_told(alloc, &fault)?)),
+        Err(fault) => Ok(Err(schema_fault_message(alloc, &fault)?)),
     }
 }
 
-// A table of the resource without rows.
-fn unfilled(
+// The resource's table without rows.
+fn empty_table(
     alloc: Global,
-    placed: &PlacedResource<'_>,
+    placed: &LocatedResource<'_>,
     schema: Schema,
-    means: Seq<u32>,
+    targets: Seq<u32>,
 ) -> Result<ResourceTable, AllocError>
-    ensures table { IfOk result (λ t. bare t ≡ unfilled (address_of (placed_now placed.now)) schema means) }
+    ensures table { IfOk result
+        (λ t. without_room t ≡ empty_table (address_of (located_now placed.now)) schema targets) }
 {
     let address = address_of(alloc, placed)?;
     let Ok(table) = Table::create(alloc, schema) else {
@@ -165,71 +167,78 @@ fn unfilled(
     };
     Ok(ResourceTable {
         address,
-        means,
+        targets,
         table,
     })
 }
 
-// The table of the resource that a descriptor describes, without rows, or what is told of the descriptor.
-fn table_told(
+// The resource's table without rows, with the schema that a descriptor describes, or the descriptor's error.
+fn table_of_descriptor(
     alloc: Global,
-    placed: &PlacedResource<'_>,
+    placed: &LocatedResource<'_>,
     tables: &Tables,
     descriptor: &Json,
 ) -> Result<Result<ResourceTable, Text>, AllocError>
-    ensures { IfOk result (λ told. result_map_both bare (λ message. message) told
-        ≡ table_told (placed_now placed.now) (tables_in placed.now.dataset.now.id (tables_of tables.now))
+    ensures { IfOk result (λ read. result_map_both without_room (λ message. message) read
+        ≡ table_of_descriptor (located_now placed.now) (tables_in placed.now.dataset.now.id (tables_of tables.now))
         descriptor.now) }
 {
-    let schema = match schema_told(alloc, descriptor)? {
+    let schema = match schema_or_error(alloc, descriptor)? {
         Ok(schema) => schema,
         Err(message) => return Ok(Err(message)),
     };
-    match tables.all_meant(alloc, placed, &schema)? {
-        Ok(means) => Ok(Ok(unfilled(alloc, placed, schema, means)?)),
+    match tables.resolved_targets(alloc, placed, &schema)? {
+        Ok(targets) => Ok(Ok(empty_table(alloc, placed, schema, targets)?)),
         Err(message) => Ok(Err(message)),
     }
 }
 
-// ---- what a body describes
+// ---- a table by a body
 
-// The table where nothing is told, and else all that is.
-fn sound(faults: Faults, told: Result<ResourceTable, Text>) -> Result<ResourceTable, Faults>
-    ensures { result_map_both bare (λ faults. faults) result
-        ≡ sound faults (result_map_both bare (λ message. message) told) }
+// The table if there are no errors, and else the errors.
+fn unless_errors(
+    errors: KeyErrors,
+    read: Result<ResourceTable, Text>,
+) -> Result<ResourceTable, KeyErrors>
+    ensures { result_map_both without_room (λ errors. errors) result
+        ≡ unless_errors errors (result_map_both without_room (λ message. message) read) }
 {
-    match told {
-        Ok(table) => if faults.is_empty() {
+    match read {
+        Ok(table) => if errors.is_empty() {
             Ok(table)
         } else {
-            Err(faults)
+            Err(errors)
         },
-        Err(_message) => Err(faults),
+        Err(_message) => Err(errors),
     }
 }
 
-fn note_if(faults: &mut Faults, key: &'static str, told: Option<Text>) -> Result<(), AllocError>
-    ensures { OnOk result (faults.new ≡ noted_if key.now told faults.old) }
+fn add_error_if(
+    errors: &mut KeyErrors,
+    key: &'static str,
+    error: Option<Text>,
+) -> Result<(), AllocError>
+    ensures { OnOk result (errors.new ≡ error_if key.now error errors.old) }
 {
-    match told {
-        Some(message) => faults.note(Text::from_static(key), message),
+    match error {
+        Some(message) => errors.add_error(Text::from_static(key), message),
         None => Ok(()),
     }
 }
 
-// What is told in place of a table.
-fn told_in(alloc: Global, told: &Result<ResourceTable, Text>) -> Result<Option<Text>, AllocError>
-    ensures { IfOk result (λ message. message ≡ told_in told.now) }
+// The error, if there is one.
+fn error_of(alloc: Global, read: &Result<ResourceTable, Text>) -> Result<Option<Text>, AllocError>
+    ensures { IfOk result (λ message. message ≡ error_of read.now) }
 {
-    match told {
+    match read {
         Ok(_table) => Ok(None),
         Err(message) => Ok(Some(message.try_clone(alloc)?)),
     }
 }
 
-// What is told of a schema that stands beside fields.
-fn told_beside(body: &Json) -> Option<Text>
-    ensures { result ≡ told_beside (present (codes "schema") body.now) }
+// The error of a schema that is given together with fields.
+fn both_given_error(body: &Json) -> Option<Text>
+    ensures { result ≡ both_given_error (present (codes "schema") body.now) }
 {
     match present(body, "schema") {
         Some(_descriptor) => Some(Text::from_static("Give fields or schema, not both")),
@@ -237,23 +246,23 @@ fn told_beside(body: &Json) -> Option<Text>
     }
 }
 
-// By fields, of which the table or this is told, where that of the key was noted.
+// The table that fields describe, given it or the fields' error. `errors` has the key's error already.
 fn by_fields(
     alloc: Global,
     body: &Json,
-    faults: Faults,
-    told: Result<ResourceTable, Text>,
-) -> Result<Result<ResourceTable, Faults>, AllocError>
-    requires key { faults
-        ≡ noted_if (codes "primary_key") (kind_message (texts_at (codes "primary_key") body.now)) [] }
-    ensures { IfOk result (λ described. result_map_both bare (λ faults. faults) described
+    errors: KeyErrors,
+    read: Result<ResourceTable, Text>,
+) -> Result<Result<ResourceTable, KeyErrors>, AllocError>
+    requires key { errors
+        ≡ error_if (codes "primary_key") (kind_message (texts_at (codes "primary_key") body.now)) [] }
+    ensures { IfOk result (λ described. result_map_both without_room (λ errors. errors) described
         ≡ by_fields (texts_at (codes "primary_key") body.now) (present (codes "schema") body.now)
-        (result_map_both bare (λ message. message) told)) }
+        (result_map_both without_room (λ message. message) read)) }
 {
-    let mut faults = faults;
-    note_if(&mut faults, "fields", told_in(alloc, &told)?)?;
-    note_if(&mut faults, "schema", told_beside(body))?;
-    Ok(sound(faults, told))
+    let mut errors = errors;
+    add_error_if(&mut errors, "fields", error_of(alloc, &read)?)?;
+    add_error_if(&mut errors, "schema", both_given_error(body))?;
+    Ok(unless_errors(errors, read))
 }
 
 fn names_or_none(alloc: Global, read: Option<Option<Seq<Text>>>) -> Seq<Text>
@@ -265,75 +274,75 @@ fn names_or_none(alloc: Global, read: Option<Option<Seq<Text>>>) -> Seq<Text>
     }
 }
 
-// By these columns.
+// The table that these columns describe, or the body's errors.
 fn by_columns(
     alloc: Global,
-    placed: &PlacedResource<'_>,
+    placed: &LocatedResource<'_>,
     tables: &Tables,
     body: &Json,
     items: &[Json],
-) -> Result<Result<ResourceTable, Faults>, AllocError>
-    ensures { IfOk result (λ described. result_map_both bare (λ faults. faults) described
-        ≡ described_new (placed_now placed.now) (tables_in placed.now.dataset.now.id (tables_of tables.now))
+) -> Result<Result<ResourceTable, KeyErrors>, AllocError>
+    ensures { IfOk result (λ described. result_map_both without_room (λ errors. errors) described
+        ≡ described_new (located_now placed.now) (tables_in placed.now.dataset.now.id (tables_of tables.now))
         (Ok (Some items.now)) (texts_at (codes "primary_key") body.now) (present (codes "schema") body.now)) }
 {
-    let mut faults = Faults::new(alloc);
+    let mut errors = KeyErrors::new(alloc);
     let read = texts_at(alloc, body, "primary_key")?;
-    let key = names_or_none(alloc, faults.check(alloc, "primary_key", read)?);
+    let key = names_or_none(alloc, errors.check(alloc, "primary_key", read)?);
     let descriptor = descriptor_of(alloc, items, key.as_slice())?;
-    let told = table_told(alloc, placed, tables, &descriptor)?;
-    by_fields(alloc, body, faults, told)
+    let described = table_of_descriptor(alloc, placed, tables, &descriptor)?;
+    by_fields(alloc, body, errors, described)
 }
 
-// Where `fields` is of another kind.
+// The errors of a body whose `fields` isn't a list.
 fn by_no_list(
     alloc: Global,
     body: &Json,
     why: KindFault,
-) -> Result<Result<ResourceTable, Faults>, AllocError>
-    ensures { IfOk result (λ described. result_map_both bare (λ faults. faults) described
+) -> Result<Result<ResourceTable, KeyErrors>, AllocError>
+    ensures { IfOk result (λ described. result_map_both without_room (λ errors. errors) described
         ≡ by_fields (texts_at (codes "primary_key") body.now) (present (codes "schema") body.now)
         (Err (message_of why))) }
 {
-    let mut faults = Faults::new(alloc);
+    let mut errors = KeyErrors::new(alloc);
     let read = texts_at(alloc, body, "primary_key")?;
-    let _key = faults.check(alloc, "primary_key", read)?;
-    by_fields(alloc, body, faults, Err(why.message(alloc)?))
+    let _key = errors.check(alloc, "primary_key", read)?;
+    by_fields(alloc, body, errors, Err(why.message(alloc)?))
 }
 
-// By a descriptor alone.
+// The table that a descriptor describes without fields, or the body's errors.
 fn by_schema(
     alloc: Global,
-    placed: &PlacedResource<'_>,
+    placed: &LocatedResource<'_>,
     tables: &Tables,
     body: &Json,
-) -> Result<Result<ResourceTable, Faults>, AllocError>
-    ensures { IfOk result (λ described. result_map_both bare (λ faults. faults) described
-        ≡ described_new (placed_now placed.now) (tables_in placed.now.dataset.now.id (tables_of tables.now))
+) -> Result<Result<ResourceTable, KeyErrors>, AllocError>
+    ensures { IfOk result (λ described. result_map_both without_room (λ errors. errors) described
+        ≡ described_new (located_now placed.now) (tables_in placed.now.dataset.now.id (tables_of tables.now))
         (Ok None) (texts_at (codes "primary_key") body.now) (present (codes "schema") body.now)) }
 {
-    let mut faults = Faults::new(alloc);
+    let mut errors = KeyErrors::new(alloc);
     let Some(descriptor) = present(body, "schema") else {
-        faults.note(
+        errors.add_error(
             Text::from_static("fields"),
             Text::from_static("Missing value"),
         )?;
-        return Ok(Err(faults));
+        return Ok(Err(errors));
     };
-    let told = table_told(alloc, placed, tables, descriptor)?;
-    note_if(&mut faults, "schema", told_in(alloc, &told)?)?;
-    Ok(sound(faults, told))
+    let described = table_of_descriptor(alloc, placed, tables, descriptor)?;
+    add_error_if(&mut errors, "schema", error_of(alloc, &described)?)?;
+    Ok(unless_errors(errors, described))
 }
 
-/// The new table that a body describes, without rows, or what is told of it.
+/// The new table, without rows, that a body describes, or the body's errors.
 pub(crate) fn described_new(
     alloc: Global,
-    placed: &PlacedResource<'_>,
+    placed: &LocatedResource<'_>,
     tables: &Tables,
     body: &Json,
-) -> Result<Result<ResourceTable, Faults>, AllocError>
-    ensures { IfOk result (λ described. result_map_both bare (λ faults. faults) described
-        ≡ described_in (placed_now placed.now) (tables_in placed.now.dataset.now.id (tables_of tables.now))
+) -> Result<Result<ResourceTable, KeyErrors>, AllocError>
+    ensures { IfOk result (λ described. result_map_both without_room (λ errors. errors) described
+        ≡ described_table (located_now placed.now) (tables_in placed.now.dataset.now.id (tables_of tables.now))
         body.now None) }
 {
     match list_at(body, "fields") {
@@ -343,7 +352,7 @@ pub(crate) fn described_new(
     }
 }
 
-// ---- a table that is there
+// ---- an existing table
 
 fn type_shown(name: &str) -> &str
     ensures { result.now ≡ type_shown name.now }
@@ -351,7 +360,7 @@ fn type_shown(name: &str) -> &str
     if name == "float" { "numeric" } else { name }
 }
 
-// Whether the column has that name.
+// Whether the column has this name.
 fn is_named(item: &Json, name: &Text) -> bool
     ensures { result ≡ is_name name.now (text_at (codes "id") item.now) }
 {
@@ -361,7 +370,7 @@ fn is_named(item: &Json, name: &Text) -> bool
     }
 }
 
-// Whether the column has the field's name and printed kind.
+// Whether the column has the field's name and type.
 fn is_field(field: &Field, item: &Json) -> bool
     ensures { result ≡ is_field field.now item.now }
 {
@@ -382,15 +391,15 @@ fn are_fields(fields: &[Field], items: &[Json]) -> bool
     true
 }
 
-// Whether the names are those of the fields at these places, in order.
-fn are_names(fields: &[Field], places: &[u32], names: &[Text]) -> bool
-    ensures { result ≡ are_names fields.now places.now names.now }
+// Whether these are the names of the fields with these indices, in order.
+fn are_names(fields: &[Field], indices: &[u32], names: &[Text]) -> bool
+    ensures { result ≡ are_names fields.now indices.now names.now }
 {
-    if places.len() != names.len() {
+    if indices.len() != names.len() {
         return false;
     }
-    for at in 0..places.len() {
-        if name_at(fields, places[at]) != names[at].as_str() {
+    for at in 0..indices.len() {
+        if name_at(fields, indices[at]) != names[at].as_str() {
             return false;
         }
     }
@@ -419,14 +428,14 @@ fn key_fits(schema: &Schema, key: &Result<Option<Seq<Text>>, KindFault>) -> bool
     }
 }
 
-// What is told of fields that are given, and of a key.
-fn fields_told(
+// The error of `fields`, which covers a key that differs from the table's.
+fn fields_error(
     alloc: Global,
     schema: &Schema,
     body: &Json,
     key: &Result<Option<Seq<Text>>, KindFault>,
 ) -> Result<Option<Text>, AllocError>
-    ensures { IfOk result (λ told. told ≡ fields_told schema.now (list_at (codes "fields") body.now) key.now) }
+    ensures { IfOk result (λ error. error ≡ fields_error schema.now (list_at (codes "fields") body.now) key.now) }
 {
     match list_at(body, "fields") {
         Ok(items) => if fields_fit(schema, items) && key_fits(schema, key) {
@@ -438,7 +447,7 @@ fn fields_told(
     }
 }
 
-// Whether the two are written the same.
+// Whether both schemas have the same descriptor text.
 fn is_written_as(alloc: Global, schema: &Schema, read: &Schema) -> Result<bool, AllocError>
     ensures { IfOk result (λ same. same ≡ is_schema schema.now (Ok read.now)) }
 {
@@ -458,9 +467,13 @@ fn is_schema(alloc: Global, schema: &Schema, descriptor: &Json) -> Result<bool, 
     }
 }
 
-// What is told of a descriptor alone.
-fn same_told(alloc: Global, schema: &Schema, descriptor: &Json) -> Result<Option<Text>, AllocError>
-    ensures { IfOk result (λ told. told ≡ descriptor_told schema.now (Ok None) (Some descriptor.now)) }
+// The error of a descriptor that is given without fields.
+fn same_schema_error(
+    alloc: Global,
+    schema: &Schema,
+    descriptor: &Json,
+) -> Result<Option<Text>, AllocError>
+    ensures { IfOk result (λ error. error ≡ descriptor_error schema.now (Ok None) (Some descriptor.now)) }
 {
     if is_schema(alloc, schema, descriptor)? {
         Ok(None)
@@ -469,32 +482,36 @@ fn same_told(alloc: Global, schema: &Schema, descriptor: &Json) -> Result<Option
     }
 }
 
-fn descriptor_told(alloc: Global, schema: &Schema, body: &Json) -> Result<Option<Text>, AllocError>
-    ensures { IfOk result (λ told. told ≡ descriptor_told schema.now (list_at (codes "fields") body.now)
+fn descriptor_error(alloc: Global, schema: &Schema, body: &Json) -> Result<Option<Text>, AllocError>
+    ensures { IfOk result (λ error. error ≡ descriptor_error schema.now (list_at (codes "fields") body.now)
         (present (codes "schema") body.now)) }
 {
     let Some(descriptor) = present(body, "schema") else {
         return Ok(None);
     };
     match list_at(body, "fields") {
-        Ok(None) => same_told(alloc, schema, descriptor),
+        Ok(None) => same_schema_error(alloc, schema, descriptor),
         _ => Ok(Some(Text::from_static("Give fields or schema, not both"))),
     }
 }
 
-/// What a body tells of a table of this schema that is there.
-pub(crate) fn told_of_there(
+/// The errors of a body for an existing table with this schema.
+pub(crate) fn existing_table_errors(
     alloc: Global,
     schema: &Schema,
     body: &Json,
-) -> Result<Faults, AllocError>
-    ensures { IfOk result (λ faults. faults ≡ told_of_there schema.now body.now) }
+) -> Result<KeyErrors, AllocError>
+    ensures { IfOk result (λ errors. errors ≡ existing_table_errors schema.now body.now) }
 {
-    let mut faults = Faults::new(alloc);
+    let mut errors = KeyErrors::new(alloc);
     let key = texts_at(alloc, body, "primary_key")?;
-    let told = fields_told(alloc, schema, body, &key)?;
-    let _key = faults.check(alloc, "primary_key", key)?;
-    note_if(&mut faults, "fields", told)?;
-    note_if(&mut faults, "schema", descriptor_told(alloc, schema, body)?)?;
-    Ok(faults)
+    let error = fields_error(alloc, schema, body, &key)?;
+    let _key = errors.check(alloc, "primary_key", key)?;
+    add_error_if(&mut errors, "fields", error)?;
+    add_error_if(
+        &mut errors,
+        "schema",
+        descriptor_error(alloc, schema, body)?,
+    )?;
+    Ok(errors)
 }

@@ -1,11 +1,11 @@
-//! The dictionaries in which replies show tables.
+//! The dictionaries that describe tables in replies.
 ghost use Rattle.std.specs.Prelude.{◌≡◌, map, IfOk};
 ghost use Rattle.portal_base.specs.declared.json_value.Json.{Json};
 ghost use Rattle.portal_base.specs.declared.json_value.Json as json;
 ghost use Rattle.table_schema.specs.Written.{name_at, names_value};
 ghost use Rattle.datastore_answers.specs.Dictionary.{type_name, field_dictionary, fields_shown, key_shown};
-ghost use Rattle.datastore_answers.specs.Dictionary.{create_dictionary, cut_dictionary, description_dictionary};
-ghost use Rattle.datastore_answers.specs.Dictionary.{gone_dictionary};
+ghost use Rattle.datastore_answers.specs.Dictionary.{create_dictionary, delete_rows_dictionary, description_dictionary};
+ghost use Rattle.datastore_answers.specs.Dictionary.{delete_dictionary};
 ghost use Rattle.datastore_answers.specs.Dictionary.{info_dictionary, meta_dictionary, method_name};
 ghost use Rattle.datastore_answers.specs.Dictionary.{upsert_dictionary};
 
@@ -64,22 +64,22 @@ pub(crate) fn fields_json(alloc: Global, schema: &Schema) -> Result<Json, AllocE
     Ok(Json::List(field_list(alloc, schema.fields().as_slice())?))
 }
 
-/// The name of the field at the place, or nothing where there is none.
-pub(crate) fn name_at(fields: &[Field], place: u32) -> &str
-    ensures { result.now ≡ name_at fields.now place }
+/// The name of the field with this index, or the empty text if there is none.
+pub(crate) fn name_at(fields: &[Field], index: u32) -> &str
+    ensures { result.now ≡ name_at fields.now index }
 {
-    match fields.get(place as usize) {
+    match fields.get(index as usize) {
         Some(field) => field.name().as_str(),
         None => "",
     }
 }
 
-fn names_at(alloc: Global, fields: &[Field], places: &[u32]) -> Result<Json, AllocError>
-    ensures { IfOk result (λ json. json ≡ names_value fields.now places.now) }
+fn names_at(alloc: Global, fields: &[Field], indices: &[u32]) -> Result<Json, AllocError>
+    ensures { IfOk result (λ json. json ≡ names_value fields.now indices.now) }
 {
-    let mut list = Vec::with_capacity(alloc, places.len())?;
-    for place in places {
-        let name = Text::from_str(alloc, name_at(fields, *place))?;
+    let mut list = Vec::with_capacity(alloc, indices.len())?;
+    for column in indices {
+        let name = Text::from_str(alloc, name_at(fields, *column))?;
         list.push(Json::Text(name))?;
     }
     Ok(Json::List(Seq::from(list)))
@@ -104,7 +104,7 @@ fn meta_json(alloc: Global, count: usize, key: Json) -> Result<Json, AllocError>
     )
 }
 
-/// A table: its fields, how many rows it has, and its key.
+/// A table: its fields, the count of its rows, and its key.
 pub(crate) fn info_json(alloc: Global, table: &ResourceTable) -> Result<Json, AllocError>
     ensures { IfOk result (λ json. json ≡ info_dictionary table.now) }
 {
@@ -136,7 +136,8 @@ fn description_json(
     )
 }
 
-/// A table of the resource of that id that was made, or that is there.
+/// The reply to the creation of a table, or to records for an existing one: the id of its resource, its fields and
+/// its key.
 pub(crate) fn create_json(
     alloc: Global,
     resource: Text,
@@ -159,7 +160,7 @@ fn method_name(method: Method) -> &'static str
     }
 }
 
-/// A batch that was put into the table of the resource of that id.
+/// The reply to records for the table of the resource with this id.
 pub(crate) fn upsert_json(
     alloc: Global,
     resource: Text,
@@ -178,16 +179,20 @@ pub(crate) fn upsert_json(
     )
 }
 
-/// A table that is gone, of the resource of that id.
-pub(crate) fn gone_json(alloc: Global, resource: Text) -> Result<Json, AllocError>
-    ensures { IfOk result (λ json. json ≡ gone_dictionary resource) }
+/// The reply to the deletion of the table of the resource with this id.
+pub(crate) fn delete_json(alloc: Global, resource: Text) -> Result<Json, AllocError>
+    ensures { IfOk result (λ json. json ≡ delete_dictionary resource) }
 {
     Json::dictionary(alloc, [("resource_id", Value::Json(Json::Text(resource)))])
 }
 
-/// So many rows that are gone of the table of the resource of that id.
-pub(crate) fn cut_json(alloc: Global, count: usize, resource: Text) -> Result<Json, AllocError>
-    ensures { IfOk result (λ json. json ≡ cut_dictionary count resource) }
+/// The reply to the deletion of this count of rows from the table of the resource with this id.
+pub(crate) fn delete_rows_json(
+    alloc: Global,
+    count: usize,
+    resource: Text,
+) -> Result<Json, AllocError>
+    ensures { IfOk result (λ json. json ≡ delete_rows_dictionary count resource) }
 {
     Json::dictionary(
         alloc,

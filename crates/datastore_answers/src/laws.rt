@@ -1,53 +1,53 @@
 //! Laws of the answers: functions with an empty body, whose contracts are the laws.
 ghost use Rattle.std.specs.Prelude.{◌≡◌, List, ℕ, [], false};
 ghost use Rattle.packages.specs.declared.package.Resource.{Resource};
-ghost use Rattle.visibility.specs.Held.{loses_referred};
-ghost use Rattle.visibility.specs.Seen.{Seen};
-ghost use Rattle.datastore_answers.specs.Answered.{AcceptsSuch};
+ghost use Rattle.visibility.specs.TableSummary.{breaks_references};
+ghost use Rattle.visibility.specs.CallView.{CallView};
+ghost use Rattle.datastore_answers.specs.TableAnswers.{TableAcceptsOnly};
 ghost use Rattle.datastore_answers.specs.Answers.{answer_to_datastore_create, answer_to_datastore_delete};
 ghost use Rattle.datastore_answers.specs.Answers.{answer_to_datastore_info};
 ghost use Rattle.datastore_answers.specs.Answers.{answer_to_datastore_delete_rows, answer_to_datastore_upsert};
 ghost use Rattle.datastore_answers.specs.Changed.{TableChange, changed_tables};
 ghost use Rattle.datastore_answers.specs.Fit.{IsFitTable};
-ghost use Rattle.datastore_answers.specs.Holdings.{holdings_of};
-ghost use Rattle.datastore_answers.specs.Kept.{AreKept};
+ghost use Rattle.datastore_answers.specs.Summaries.{summaries_of};
+ghost use Rattle.datastore_answers.specs.Consistent.{AreConsistent};
 ghost use Rattle.datastore_answers.specs.Linked.{AreLinked};
 ghost use Rattle.datastore_answers.specs.Tables.{tables_kept};
-ghost use Rattle.datastore_answers.specs.Told.{Told};
+ghost use Rattle.datastore_answers.specs.Errors.{OrError};
 ghost use Rattle.datastore_answers.specs.declared.resource_table.ResourceTable.{ResourceTable};
 
-/// What the answers accept is fit to be made: the table is that of a resource that is seen and that the caller may
-/// edit; it takes the batch, or goes and no table of another resource refers to it. A new table is that of such a
-/// resource which has none.
+/// Each change that an answer accepts is fit: the caller sees the table's resource and may edit its dataset. The
+/// table accepts the batch, no other table of the dataset references the rows that are deleted from it, or no other
+/// references a table that is deleted. A new table is that of a resource without one.
 pub fn what_is_accepted_is_fit()
-    ensures datastore_create { (seen : Seen) (tables : List ResourceTable) →
-        AcceptsSuch (IsFitTable seen tables) (answer_to_datastore_create seen tables) }
-    ensures datastore_upsert { (seen : Seen) (tables : List ResourceTable) →
-        AcceptsSuch (IsFitTable seen tables) (answer_to_datastore_upsert seen tables) }
-    ensures datastore_delete { (seen : Seen) (tables : List ResourceTable) →
-        AcceptsSuch (IsFitTable seen tables) (answer_to_datastore_delete seen tables) }
-    ensures datastore_delete_rows { (seen : Seen) (tables : List ResourceTable) (found : Told (List ℕ)) →
-        AcceptsSuch (IsFitTable seen tables) (answer_to_datastore_delete_rows seen tables found) }
-    ensures datastore_info { (seen : Seen) (tables : List ResourceTable) →
-        AcceptsSuch (IsFitTable seen tables) (answer_to_datastore_info seen tables) }
+    ensures datastore_create { (view : CallView) (tables : List ResourceTable) →
+        TableAcceptsOnly (IsFitTable view tables) (answer_to_datastore_create view tables) }
+    ensures datastore_upsert { (view : CallView) (tables : List ResourceTable) →
+        TableAcceptsOnly (IsFitTable view tables) (answer_to_datastore_upsert view tables) }
+    ensures datastore_delete { (view : CallView) (tables : List ResourceTable) →
+        TableAcceptsOnly (IsFitTable view tables) (answer_to_datastore_delete view tables) }
+    ensures datastore_delete_rows { (view : CallView) (tables : List ResourceTable) (found : OrError (List ℕ)) →
+        TableAcceptsOnly (IsFitTable view tables) (answer_to_datastore_delete_rows view tables found) }
+    ensures datastore_info { (view : CallView) (tables : List ResourceTable) →
+        TableAcceptsOnly (IsFitTable view tables) (answer_to_datastore_info view tables) }
 {}
 
-/// And what reads accepts nothing.
+/// A reading accepts no change.
 pub fn a_reading_accepts_nothing()
-    ensures { (seen : Seen) (tables : List ResourceTable) →
-        AcceptsSuch (λ change. ⊥) (answer_to_datastore_info seen tables) }
+    ensures { (view : CallView) (tables : List ResourceTable) →
+        TableAcceptsOnly (λ change. ⊥) (answer_to_datastore_info view tables) }
 {}
 
-/// What is fit to be made keeps the tables: their order, that each one's rows meet its schema, and that each foreign
-/// key finds the table whose key it names, and in each row the row that it refers to. So the answers ask of tables no
-/// more than the changes leave. And where no table that stays refers to one that goes, those of a dataset's resources
-/// that stay are kept.
+/// A fit change keeps the tables consistent: they stay in order, the rows of each meet its schema, each foreign key
+/// references a table whose key it names, and each reference finds its row. So consistent tables meet what the
+/// answers require. If the resources of a dataset that are kept break no reference, their tables stay consistent too.
 pub fn changes_keep_references()
-    ensures kept { (seen : Seen) (tables : List ResourceTable) (change : TableChange) → AreKept tables →
-        IsFitTable seen tables change → AreKept (changed_tables change tables) }
-    ensures linked { (tables : List ResourceTable) → AreKept tables → AreLinked tables }
-    ensures none { AreKept [] }
-    ensures dropped { (tables : List ResourceTable) (dataset : List ℕ) (resources : List Resource) → AreKept tables →
-        loses_referred (holdings_of tables) dataset resources ≡ false →
-        AreKept (tables_kept dataset resources tables) }
+    ensures kept { (view : CallView) (tables : List ResourceTable) (change : TableChange) → AreConsistent tables →
+        IsFitTable view tables change → AreConsistent (changed_tables change tables) }
+    ensures linked { (tables : List ResourceTable) → AreConsistent tables → AreLinked tables }
+    ensures none { AreConsistent [] }
+    ensures dropped { (tables : List ResourceTable) (dataset : List ℕ) (resources : List Resource)
+        → AreConsistent tables →
+        breaks_references (summaries_of tables) dataset resources ≡ false →
+        AreConsistent (tables_kept dataset resources tables) }
 {}

@@ -1,4 +1,4 @@
-//! What calls on the DataStore's tables are answered.
+//! The answers to calls on the DataStore's tables.
 #![tactic(auto)]
 
 pub mod address;
@@ -7,15 +7,15 @@ pub mod answers;
 mod batches;
 pub mod copies;
 mod creation;
+mod deletions;
 mod described;
 pub mod dictionary;
-mod held;
+mod errors;
 pub mod laws;
 pub mod lookup;
-mod meant;
-mod place;
 pub mod plan;
-mod removals;
+mod resolution;
 pub mod resource_table;
+mod table_index;
+mod table_lookup;
 pub mod tables;
-mod told;

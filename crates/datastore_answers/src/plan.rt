@@ -1,19 +1,19 @@
-//! Changes of the tables of resources that were decided on, each with what was prepared for it.
+//! Accepted changes of the tables of resources, each with what was prepared for it.
 use crate::address::Address;
 use crate::resource_table::ResourceTable;
 use datastore_table::{Batch, Method, Removal};
 use portal_base::json_value::Json;
 use portal_base::seq::Seq;
 
-/// A change of the tables of resources. What it changes is data; beside it stands what a table prepared for it.
+/// A change of the tables of resources. The change is data; a prepared batch or removal comes with it.
 #[derive(Drop)]
 pub enum TablePlan {
-    /// A table in place of the one at its address, or a new one.
+    /// Replaces the table at its address, or adds it.
     Create(ResourceTable),
-    /// No table at the address.
+    /// Deletes the table at the address.
     Remove(Address),
-    /// Records put into the table at the address, by this batch.
+    /// Puts the records into the table at the address, by this batch.
     Put(Address, Method, Seq<Json>, Batch),
-    /// Rows taken out of the table at the address.
-    Cut(Address, Removal),
+    /// Deletes rows from the table at the address.
+    DeleteRows(Address, Removal),
 }

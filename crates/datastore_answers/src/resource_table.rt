@@ -7,8 +7,8 @@ use portal_base::seq::Seq;
 #[derive(Drop)]
 pub struct ResourceTable {
     pub address: Address,
-    /// The numbers of the resources of the same dataset that the table's foreign keys mean, in the schema's order. A
-    /// reference of the table to itself means its own.
-    pub means: Seq<u32>,
+    /// The numbers of the resources of the same dataset that the table's foreign keys reference, in the schema's
+    /// order. A reference of the table to itself has its own number.
+    pub targets: Seq<u32>,
     pub table: Table,
 }

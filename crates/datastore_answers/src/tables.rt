@@ -1,16 +1,16 @@
-//! The tables of resources as one value, with look-ups by dataset and number, and changes that take no memory.
+//! The tables of resources as one value, with look-ups by dataset and number, and changes that don't allocate.
 ghost use Rattle.std.specs.Prelude.{◌≡◌, [], IsTrue, OnOk, option_map, option_copied};
-ghost use Rattle.portal_base.specs.Ordered.{dropped, found, placed};
-ghost use Rattle.datastore_answers.specs.Changed.{changed_tables, cut_from, put_into, with_table_at};
+ghost use Rattle.portal_base.specs.Ordered.{dropped, found, upserted};
+ghost use Rattle.datastore_answers.specs.Changed.{changed_tables, without_rows, put_into, with_table_at};
 ghost use Rattle.datastore_answers.specs.Order.{at_address, table_cmp};
-ghost use Rattle.datastore_answers.specs.Plan.{IsCutReady, IsPutReady, IsReadyPlan, change_of};
-ghost use Rattle.datastore_answers.specs.Tables.{bare, table_at, tables_in, tables_kept, tables_of};
+ghost use Rattle.datastore_answers.specs.Plan.{IsRemovalReady, IsPutReady, IsReadyPlan, change_of};
+ghost use Rattle.datastore_answers.specs.Tables.{without_room, table_at, tables_in, tables_kept, tables_of};
 
 use crate::address::Address;
-use crate::held::is_among;
-use crate::place::{place_at, places_in};
 use crate::plan::TablePlan;
 use crate::resource_table::ResourceTable;
+use crate::table_index::{find_index, find_range};
+use crate::table_lookup::is_among;
 use datastore_table::{Batch, Method, Removal};
 use packages::package::Resource;
 use portal_base::json_value::Json;
@@ -20,8 +20,8 @@ use portal_base::text::Text;
 use std::alloc::{AllocError, Global};
 use std::marker::Model;
 
-/// The tables of resources. A contract sees their list, which ascends by dataset and number, and whether one more
-/// fits without memory.
+/// The tables of resources. A contract sees the list of the tables, which ascends by dataset and number, and whether
+/// there is room for one more without allocation.
 #[derive(Drop)]
 pub struct Tables {
     pub(crate) tables: Vec<ResourceTable>,
@@ -44,7 +44,7 @@ impl Model for Tables {
 }
 
 impl Tables {
-    /// No tables. It takes no memory.
+    /// No tables. It doesn't allocate.
     pub fn new(alloc: Global) -> Tables
         ensures { result.tables ≡ [] }
     {
@@ -53,16 +53,16 @@ impl Tables {
         }
     }
 
-    /// The table of the dataset's resource of this number.
+    /// The table of the dataset's resource with this number.
     #[tactic(auto, using(crate::proofs::TableLemmas::table_found))]
     pub fn get(&self, dataset: &Text, number: u32) -> Option<&ResourceTable>
-        ensures table { option_map bare (option_copied result)
+        ensures table { option_map without_room (option_copied result)
             ≡ table_at number (tables_in dataset.now (tables_of self.now)) }
         ensures found { option_copied result
             ≡ found (at_address (record { dataset = dataset.now; number = number })) self.now.tables }
     {
-        match place_at(self.tables.as_slice(), dataset, number) {
-            Some(place) => Some(&self.tables[place]),
+        match find_index(self.tables.as_slice(), dataset, number) {
+            Some(index) => Some(&self.tables[index]),
             None => None,
         }
     }
@@ -75,8 +75,8 @@ impl Tables {
         reserve(&mut self.tables)
     }
 
-    /// Makes a change that is ready, as it is where nothing changed since it was planned and there is room for one
-    /// more table. It takes no memory and can't fail.
+    /// Makes a change that is ready: nothing has changed since it was planned, and there is room for one more table.
+    /// It doesn't allocate and can't fail.
     pub fn commit(&mut self, plan: TablePlan)
         requires ready { IsReadyPlan plan self.old }
         ensures { tables_of self.new ≡ changed_tables (change_of plan) (tables_of self.old) }
@@ -87,62 +87,62 @@ impl Tables {
             TablePlan::Put(address, method, records, batch) => {
                 self.put(&address, method, &records, batch)
             }
-            TablePlan::Cut(address, removal) => self.cut(&address, removal),
+            TablePlan::DeleteRows(address, removal) => self.delete_rows(&address, removal),
         }
     }
 
-    /// Drops the dataset's tables but those of these resources. It takes no memory.
+    /// Keeps, of the dataset's tables, only those of these resources. It doesn't allocate.
     pub fn keep(&mut self, dataset: &Text, resources: &[Resource])
         ensures { tables_of self.new ≡ tables_kept dataset.now resources.now (tables_of self.old) }
     {
-        let (from, to) = places_in(self.tables.as_slice(), dataset);
-        for place in (from..to).rev() {
-            if !is_among(resources, self.tables[place].address.number) {
-                self.tables.remove(place);
+        let (from, to) = find_range(self.tables.as_slice(), dataset);
+        for at in (from..to).rev() {
+            if !is_among(resources, self.tables[at].address.number) {
+                self.tables.remove(at);
             }
         }
     }
 
-    // Sets a table at its address.
-    #[tactic(auto, using(crate::proofs::TableLemmas::placed_bare))]
+    // Replaces the table at its address, or adds it.
+    #[tactic(auto, using(crate::proofs::TableLemmas::placed_without_room))]
     fn set(&mut self, table: ResourceTable)
         requires room { IsTrue self.old.room }
-        ensures { tables_of self.new ≡ placed table_cmp (bare table) (tables_of self.old) }
+        ensures { tables_of self.new ≡ upserted table_cmp (without_room table) (tables_of self.old) }
     {
         replace_or_put(&mut self.tables, table);
     }
 
-    // Drops the table at the address.
-    #[tactic(auto, using(crate::proofs::TableLemmas::dropped_bare))]
+    // Deletes the table at the address.
+    #[tactic(auto, using(crate::proofs::TableLemmas::dropped_without_room))]
     fn remove(&mut self, address: &Address)
         ensures { tables_of self.new ≡ dropped (at_address address.now) (tables_of self.old) }
     {
         drop_at(&mut self.tables, address);
     }
 
-    // Makes a batch of these records in the table at the address.
+    // Commits a batch of these records in the table at the address.
     fn put(&mut self, address: &Address, _method: Method, _records: &Seq<Json>, batch: Batch)
         requires ready { IsPutReady address.now _method _records.now batch self.old }
         ensures { tables_of self.new
             ≡ with_table_at address.now (put_into _method _records.now) (tables_of self.old) }
     {
-        match place_at(self.tables.as_slice(), &address.dataset, address.number) {
-            Some(place) => {
-                let table = &mut self.tables[place];
+        match find_index(self.tables.as_slice(), &address.dataset, address.number) {
+            Some(index) => {
+                let table = &mut self.tables[index];
                 table.table.commit(batch);
             }
             None => unreachable!(),
         }
     }
 
-    // Takes rows out of the table at the address.
-    fn cut(&mut self, address: &Address, removal: Removal)
-        requires ready { IsCutReady address.now removal.ids self.old }
-        ensures { tables_of self.new ≡ with_table_at address.now (cut_from removal.ids) (tables_of self.old) }
+    // Commits a deletion of rows from the table at the address.
+    fn delete_rows(&mut self, address: &Address, removal: Removal)
+        requires ready { IsRemovalReady address.now removal.ids self.old }
+        ensures { tables_of self.new ≡ with_table_at address.now (without_rows removal.ids) (tables_of self.old) }
     {
-        match place_at(self.tables.as_slice(), &address.dataset, address.number) {
-            Some(place) => {
-                let table = &mut self.tables[place];
+        match find_index(self.tables.as_slice(), &address.dataset, address.number) {
+            Some(index) => {
+                let table = &mut self.tables[index];
                 table.table.commit_delete(removal);
             }
             None => unreachable!(),

@@ -1,4 +1,4 @@
--- The dictionaries in which organizations, roles and users are shown, with keys that ascend by bytes.
+-- The dictionaries of organizations, roles and users, with keys that ascend by bytes.
 use Rattle.std.specs.Prelude.{ℕ, pos, List, [], ◌∷◌, codes}
 use Rattle.portal_base.specs.MomentText.{moment_text}
 use Rattle.portal_base.specs.declared.json_value.Json.{Json}
@@ -8,16 +8,16 @@ use Rattle.org_roles.specs.declared.entry.Org.{Org}
 use Rattle.org_roles.specs.declared.role.Role.{Role}
 use Rattle.org_roles.specs.declared.role.Role.TheVariants.{Member, Editor, Admin}
 use Rattle.packages.specs.declared.package.Package.{Package}
-use Rattle.visibility.specs.View.{count_of_open}
+use Rattle.visibility.specs.View.{public_count}
 
--- an organization, with how many of these datasets are its own and open to all
+-- an organization, with the count of its public datasets among these
 abbrev pub organization_dictionary : List Package → Org → Json
 organization_dictionary datasets org = json.Map (
     (codes "created", json.Text (moment_text org.created))
     ∷ (codes "description", json.Text org.description)
     ∷ (codes "id", json.Text org.name)
     ∷ (codes "name", json.Text org.name)
-    ∷ (codes "package_count", json.Whole (pos (count_of_open org.name datasets)))
+    ∷ (codes "package_count", json.Whole (pos (public_count org.name datasets)))
     ∷ (codes "title", json.Text org.title)
     ∷ (codes "type", json.Text (codes "organization"))
     ∷ [])

@@ -1,4 +1,4 @@
 pub mod Answers
+pub mod Bodies
 pub mod Dictionary
 pub mod Fit
-pub mod Told

@@ -1,8 +1,8 @@
-//! The dictionaries in which organizations, roles and users are shown.
+//! The dictionaries of organizations, roles and users.
 ghost use Rattle.std.specs.Prelude.{◌≡◌, IfOk};
 ghost use Rattle.organization_answers.specs.Dictionary.{role_name, organization_dictionary, capacity_dictionary};
 ghost use Rattle.organization_answers.specs.Dictionary.{member_dictionary, member_entry};
-ghost use Rattle.visibility.specs.Seen.{seen_by};
+ghost use Rattle.visibility.specs.CallView.{context_view};
 
 use org_roles::entry::{Membership, Org};
 use org_roles::role::Role;
@@ -12,9 +12,9 @@ use portal_base::json_value::Json;
 use portal_base::seq::Seq;
 use portal_base::text::Text;
 use std::alloc::{AllocError, Global};
-use visibility::asked::Asked;
+use visibility::context::CallContext;
 
-/// How a role is written.
+/// The name of a role.
 pub fn name_of_role(role: Role) -> &'static str
     ensures { result.now ≡ role_name role }
 {
@@ -25,11 +25,15 @@ pub fn name_of_role(role: Role) -> &'static str
     }
 }
 
-/// An organization.
-pub fn organization_json(alloc: Global, asked: &Asked<'_>, org: &Org) -> Result<Json, AllocError>
-    ensures { IfOk result (λ json. json ≡ organization_dictionary (seen_by asked.now).datasets org.now) }
+/// The dictionary of an organization, with the count of its public datasets.
+pub fn organization_json(
+    alloc: Global,
+    context: &CallContext<'_>,
+    org: &Org,
+) -> Result<Json, AllocError>
+    ensures { IfOk result (λ json. json ≡ organization_dictionary (context_view context.now).datasets org.now) }
 {
-    let count = asked.count_of_open(&org.name);
+    let count = context.public_count(&org.name);
     Json::dictionary(
         alloc,
         [
@@ -44,7 +48,7 @@ pub fn organization_json(alloc: Global, asked: &Asked<'_>, org: &Org) -> Result<
     )
 }
 
-/// An organization with the caller's capacity in it.
+/// The dictionary of an organization with the caller's capacity in it.
 pub fn capacity_json(alloc: Global, org: &Org, role: Role) -> Result<Json, AllocError>
     ensures { IfOk result (λ json. json ≡ capacity_dictionary org.now role) }
 {
@@ -59,7 +63,7 @@ pub fn capacity_json(alloc: Global, org: &Org, role: Role) -> Result<Json, Alloc
     )
 }
 
-/// A user's capacity in an organization.
+/// The dictionary of a user's capacity in an organization.
 pub fn member_json<'a>(
     alloc: Global,
     org: &'a Text,
@@ -78,8 +82,8 @@ pub fn member_json<'a>(
     )
 }
 
-/// A member in the list of an organization's members.
-pub fn entry_of_member(alloc: Global, membership: &Membership) -> Result<Json, AllocError>
+/// A member in the list of an organization's members: the user, the word `user` and the role.
+pub fn member_entry_json(alloc: Global, membership: &Membership) -> Result<Json, AllocError>
     ensures { IfOk result (λ json. json ≡ member_entry membership.now) }
 {
     let mut entry = Vec::with_capacity(alloc, 3)?;

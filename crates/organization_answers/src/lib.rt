@@ -1,8 +1,8 @@
-//! What calls on organizations, their members and users are answered.
+//! The answers to calls on organizations, their members and users.
 #![tactic(auto)]
 
 pub mod answers;
+mod bodies;
 mod dictionary;
 pub mod laws;
 mod lists;
-mod told;

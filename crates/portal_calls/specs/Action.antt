@@ -56,11 +56,11 @@ all_actions =
     ∷ DatastoreSearch ∷ DatastoreInfo
     ∷ []
 
--- the action of that name
+-- The action of that name. None where no action has it.
 abbrev pub action_named : List ℕ → Option Action
 action_named name = find (λ a. bytes_eq (action_name a) name) all_actions
 
--- Whether the action shows and changes nothing, whoever calls.
+-- Whether the action only reads, whoever calls it.
 abbrev pub is_reading : Action → Bool
 is_reading PackageCreate = false
 is_reading PackageUpdate = false

@@ -2,7 +2,7 @@
 ghost use Rattle.std.specs.Prelude.{◌≡◌};
 ghost use Rattle.portal_calls.specs.Action.{action_name, action_named, is_reading};
 
-/// What a call asks for.
+/// An action of the API.
 #[derive(Clone, Copy, Debug, PartialEq, Eq)]
 pub enum Action {
     PackageCreate,
@@ -98,7 +98,7 @@ impl Action {
         }
     }
 
-    /// The action of that name.
+    /// The action of that name. `None` where no action has it.
     pub fn named(name: &str) -> Option<Action>
         ensures { result ≡ action_named name.now }
     {
@@ -108,7 +108,7 @@ impl Action {
             .find(|action| action.name() == name)
     }
 
-    /// Whether it shows and changes nothing, whoever calls.
+    /// Whether the action only reads, whoever calls it.
     pub fn is_reading(self) -> bool
         ensures { result ≡ is_reading self }
     {

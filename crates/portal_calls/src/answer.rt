@@ -1,12 +1,12 @@
-//! Answers to calls, in the order in which refusals are tried: the thing, the right, the rules.
+//! Answers to calls, in the order in which an answer tries its refusals: not found, not authorized, validation.
 ghost use Rattle.std.specs.Prelude.{◌≡◌, IfOk, codes};
 ghost use Rattle.std.specs.Option.{option_copied};
 ghost use Rattle.std.specs.Result.{result_map_both};
-ghost use Rattle.portal_base.specs.Faults.{noted_if};
-ghost use Rattle.portal_calls.specs.Answer.{named_by, at_once, denial_of, quota_told};
+ghost use Rattle.portal_base.specs.KeyErrors.{error_if};
+ghost use Rattle.portal_calls.specs.Answer.{required_text, key_denial, denial_of, quota_error};
 
-use portal_base::faults::Faults;
 use portal_base::json_value::Json;
+use portal_base::key_errors::KeyErrors;
 use portal_base::kinds::{KindFault, text_at};
 use portal_base::seq::Seq;
 use portal_base::text::Text;
@@ -31,19 +31,19 @@ pub enum Right {
     AdministerOrganization,
 }
 
-/// Why an answer refuses a call. A name in use and want of memory aren't among these: what a caller sees doesn't tell
-/// of them.
+/// Why an answer refuses a call. A name in use and out of memory aren't among these: they don't follow from what the
+/// caller sees.
 #[derive(Drop)]
 pub enum Denial {
     /// No such thing is among what the caller sees.
     NotFound(Kind),
     /// The caller sees the thing, and lacks the right.
     NotAuthorized(Right),
-    /// Rules are broken: each key with its message.
+    /// The body breaks rules: each key with its message.
     Validation(Seq<(Text, Text)>),
 }
 
-/// What a call is answered: a reading, a refusal, or a change with the value that tells of it.
+/// The answer to a call: a value that is shown, a refusal, or a change with the value that the reply shows for it.
 #[derive(Drop)]
 pub enum Answer<C> {
     Shown(Json),
@@ -51,16 +51,16 @@ pub enum Answer<C> {
     Accepted(Json, C),
 }
 
-/// Whether a change fits into what its caller may have accepted.
+/// Whether a change fits into its caller's quota of accepted bytes.
 #[derive(Clone, Copy, Debug, PartialEq, Eq)]
 pub enum Quota {
     Left,
     UsedUp,
 }
 
-/// The text by which a key of the body names a thing. A key that is absent or no text has its fault.
-pub fn named_by<'a>(body: &'a Json, key: &str) -> Result<&'a Text, KindFault>
-    ensures { result_map_both (λ text. text.now) (λ fault. fault) result ≡ named_by key.now body.now }
+/// The text at a key of the body that names a thing. It fails where the key is absent or its value is no text.
+pub fn required_text<'a>(body: &'a Json, key: &str) -> Result<&'a Text, KindFault>
+    ensures { result_map_both (λ text. text.now) (λ fault. fault) result ≡ required_text key.now body.now }
 {
     match text_at(body, key) {
         Ok(Some(text)) => Ok(text),
@@ -69,17 +69,17 @@ pub fn named_by<'a>(body: &'a Json, key: &str) -> Result<&'a Text, KindFault>
     }
 }
 
-/// What is told at once of a key that names no thing.
-pub fn at_once(alloc: Global, key: &'static str, fault: KindFault) -> Result<Denial, AllocError>
-    ensures { IfOk result (λ denial. denial ≡ at_once key.now fault) }
+/// The refusal for a key that names no thing: the key's error alone, before any other rule is tried.
+pub fn key_denial(alloc: Global, key: &'static str, fault: KindFault) -> Result<Denial, AllocError>
+    ensures { IfOk result (λ denial. denial ≡ key_denial key.now fault) }
 {
-    let mut told = Vec::with_capacity(alloc, 1)?;
-    told.push((Text::from_static(key), fault.message(alloc)?))?;
-    Ok(Denial::Validation(Seq::from(told)))
+    let mut errors = Vec::with_capacity(alloc, 1)?;
+    errors.push((Text::from_static(key), fault.message(alloc)?))?;
+    Ok(Denial::Validation(Seq::from(errors)))
 }
 
-/// What is told of broken rules, if any are.
-pub fn denial_of(faults: Faults) -> Option<Denial>
+/// The refusal for broken rules. `None` where none is broken.
+pub fn denial_of(faults: KeyErrors) -> Option<Denial>
     ensures { result ≡ denial_of faults }
 {
     if faults.is_empty() {
@@ -88,15 +88,15 @@ pub fn denial_of(faults: Faults) -> Option<Denial>
     Some(Denial::Validation(faults.into_list()))
 }
 
-/// What is told of the broken rules of a change, of which the quota is one.
-pub fn denial_by(quota: Quota, faults: Faults) -> Result<Option<Denial>, AllocError>
+/// The refusal for the broken rules of a change, of which the quota is one. `None` where none is broken.
+pub fn denial_with_quota(quota: Quota, faults: KeyErrors) -> Result<Option<Denial>, AllocError>
     ensures { IfOk result (λ denial.
-        denial ≡ denial_of (noted_if (codes "body") (quota_told quota) faults)) }
+        denial ≡ denial_of (error_if (codes "body") (quota_error quota) faults)) }
 {
     let mut faults = faults;
     if quota == Quota::UsedUp {
         let message = Text::from_static("Quota of accepted bytes is used up");
-        faults.note(Text::from_static("body"), message)?;
+        faults.add_error(Text::from_static("body"), message)?;
     }
     Ok(denial_of(faults))
 }

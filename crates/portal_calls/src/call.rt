@@ -1,4 +1,4 @@
-//! Calls: who asks for what, and what was drawn for it.
+//! Calls: the caller, the action with its body, and the moment and nonce that belong to the call.
 use crate::action::Action;
 use portal_base::caller::Caller;
 use portal_base::json_value::Json;
@@ -12,7 +12,7 @@ pub struct Request {
     pub body: Json,
 }
 
-/// A request with its caller, its size in bytes, and the moment and number that were drawn for it.
+/// A request with its caller, its size in bytes, and the moment and the nonce that were drawn for it.
 #[derive(Drop)]
 pub struct Call {
     pub caller: Caller,

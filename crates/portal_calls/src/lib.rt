@@ -1,6 +1,7 @@
-//! What callers ask of a portal and what it answers, as data: actions, calls, refusals, answers.
+//! Calls of a portal and the answers and replies to them, as data: actions, calls, answers, events, replies, refusals.
 #![tactic(auto)]
 
 pub mod action;
 pub mod answer;
 pub mod call;
+pub mod event;

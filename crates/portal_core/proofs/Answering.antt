@@ -1,7 +1,7 @@
 -- What the answer to a call accepts is fit to be made where its caller sees things.
 use Rattle.std.proofs.Common.{◌≡◌, ℕ, List, Option, Some, None, Result, Ok, Err, sym, subst}
 use Rattle.std.specs.Prelude.{codes}
-use Rattle.portal_base.specs.Faults.{Fault}
+use Rattle.portal_base.specs.KeyErrors.{KeyError}
 use Rattle.portal_base.specs.Kinds.{dictionary_at, message_of}
 use Rattle.portal_base.specs.declared.json_value.Json.{Json}
 use Rattle.portal_base.specs.declared.kinds.KindFault.{KindFault}
@@ -10,11 +10,11 @@ use Rattle.datastore_table.specs.declared.row.Row.{Row}
 use Rattle.datastore_query.specs.Query.{QueryValue, query_reading}
 use Rattle.datastore_answers.proofs.FitLemmas.{delete_rows_fit, info_only, on-such, upsert_fit}
 use Rattle.datastore_answers.proofs.FitLemmas.{create_fit as create-table_fit, delete_fit as delete-table_fit}
-use Rattle.datastore_answers.specs.Answered.{AcceptsSuch}
+use Rattle.datastore_answers.specs.TableAnswers.{TableAcceptsOnly}
 use Rattle.datastore_answers.specs.Answers.{id_of}
 use Rattle.datastore_answers.specs.Changed.{TableChange}
 use Rattle.datastore_answers.specs.Fit.{IsFitTable}
-use Rattle.datastore_answers.specs.Holdings.{holdings_of}
+use Rattle.datastore_answers.specs.Summaries.{summaries_of}
 use Rattle.datastore_answers.specs.declared.answer.TableAnswer.{TableAnswer}
 use Rattle.datastore_answers.specs.declared.answer.TableAnswer.TheVariants.{NoTable, Answered}
 use Rattle.datastore_answers.specs.declared.resource_table.ResourceTable.{ResourceTable}
@@ -42,36 +42,36 @@ use Rattle.portal_calls.specs.declared.action.Action.TheVariants.{DatastoreSearc
 use Rattle.portal_calls.specs.declared.answer.Answer.{Answer}
 use Rattle.portal_calls.specs.declared.answer.Answer.TheVariants.{Shown, Refused, Accepted}
 use Rattle.portal_calls.specs.declared.call.Call.{Call}
-use Rattle.visibility.specs.Seen.{Seen}
-use Rattle.portal_core.specs.Answer.{asked_of, answer_to, answer_by, of_people, of_datasets, of_tables}
+use Rattle.visibility.specs.CallView.{CallView}
+use Rattle.portal_core.specs.Answer.{call_view_of, answer_to, answer_for_action, of_people, of_datasets, of_tables}
 use Rattle.portal_core.specs.Fit.{IsFit, IsFitAmong}
-use Rattle.portal_core.specs.Queries.{answer_to_datastore_delete, answer_to_datastore_search, deleting_by}
-use Rattle.portal_core.specs.Queries.{found_among, page_answer, query_for, searching}
-use Rattle.portal_core.specs.SearchBody.{search_in, told_in}
+use Rattle.portal_core.specs.Queries.{answer_to_datastore_delete, answer_to_datastore_search, delete_answer}
+use Rattle.portal_core.specs.Queries.{find_rows_of_resource, page_answer, query_for, search_answer_for_table}
+use Rattle.portal_core.specs.SearchBody.{search_in, search_errors}
 use Rattle.portal_calls.specs.declared.answer.Denial.{Denial}
 use Rattle.portal_core.specs.State.{State}
 use Rattle.portal_core.specs.declared.search_body.Search.{Search}
 use Rattle.portal_core.specs.Change.{Change}
 
-people-fit : (seen : Seen) (tables : List ResourceTable) (answer : Answer OrgChange)
-    → AcceptsOnly (IsFitOrg seen) answer → AcceptsOnly (IsFitAmong seen tables) (of_people answer)
-people-fit seen tables (Shown json) fit = tt
-people-fit seen tables (Refused denial) fit = tt
-people-fit seen tables (Accepted json change) fit = fit
+people-fit : (view : CallView) (tables : List ResourceTable) (answer : Answer OrgChange)
+    → AcceptsOnly (IsFitOrg view) answer → AcceptsOnly (IsFitAmong view tables) (of_people answer)
+people-fit view tables (Shown json) fit = tt
+people-fit view tables (Refused denial) fit = tt
+people-fit view tables (Accepted json change) fit = fit
 
-datasets-fit : (seen : Seen) (tables : List ResourceTable) (answer : Answer DatasetChange)
-    → AcceptsOnly (IsFitDataset seen (holdings_of tables)) answer
-    → AcceptsOnly (IsFitAmong seen tables) (of_datasets answer)
-datasets-fit seen tables (Shown json) fit = tt
-datasets-fit seen tables (Refused denial) fit = tt
-datasets-fit seen tables (Accepted json change) fit = fit
+datasets-fit : (view : CallView) (tables : List ResourceTable) (answer : Answer DatasetChange)
+    → AcceptsOnly (IsFitDataset view (summaries_of tables)) answer
+    → AcceptsOnly (IsFitAmong view tables) (of_datasets answer)
+datasets-fit view tables (Shown json) fit = tt
+datasets-fit view tables (Refused denial) fit = tt
+datasets-fit view tables (Accepted json change) fit = fit
 
-tables-fit : (seen : Seen) (tables : List ResourceTable) (answer : TableAnswer TableChange)
-    → AcceptsSuch (IsFitTable seen tables) answer → AcceptsOnly (IsFitAmong seen tables) (of_tables answer)
-tables-fit seen tables NoTable fit = tt
-tables-fit seen tables (Answered (Shown json)) fit = tt
-tables-fit seen tables (Answered (Refused denial)) fit = tt
-tables-fit seen tables (Answered (Accepted json change)) fit = fit
+tables-fit : (view : CallView) (tables : List ResourceTable) (answer : TableAnswer TableChange)
+    → TableAcceptsOnly (IsFitTable view tables) answer → AcceptsOnly (IsFitAmong view tables) (of_tables answer)
+tables-fit view tables NoTable fit = tt
+tables-fit view tables (Answered (Shown json)) fit = tt
+tables-fit view tables (Answered (Refused denial)) fit = tt
+tables-fit view tables (Answered (Accepted json change)) fit = fit
 
 -- ---- queries
 
@@ -80,59 +80,59 @@ page-only : (P : TableChange → Type 0) (fields : List FieldValue) (rows : List
 page-only P fields rows id search (Ok query) = tt
 page-only P fields rows id search (Err denial) = tt
 
-pub search_only : (P : TableChange → Type 0) (seen : Seen) (tables : List ResourceTable)
-    → AcceptsSuch P (answer_to_datastore_search seen tables)
-search_only P seen tables =
-    on-such P (codes "resource_id") seen tables (searching seen.call.request.body)
-    (λ placed t named there. let body = seen.call.request.body in
+pub search_only : (P : TableChange → Type 0) (view : CallView) (tables : List ResourceTable)
+    → TableAcceptsOnly P (answer_to_datastore_search view tables)
+search_only P view tables =
+    on-such P (codes "resource_id") view tables (search_answer_for_table view.call.request.body)
+    (λ placed t named there. let body = view.call.request.body in
     page-only P t.table.schema.fields t.table.rows (id_of placed) (search_in body)
-    (query_for (query_reading t.table.schema.fields (search_in body).parts) (told_in body)))
+    (query_for (query_reading t.table.schema.fields (search_in body).parts) (search_errors body)))
 
-delete-fit : (seen : Seen) (tables : List ResourceTable)
-    → AcceptsSuch (IsFitTable seen tables) (answer_to_datastore_delete seen tables)
-delete-fit seen tables = by (dictionary_at (codes "filters") seen.call.request.body)
+delete-fit : (view : CallView) (tables : List ResourceTable)
+    → TableAcceptsOnly (IsFitTable view tables) (answer_to_datastore_delete view tables)
+delete-fit view tables = by (dictionary_at (codes "filters") view.call.request.body)
   where
     by : (read : Result (Option (List (List ℕ × Json))) KindFault)
-        → AcceptsSuch (IsFitTable seen tables) (deleting_by seen tables read)
-    by (Ok None) = delete-table_fit seen tables
-    by (Ok (Some filters)) = delete_rows_fit seen tables (found_among seen tables filters)
-    by (Err fault) = delete_rows_fit seen tables (Err (message_of fault))
+        → TableAcceptsOnly (IsFitTable view tables) (delete_answer view tables read)
+    by (Ok None) = delete-table_fit view tables
+    by (Ok (Some filters)) = delete_rows_fit view tables (find_rows_of_resource view tables filters)
+    by (Err fault) = delete_rows_fit view tables (Err (message_of fault))
 
 -- ---- every action
 
-by_action : (action : Action) (seen : Seen) (tables : List ResourceTable)
-    → AcceptsOnly (IsFitAmong seen tables) (answer_by action seen tables)
-by_action PackageCreate seen tables = datasets-fit seen tables _ (create_fit seen (holdings_of tables))
-by_action PackageUpdate seen tables = datasets-fit seen tables _ (update_fit seen (holdings_of tables))
-by_action PackagePatch seen tables = datasets-fit seen tables _ (patch_fit seen (holdings_of tables))
-by_action PackageDelete seen tables = datasets-fit seen tables _ (delete_fit seen (holdings_of tables))
-by_action DatasetPurge seen tables = datasets-fit seen tables _ (purge_fit seen (holdings_of tables))
-by_action PackageShow seen tables = datasets-fit seen tables _
-    (show_only (IsFitDataset seen (holdings_of tables)) seen (holdings_of tables))
-by_action PackageList seen tables = datasets-fit seen tables _ (list_only (IsFitDataset seen (holdings_of tables)) seen)
-by_action ResourceCreate seen tables = datasets-fit seen tables _ (resource_create_fit seen (holdings_of tables))
-by_action ResourceUpdate seen tables = datasets-fit seen tables _ (resource_update_fit seen (holdings_of tables))
-by_action ResourceDelete seen tables = datasets-fit seen tables _ (resource_delete_fit seen (holdings_of tables))
-by_action ResourceShow seen tables = datasets-fit seen tables _
-    (resource_show_only (IsFitDataset seen (holdings_of tables)) seen (holdings_of tables))
-by_action OrganizationCreate seen tables = people-fit seen tables _ (creation-fit seen)
-by_action OrganizationPatch seen tables = people-fit seen tables _ (patch-fit seen)
-by_action OrganizationDelete seen tables = people-fit seen tables _ (removal-fit seen)
-by_action OrganizationShow seen tables = people-fit seen tables _ (show-only (IsFitOrg seen) seen)
-by_action OrganizationList seen tables = people-fit seen tables _ (list-only (IsFitOrg seen) seen)
-by_action OrganizationListForUser seen tables = tt
-by_action OrganizationMemberCreate seen tables = people-fit seen tables _ (member-fit seen)
-by_action OrganizationMemberDelete seen tables = people-fit seen tables _ (former-member-fit seen)
-by_action MemberList seen tables = people-fit seen tables _ (members-only (IsFitOrg seen) seen)
-by_action UserList seen tables = tt
-by_action DatastoreCreate seen tables = tables-fit seen tables _ (create-table_fit seen tables)
-by_action DatastoreUpsert seen tables = tables-fit seen tables _ (upsert_fit seen tables)
-by_action DatastoreDelete seen tables = tables-fit seen tables _ (delete-fit seen tables)
-by_action DatastoreSearch seen tables = tables-fit seen tables _ (search_only (IsFitTable seen tables) seen tables)
-by_action DatastoreInfo seen tables = tables-fit seen tables _ (info_only (IsFitTable seen tables) seen tables)
+by_action : (action : Action) (view : CallView) (tables : List ResourceTable)
+    → AcceptsOnly (IsFitAmong view tables) (answer_for_action action view tables)
+by_action PackageCreate view tables = datasets-fit view tables _ (create_fit view (summaries_of tables))
+by_action PackageUpdate view tables = datasets-fit view tables _ (update_fit view (summaries_of tables))
+by_action PackagePatch view tables = datasets-fit view tables _ (patch_fit view (summaries_of tables))
+by_action PackageDelete view tables = datasets-fit view tables _ (delete_fit view (summaries_of tables))
+by_action DatasetPurge view tables = datasets-fit view tables _ (purge_fit view (summaries_of tables))
+by_action PackageShow view tables = datasets-fit view tables _
+    (show_only (IsFitDataset view (summaries_of tables)) view (summaries_of tables))
+by_action PackageList view tables = datasets-fit view tables _ (list_only (IsFitDataset view (summaries_of tables)) view)
+by_action ResourceCreate view tables = datasets-fit view tables _ (resource_create_fit view (summaries_of tables))
+by_action ResourceUpdate view tables = datasets-fit view tables _ (resource_update_fit view (summaries_of tables))
+by_action ResourceDelete view tables = datasets-fit view tables _ (resource_delete_fit view (summaries_of tables))
+by_action ResourceShow view tables = datasets-fit view tables _
+    (resource_show_only (IsFitDataset view (summaries_of tables)) view (summaries_of tables))
+by_action OrganizationCreate view tables = people-fit view tables _ (creation-fit view)
+by_action OrganizationPatch view tables = people-fit view tables _ (patch-fit view)
+by_action OrganizationDelete view tables = people-fit view tables _ (removal-fit view)
+by_action OrganizationShow view tables = people-fit view tables _ (show-only (IsFitOrg view) view)
+by_action OrganizationList view tables = people-fit view tables _ (list-only (IsFitOrg view) view)
+by_action OrganizationListForUser view tables = tt
+by_action OrganizationMemberCreate view tables = people-fit view tables _ (member-fit view)
+by_action OrganizationMemberDelete view tables = people-fit view tables _ (former-member-fit view)
+by_action MemberList view tables = people-fit view tables _ (members-only (IsFitOrg view) view)
+by_action UserList view tables = tt
+by_action DatastoreCreate view tables = tables-fit view tables _ (create-table_fit view tables)
+by_action DatastoreUpsert view tables = tables-fit view tables _ (upsert_fit view tables)
+by_action DatastoreDelete view tables = tables-fit view tables _ (delete-fit view tables)
+by_action DatastoreSearch view tables = tables-fit view tables _ (search_only (IsFitTable view tables) view tables)
+by_action DatastoreInfo view tables = tables-fit view tables _ (info_only (IsFitTable view tables) view tables)
 
 pub answer_fit : (call : Call) (view : State) → AcceptsOnly (IsFit call view) (answer_to call view)
-answer_fit call view = by_action call.request.action (asked_of call view) view.tables
+answer_fit call view = by_action call.request.action (call_view_of call view) view.tables
 
 -- so is a change that is accepted
 pub accepted_fit : (call : Call) (view : State) (json : Json) (change : Change)

@@ -11,16 +11,16 @@ use Rattle.std.specs.declared.cmp.Ordering.TheVariants.{Equal}
 use Rattle.std.proofs.lemmas.List.Elements.{filter_agree}
 use Rattle.portal_base.specs.declared.caller.Caller.{Caller}
 use Rattle.portal_base.specs.declared.caller.Caller.TheVariants.{Anonymous, Named}
-use Rattle.portal_base.specs.Ordered.{IsAscending, placed, dropped}
+use Rattle.portal_base.specs.Ordered.{IsAscending, upserted, dropped}
 use Rattle.portal_base.proofs.Filtered.{filter-IsIn, filter-filter, IsIn-filter}
-use Rattle.portal_base.proofs.Placed.{filter-dropped_hidden, filter-placed_hidden, IsIn-dropped, IsIn-placed}
+use Rattle.portal_base.proofs.Upserted.{filter-dropped_hidden, filter-upserted_hidden, IsIn-dropped, IsIn-upserted}
 use Rattle.portal_base.proofs.Unique.{IsIn}
 use Rattle.org_roles.specs.Changed.{changed_people}
 use Rattle.org_roles.specs.Order.{org_cmp, membership_cmp, membership_cmp_total}
 use Rattle.org_roles.specs.Order.{org_at, membership_in_org_at, pair_at}
 use Rattle.org_roles.proofs.ChangeLemmas.{users-changed}
 use Rattle.std.proofs.lemmas.Map.Text.{is_eq-slice_cmp}
-use Rattle.org_roles.specs.Peopled.{Peopled, is_sysadmin_in, role_in}
+use Rattle.org_roles.specs.PeopleLists.{PeopleLists, is_sysadmin_in, role_in}
 use Rattle.org_roles.specs.declared.change.OrgChange.{OrgChange}
 use Rattle.org_roles.specs.declared.change.OrgChange.TheVariants.{Create, Patch, Remove, SetRole, DropRole}
 use Rattle.org_roles.proofs.PeopleLemmas.{is_eq-membership_cmp}
@@ -33,11 +33,11 @@ use Rattle.std.proofs.lemmas.Slice.Eq.{bytes_eq-Decides}
 use Rattle.packages.specs.Order.{dataset_cmp, dataset_cmp_total}
 use Rattle.packages.specs.declared.package.Package.{Package}
 use Rattle.visibility.specs.View.{is_called, user_seen, administers, is_role_seen, people_seen, datasets_seen}
-use Rattle.visibility.specs.Visibility.{caller_role, sees_in, is_open_if_harvested}
-use Rattle.visibility.proofs.Viewing.{filter_twice, find-kept, called_by_name}
-use Rattle.visibility.proofs.Viewing.{datasets_seen_twice, is_sysadmin_in_seen, sees_in_seen, people_seen_twice}
+use Rattle.visibility.specs.Visibility.{caller_role, sees_in, is_public_if_harvested}
+use Rattle.visibility.proofs.ViewLemmas.{filter_twice, find-kept, called_by_name}
+use Rattle.visibility.proofs.ViewLemmas.{datasets_seen_twice, is_sysadmin_in_seen, sees_in_seen, people_seen_twice}
 use Rattle.visibility.proofs.VisibilityLemmas.{sees_in-own}
-use Rattle.visibility.proofs.Opening.{own_is_seen}
+use Rattle.visibility.proofs.PublicLemmas.{admin_sees}
 use Rattle.dataset_answers.specs.Changed.{changed_datasets, dataset_at_id}
 use Rattle.dataset_answers.specs.declared.change.DatasetChange.{DatasetChange}
 use Rattle.dataset_answers.specs.declared.change.DatasetChange.TheVariants as dataset
@@ -45,13 +45,13 @@ use Rattle.datastore_answers.specs.Changed.{changed_tables}
 use Rattle.datastore_answers.specs.Order.{table_cmp}
 use Rattle.datastore_answers.specs.Tables.{is_table_among, tables_seen}
 use Rattle.datastore_answers.specs.declared.resource_table.ResourceTable.{ResourceTable}
-use Rattle.visibility.specs.Held.{is_among}
+use Rattle.visibility.specs.TableSummary.{is_among}
 use Rattle.portal_core.proofs.Kept.{dropped-kept, filter-narrower, placed-kept}
 use Rattle.portal_core.proofs.TableViewing.{among-narrower, any-among, any-is, own-id, tables-kept}
 use Rattle.portal_core.specs.Changed.{changed, tables_left}
 use Rattle.portal_core.specs.State.{State}
-use Rattle.portal_core.specs.View.{view_of, is_spent_of}
-use Rattle.portal_core.specs.declared.spent.Spent.{Spent}
+use Rattle.portal_core.specs.View.{view_of, is_own_quota}
+use Rattle.portal_core.specs.declared.quota.QuotaUsed.{QuotaUsed}
 use Rattle.portal_core.specs.Change.{Change, People, Datasets, Tables}
 
 -- ---- datasets
@@ -68,7 +68,7 @@ datasets-kept (dataset.Remove id) p q datasets up same = dropped-kept p q (datas
 -- ---- roles
 
 -- what a test keeps of the changed roles hangs on what it keeps of the roles
-roles-kept : (change : OrgChange) (people : Peopled) (p q : Membership → Bool) → IsAscending membership_cmp people.roles
+roles-kept : (change : OrgChange) (people : PeopleLists) (p q : Membership → Bool) → IsAscending membership_cmp people.roles
     → filter p (filter q people.roles) ≡ filter p people.roles
     → filter p (changed_people change (record people { roles = filter q people.roles })).roles
     ≡ filter p (changed_people change people).roles
@@ -95,7 +95,7 @@ own_found org user m =
     by true a b own = own
 
 -- people of whom the user's own roles are the same
-own-role : (org user : List ℕ) (p q : Peopled) → filter (is_own user) p.roles ≡ filter (is_own user) q.roles
+own-role : (org user : List ℕ) (p q : PeopleLists) → filter (is_own user) p.roles ≡ filter (is_own user) q.roles
     → role_in p org user ≡ role_in q org user
 own-role org user p q same =
     let test : Membership → Bool = λ m. bytes_eq m.org org && bytes_eq m.user user in
@@ -103,35 +103,35 @@ own-role org user p q same =
     (sym (find-kept test (is_own user) (own_found org user) p.roles)
     ∙ ap (find test) same ∙ find-kept test (is_own user) (own_found org user) q.roles)
 
--- ---- the caller's standing
+-- ---- the caller's rights
 
--- what a caller's standing hangs on is the same
-abbrev pub IsSameStanding : Caller → Peopled → Peopled → Type 0
-IsSameStanding caller p q =
+-- what a caller's rights depend on is the same
+abbrev pub HasSameRights : Caller → PeopleLists → PeopleLists → Type 0
+HasSameRights caller p q =
     (is_sysadmin_in p caller ≡ is_sysadmin_in q caller)
     × ((org : List ℕ) → caller_role p caller org ≡ caller_role q caller org)
 
-pub is_sysadmin_in-users : (caller : Caller) (p q : Peopled) → p.users ≡ q.users
+pub is_sysadmin_in-users : (caller : Caller) (p q : PeopleLists) → p.users ≡ q.users
     → is_sysadmin_in p caller ≡ is_sysadmin_in q caller
 is_sysadmin_in-users Anonymous p q same = refl
 is_sysadmin_in-users (Named user) p q same =
     ap (λ (users : List User). list_any (λ u. bytes_eq u.name user && u.sysadmin) users) same
 
 -- the roles after a change hang on the roles alone
-roles-left : (change : OrgChange) (p q : Peopled) → p.roles ≡ q.roles
+roles-left : (change : OrgChange) (p q : PeopleLists) → p.roles ≡ q.roles
     → (changed_people change p).roles ≡ (changed_people change q).roles
 roles-left (Create org) p q same = same
 roles-left (Patch org) p q same = same
 roles-left (Remove name) p q same = ap (dropped (membership_in_org_at name)) same
 roles-left (SetRole org user role) p q same =
-    ap (placed membership_cmp (record { org = org; user = user; role = role })) same
+    ap (upserted membership_cmp (record { org = org; user = user; role = role })) same
 roles-left (DropRole org user) p q same = ap (dropped (pair_at org user)) same
 
 -- and so do the organizations on the organizations
-orgs-left : (change : OrgChange) (p q : Peopled) → p.orgs ≡ q.orgs
+orgs-left : (change : OrgChange) (p q : PeopleLists) → p.orgs ≡ q.orgs
     → (changed_people change p).orgs ≡ (changed_people change q).orgs
-orgs-left (Create org) p q same = ap (placed org_cmp org) same
-orgs-left (Patch org) p q same = ap (placed org_cmp org) same
+orgs-left (Create org) p q same = ap (upserted org_cmp org) same
+orgs-left (Patch org) p q same = ap (upserted org_cmp org) same
 orgs-left (Remove name) p q same = ap (dropped (org_at name)) same
 orgs-left (SetRole org user role) p q same = same
 orgs-left (DropRole org user) p q same = same
@@ -144,21 +144,21 @@ or_left : (a b : Bool) → a ≡ true → (a || b) ≡ true
 or_left a b is = ap (λ c. c || b) is
 
 -- the caller's own roles are seen
-own-kept : (caller : Caller) (people : Peopled)
+own-kept : (caller : Caller) (people : PeopleLists)
     → filter (λ m. is_called caller m.user) (filter (is_role_seen people caller) people.roles)
     ≡ filter (λ m. is_called caller m.user) people.roles
 own-kept caller people =
     filter-narrower (λ m. is_called caller m.user) (is_role_seen people caller) people.roles
     (λ m within own. or_right (administers people caller m.org) (is_called caller m.user) own)
 
-pub caller_role-own : (caller : Caller) (p q : Peopled)
+pub caller_role-own : (caller : Caller) (p q : PeopleLists)
     → filter (λ m. is_called caller m.user) p.roles ≡ filter (λ m. is_called caller m.user) q.roles
     → (org : List ℕ) → caller_role p caller org ≡ caller_role q caller org
 caller_role-own Anonymous p q same org = refl
 caller_role-own (Named user) p q same org = own-role org user p q same
 
 -- what a test keeps of the roles after a change of what the caller sees
-seen-roles_kept : (change : OrgChange) (caller : Caller) (people : Peopled) (p : Membership → Bool)
+seen-roles_kept : (change : OrgChange) (caller : Caller) (people : PeopleLists) (p : Membership → Bool)
     → IsAscending membership_cmp people.roles
     → filter p (filter (is_role_seen people caller) people.roles) ≡ filter p people.roles
     → filter p (changed_people change (people_seen caller people)).roles ≡ filter p (changed_people change people).roles
@@ -168,10 +168,10 @@ seen-roles_kept change caller people p up same =
     (record people { roles = filter (is_role_seen people caller) people.roles }) refl)
     ∙ roles-kept change people p (is_role_seen people caller) up same
 
-pub changed-standing : (change : OrgChange) (caller : Caller) (people : Peopled)
+pub changed-rights : (change : OrgChange) (caller : Caller) (people : PeopleLists)
     → IsAscending membership_cmp people.roles
-    → IsSameStanding caller (changed_people change (people_seen caller people)) (changed_people change people)
-changed-standing change caller people up = (
+    → HasSameRights caller (changed_people change (people_seen caller people)) (changed_people change people)
+changed-rights change caller people up = (
   is_sysadmin_in-users caller (changed_people change (people_seen caller people)) (people_seen caller people)
       (users-changed change (people_seen caller people))
       ∙ is_sysadmin_in_seen caller people
@@ -183,7 +183,7 @@ changed-standing change caller people up = (
 -- ---- what a caller of the own organization doesn't gain by a change of its roles
 
 -- A caller changes roles only in an organization that it administers.
-abbrev pub IsOwnChange : Caller → Peopled → OrgChange → Type 0
+abbrev pub IsOwnChange : Caller → PeopleLists → OrgChange → Type 0
 IsOwnChange caller people (Create org) = Unit {0}
 IsOwnChange caller people (Patch org) = Unit {0}
 IsOwnChange caller people (Remove name) = administers people caller name ≡ true
@@ -216,7 +216,7 @@ in-org org user m = by (bytes_eq m.org org) (bytes_eq m.user user)
     by true false = refl
     by true true = refl
 
-org-role : (org user : List ℕ) (p q : Peopled)
+org-role : (org user : List ℕ) (p q : PeopleLists)
     → filter (λ m. bytes_eq m.org org) p.roles ≡ filter (λ m. bytes_eq m.org org) q.roles
     → role_in p org user ≡ role_in q org user
 org-role org user p q same =
@@ -225,7 +225,7 @@ org-role org user p q same =
     (sym (find-kept test (λ m. bytes_eq m.org org) (in-org org user) p.roles)
     ∙ ap (find test) same ∙ find-kept test (λ m. bytes_eq m.org org) (in-org org user) q.roles)
 
-org-caller_role : (caller : Caller) (org : List ℕ) (p q : Peopled)
+org-caller_role : (caller : Caller) (org : List ℕ) (p q : PeopleLists)
     → filter (λ m. bytes_eq m.org org) p.roles ≡ filter (λ m. bytes_eq m.org org) q.roles
     → caller_role p caller org ≡ caller_role q caller org
 org-caller_role Anonymous org p q same = refl
@@ -247,7 +247,7 @@ turned a b other = by (bytes_eq b a) refl
         let same : bytes_eq a b ≡ true = (bytes_eq-Decides a b).1 (sym ((bytes_eq-Decides b a).0 is)) in
         absurd (cc)
 
-elsewhere : (change : OrgChange) (caller : Caller) (people : Peopled) → IsAscending membership_cmp people.roles
+elsewhere : (change : OrgChange) (caller : Caller) (people : PeopleLists) → IsAscending membership_cmp people.roles
     → IsOwnChange caller people change → (org : List ℕ)
     → (caller_role (changed_people change people) caller org ≡ caller_role people caller org)
     ⊎ (administers people caller org ≡ true)
@@ -274,7 +274,7 @@ elsewhere (SetRole name user role) caller people up own org = by (bytes_eq org n
     by false is =
         let new : Membership = record { org = name; user = user; role = role } in
         inl (org-caller_role caller org (changed_people (SetRole name user role) people) people
-        (filter-placed_hidden membership_cmp membership_cmp_total (λ (m : Membership). bytes_eq m.org org) new
+        (filter-upserted_hidden membership_cmp membership_cmp_total (λ (m : Membership). bytes_eq m.org org) new
         people.roles up (turned org name is) (λ m within like. other-like org m new (turned org name is) like)))
 elsewhere (DropRole name user) caller people up own org = by (bytes_eq org name) refl
   where
@@ -289,13 +289,13 @@ elsewhere (DropRole name user) caller people up own org = by (bytes_eq org name)
         (λ m within like. other-like org m old (turned org name is) like)))
 
 -- the caller is a sysadmin after a change exactly where it was one before
-sysadmin-left : (change : OrgChange) (caller : Caller) (people : Peopled)
+sysadmin-left : (change : OrgChange) (caller : Caller) (people : PeopleLists)
     → is_sysadmin_in (changed_people change people) caller ≡ is_sysadmin_in people caller
 sysadmin-left change caller people =
     is_sysadmin_in-users caller (changed_people change people) people (users-changed change people)
 
 -- no role comes into sight
-role-narrower : (change : OrgChange) (caller : Caller) (people : Peopled) → IsAscending membership_cmp people.roles
+role-narrower : (change : OrgChange) (caller : Caller) (people : PeopleLists) → IsAscending membership_cmp people.roles
     → IsOwnChange caller people change → (m : Membership)
     → is_role_seen (changed_people change people) caller m ≡ true → is_role_seen people caller m ≡ true
 role-narrower change caller people up own m now = by (elsewhere change caller people up own m.org)
@@ -308,8 +308,8 @@ role-narrower change caller people up own m now = by (elsewhere change caller pe
     by (inr admin) = or_left (administers people caller m.org) (is_called caller m.user) admin
 
 -- and no dataset
-sight-narrower : (change : OrgChange) (caller : Caller) (people : Peopled) → IsAscending membership_cmp people.roles
-    → IsOwnChange caller people change → (d : Package) → is_open_if_harvested d ≡ true
+sight-narrower : (change : OrgChange) (caller : Caller) (people : PeopleLists) → IsAscending membership_cmp people.roles
+    → IsOwnChange caller people change → (d : Package) → is_public_if_harvested d ≡ true
     → sees_in (changed_people change people) caller d ≡ true → sees_in people caller d ≡ true
 sight-narrower change caller people up own d harvested now = by (elsewhere change caller people up own d.owner_org)
   where
@@ -317,54 +317,54 @@ sight-narrower change caller people up own d harvested now = by (elsewhere chang
         ⊎ (administers people caller d.owner_org ≡ true) → sees_in people caller d ≡ true
     by (inl same) =
         sym (sees_in-own (changed_people change people) people caller d (sysadmin-left change caller people) same) ∙ now
-    by (inr admin) = own_is_seen people caller d admin harvested
+    by (inr admin) = admin_sees people caller d admin harvested
 
 -- ---- the view
 
-pub is_role_seen-standing : (caller : Caller) (p q : Peopled) → IsSameStanding caller p q → (m : Membership)
+pub is_role_seen-rights : (caller : Caller) (p q : PeopleLists) → HasSameRights caller p q → (m : Membership)
     → is_role_seen p caller m ≡ is_role_seen q caller m
-is_role_seen-standing caller p q same m = rw (same.0, same.1 m.org) refl
+is_role_seen-rights caller p q same m = rw (same.0, same.1 m.org) refl
 
-pub sees_in-standing : (caller : Caller) (p q : Peopled) → IsSameStanding caller p q → (d : Package)
+pub sees_in-rights : (caller : Caller) (p q : PeopleLists) → HasSameRights caller p q → (d : Package)
     → sees_in p caller d ≡ sees_in q caller d
-sees_in-standing caller p q same d = sees_in-own p q caller d same.0 (same.1 d.owner_org)
+sees_in-rights caller p q same d = sees_in-own p q caller d same.0 (same.1 d.owner_org)
 
-abbrev peopled : List User → List Org → List Membership → Peopled
+abbrev peopled : List User → List Org → List Membership → PeopleLists
 peopled users orgs roles = record { users = users; orgs = orgs; roles = roles }
 
 same_people : {us vs : List User} {os ps : List Org} {ms ns : List Membership} → us ≡ vs → os ≡ ps → ms ≡ ns
     → peopled us os ms ≡ peopled vs ps ns
 same_people users orgs roles = rw (users, orgs, roles) refl
 
-people-changed_seen : (change : OrgChange) (caller : Caller) (people : Peopled)
+people-changed_seen : (change : OrgChange) (caller : Caller) (people : PeopleLists)
     → IsAscending membership_cmp people.roles → IsOwnChange caller people change
     → people_seen caller (changed_people change (people_seen caller people))
     ≡ people_seen caller (changed_people change people)
 people-changed_seen change caller people up own =
-    let v : Peopled = people_seen caller people in
-    let standing = changed-standing change caller people up in
+    let v : PeopleLists = people_seen caller people in
+    let rights = changed-rights change caller people up in
     same_people
     (ap (map (user_seen caller)) (users-changed change v)
-    ∙ ap (λ (p : Peopled). p.users) (people_seen_twice caller people)
+    ∙ ap (λ (p : PeopleLists). p.users) (people_seen_twice caller people)
     ∙ sym (ap (map (user_seen caller)) (users-changed change people)))
     (orgs-left change v people refl)
     (filter_agree (is_role_seen (changed_people change v) caller) (is_role_seen (changed_people change people) caller)
-    (is_role_seen-standing caller (changed_people change v) (changed_people change people) standing)
+    (is_role_seen-rights caller (changed_people change v) (changed_people change people) rights)
     (changed_people change v).roles
     ∙ seen-roles_kept change caller people (is_role_seen (changed_people change people) caller) up
     (filter-narrower (is_role_seen (changed_people change people) caller) (is_role_seen people caller) people.roles
     (λ m within now. role-narrower change caller people up own m now)))
 
-datasets-changed_seen : (change : OrgChange) (caller : Caller) (people : Peopled) (datasets : List Package)
+datasets-changed_seen : (change : OrgChange) (caller : Caller) (people : PeopleLists) (datasets : List Package)
     → IsAscending membership_cmp people.roles → IsOwnChange caller people change
-    → ((d : Package) → IsIn d datasets → is_open_if_harvested d ≡ true)
+    → ((d : Package) → IsIn d datasets → is_public_if_harvested d ≡ true)
     → datasets_seen caller (changed_people change (people_seen caller people)) (datasets_seen caller people datasets)
     ≡ datasets_seen caller (changed_people change people) datasets
 datasets-changed_seen change caller people datasets up own harvested =
     filter_agree (sees_in (changed_people change (people_seen caller people)) caller)
     (sees_in (changed_people change people) caller)
-    (sees_in-standing caller (changed_people change (people_seen caller people)) (changed_people change people)
-    (changed-standing change caller people up)) (datasets_seen caller people datasets)
+    (sees_in-rights caller (changed_people change (people_seen caller people)) (changed_people change people)
+    (changed-rights change caller people up)) (datasets_seen caller people datasets)
     ∙ filter-narrower (sees_in (changed_people change people) caller) (sees_in people caller) datasets
     (λ d within now. sight-narrower change caller people up own d (harvested d within) now)
 
@@ -388,20 +388,20 @@ IsOwn caller state (People change) = IsOwnChange caller state.people change
 IsOwn caller state (Datasets change) = IsOwnDatasets caller state change
 IsOwn caller state (Tables change) = Unit {0}
 
-abbrev pub stated : Peopled → List Package → List ResourceTable → List Spent → State
-stated people datasets tables spent =
-    record { people = people; datasets = datasets; tables = tables; spent = spent }
+abbrev pub stated : PeopleLists → List Package → List ResourceTable → List QuotaUsed → State
+stated people datasets tables quota_used =
+    record { people = people; datasets = datasets; tables = tables; quota_used = quota_used }
 
-pub same_state : {p q : Peopled} {ds es : List Package} {us vs : List ResourceTable} {ss ts : List Spent} → p ≡ q
+pub same_state : {p q : PeopleLists} {ds es : List Package} {us vs : List ResourceTable} {ss ts : List QuotaUsed} → p ≡ q
     → ds ≡ es → us ≡ vs → ss ≡ ts → stated p ds us ss ≡ stated q es vs ts
-same_state people datasets tables spent = rw (people, datasets, tables, spent) refl
+same_state people datasets tables quota_used = rw (people, datasets, tables, quota_used) refl
 
 -- ---- tables
 
 -- The tables that are seen after a change of people are among those that were seen.
 people-tables : (change : OrgChange) (caller : Caller) (state : State)
     → IsAscending membership_cmp state.people.roles → IsOwnChange caller state.people change
-    → ((d : Package) → IsIn d state.datasets → is_open_if_harvested d ≡ true)
+    → ((d : Package) → IsIn d state.datasets → is_public_if_harvested d ≡ true)
     → tables_seen (datasets_seen caller (changed_people change (people_seen caller state.people))
     (datasets_seen caller state.people state.datasets))
     (tables_seen (datasets_seen caller state.people state.datasets) state.tables)
@@ -418,17 +418,17 @@ people-tables change caller state roles_up own harvested =
     (filter-IsIn (sees_in state.people caller) d state.datasets was.0
     (sight-narrower change caller state.people roles_up own d (harvested d was.0) was.1))) t now)
 
--- Where a dataset was placed, a table that is seen now was seen, unless it is of that dataset and none of its id was
+-- Where a dataset was inserted, a table that is seen now was seen, unless it is of that dataset and none of its id was
 -- seen.
 placed-among : (caller : Caller) (state : State) (d : Package) (t : ResourceTable)
-    → is_table_among (datasets_seen caller state.people (placed dataset_cmp d state.datasets)) t ≡ true
+    → is_table_among (datasets_seen caller state.people (upserted dataset_cmp d state.datasets)) t ≡ true
     → (bytes_eq t.address.dataset d.id ≡ false) ⊎ IsIdSeen caller state d.id
     → is_table_among (datasets_seen caller state.people state.datasets) t ≡ true
 placed-among caller state d t now known =
     let here = any-is (λ (e : Package). bytes_eq t.address.dataset e.id)
-    (datasets_seen caller state.people (placed dataset_cmp d state.datasets)) now in
-    let there = IsIn-filter (sees_in state.people caller) here.0 (placed dataset_cmp d state.datasets) here.1 in
-    by here.0 here.2 (IsIn-placed dataset_cmp d here.0 state.datasets there.0) there.1 known
+    (datasets_seen caller state.people (upserted dataset_cmp d state.datasets)) now in
+    let there = IsIn-filter (sees_in state.people caller) here.0 (upserted dataset_cmp d state.datasets) here.1 in
+    by here.0 here.2 (IsIn-upserted dataset_cmp d here.0 state.datasets there.0) there.1 known
   where
     before : List Package
     before = datasets_seen caller state.people state.datasets
@@ -456,12 +456,12 @@ left-kept : (change : DatasetChange) (caller : Caller) (state : State) → IsOwn
     (tables_left change state.tables)
 left-kept (dataset.Create d) caller state own =
     let before : List Package = datasets_seen caller state.people state.datasets in
-    let after : List Package = datasets_seen caller state.people (placed dataset_cmp d state.datasets) in
+    let after : List Package = datasets_seen caller state.people (upserted dataset_cmp d state.datasets) in
     filter-narrower (is_table_among after) (is_table_among before) state.tables
     (λ t within now. placed-among caller state d t now (inl (own t within)))
 left-kept (dataset.Replace d) caller state own =
     let before : List Package = datasets_seen caller state.people state.datasets in
-    let after : List Package = datasets_seen caller state.people (placed dataset_cmp d state.datasets) in
+    let after : List Package = datasets_seen caller state.people (upserted dataset_cmp d state.datasets) in
     let keeps : ResourceTable → Bool =
     λ t. not (bytes_eq t.address.dataset d.id) || is_among d.resources t.address.number in
     ap (filter (is_table_among after)) (filter-filter keeps (is_table_among before) state.tables)
@@ -483,13 +483,13 @@ left-kept (dataset.Remove id) caller state own =
 pub changed-seen : (change : Change) (caller : Caller) (state : State)
     → IsAscending membership_cmp state.people.roles → IsAscending dataset_cmp state.datasets
     → IsAscending table_cmp state.tables
-    → ((d : Package) → IsIn d state.datasets → is_open_if_harvested d ≡ true) → IsOwn caller state change
+    → ((d : Package) → IsIn d state.datasets → is_public_if_harvested d ≡ true) → IsOwn caller state change
     → view_of caller (changed change (view_of caller state)) ≡ view_of caller (changed change state)
 changed-seen (People change) caller state roles_up up tables_up harvested own =
     same_state (people-changed_seen change caller state.people roles_up own)
     (datasets-changed_seen change caller state.people state.datasets roles_up own harvested)
     (people-tables change caller state roles_up own harvested)
-    (filter_twice (is_spent_of caller) state.spent)
+    (filter_twice (is_own_quota caller) state.quota_used)
 changed-seen (Datasets change) caller state roles_up up tables_up harvested own =
     let datasets = filter_agree (sees_in (people_seen caller state.people) caller) (sees_in state.people caller)
     (sees_in_seen caller state.people) (changed_datasets change (datasets_seen caller state.people state.datasets))
@@ -499,11 +499,11 @@ changed-seen (Datasets change) caller state roles_up up tables_up harvested own 
     same_state (people_seen_twice caller state.people) datasets
     (ap (λ (ds : List Package). tables_seen ds (tables_left change (tables_seen before state.tables))) datasets
     ∙ left-kept change caller state own)
-    (filter_twice (is_spent_of caller) state.spent)
+    (filter_twice (is_own_quota caller) state.quota_used)
 changed-seen (Tables change) caller state roles_up up tables_up harvested own =
     let before : List Package = datasets_seen caller state.people state.datasets in
     same_state (people_seen_twice caller state.people) (datasets_seen_twice caller state.people state.datasets)
     (ap (λ (ds : List Package). tables_seen ds (changed_tables change (tables_seen before state.tables)))
     (datasets_seen_twice caller state.people state.datasets)
     ∙ tables-kept change before state.tables tables_up)
-    (filter_twice (is_spent_of caller) state.spent)
+    (filter_twice (is_own_quota caller) state.quota_used)

@@ -1,4 +1,4 @@
--- What is fit to be made where a caller sees things is fit to be made where they stand.
+-- A change that is fit on a caller's view is fit on the state.
 use Rattle.std.proofs.lemmas.Map.Views.{any-filter_same}
 use Rattle.std.proofs.Common.{◌≡◌, ◌⊎◌, inl, inr, ℕ, Bool, true, false, ◌&&◌, List, Option, sym, ap, ◌∙◌, subst}
 use Rattle.std.specs.Prelude.{is_some}
@@ -8,11 +8,11 @@ use Rattle.std.proofs.lemmas.Slice.Eq.{bytes_eq-Decides}
 use Rattle.portal_base.proofs.Filtered.{IsIn-filter}
 use Rattle.portal_base.proofs.Unique.{IsIn-Contains, Contains-IsIn}
 use Rattle.portal_base.specs.declared.caller.Caller.{Caller}
-use Rattle.org_roles.specs.Peopled.{Peopled}
+use Rattle.org_roles.specs.PeopleLists.{PeopleLists}
 use Rattle.org_roles.specs.declared.change.OrgChange.{OrgChange}
 use Rattle.org_roles.specs.declared.change.OrgChange.TheVariants.{Create, Patch, Remove, SetRole, DropRole}
 use Rattle.org_roles.specs.declared.role.Role.{Role}
-use Rattle.packages.specs.Named.{Placed}
+use Rattle.packages.specs.Named.{Located}
 use Rattle.packages.specs.declared.package.Package.{Package}
 use Rattle.packages.specs.declared.package.Resource.{Resource}
 use Rattle.packages.proofs.FindLemmas.{list_any-map}
@@ -22,29 +22,29 @@ use Rattle.dataset_answers.specs.Sound.{IsSound}
 use Rattle.dataset_answers.specs.declared.change.DatasetChange.{DatasetChange}
 use Rattle.dataset_answers.specs.declared.change.DatasetChange.TheVariants as dataset
 use Rattle.datastore_table.specs.declared.method.Method.TheVariants as method
-use Rattle.datastore_answers.proofs.SeenLemmas.{beside-seen}
-use Rattle.datastore_answers.specs.Answered.{address_of, tables_beside}
+use Rattle.datastore_answers.proofs.ViewLemmas.{beside-seen}
+use Rattle.datastore_answers.specs.TableAnswers.{address_of, tables_beside}
 use Rattle.datastore_answers.specs.Changed.{TableChange}
 use Rattle.datastore_answers.specs.Changed as table
-use Rattle.datastore_answers.specs.Described.{unfilled}
+use Rattle.datastore_answers.specs.Described.{empty_table}
 use Rattle.datastore_answers.specs.Fit.{IsFitTable, IsOwn}
-use Rattle.datastore_answers.specs.Holdings.{holding_of, holdings_of}
+use Rattle.datastore_answers.specs.Summaries.{summary_of, summaries_of}
 use Rattle.datastore_answers.specs.Linked.{put_among}
-use Rattle.datastore_answers.specs.Meant.{all_meant}
-use Rattle.datastore_answers.specs.Spared.{cut_among, is_referred}
+use Rattle.datastore_answers.specs.Resolution.{resolved_targets}
+use Rattle.datastore_answers.specs.Restrict.{delete_among, is_referenced}
 use Rattle.datastore_answers.specs.Tables.{is_table_among, table_at, tables_seen}
-use Rattle.datastore_answers.specs.Told.{cut_fault, put_fault}
+use Rattle.datastore_answers.specs.Errors.{delete_rows_error, put_error}
 use Rattle.datastore_answers.specs.declared.address.Address.{Address}
 use Rattle.datastore_answers.specs.declared.resource_table.ResourceTable.{ResourceTable}
 use Rattle.organization_answers.specs.Fit.{IsFitOrg, IsAdministered, IsFitRole}
-use Rattle.visibility.specs.Held.{Holding, is_among, loses_referred, means_another}
+use Rattle.visibility.specs.TableSummary.{TableSummary, is_among, breaks_references, refers_outside}
 use Rattle.visibility.specs.View.{people_seen, datasets_seen}
-use Rattle.visibility.specs.Visibility.{is_open_if_harvested, sees_in}
-use Rattle.visibility.proofs.Opening.{has_datasets_administered}
-use Rattle.visibility.proofs.Viewing.{may_edit_in_seen, administers_seen, is_sysadmin_in_seen, is_user_in_seen}
-use Rattle.visibility.proofs.Viewing.{role_in_administered}
+use Rattle.visibility.specs.Visibility.{is_public_if_harvested, sees_in}
+use Rattle.visibility.proofs.PublicLemmas.{has_datasets_administered}
+use Rattle.visibility.proofs.ViewLemmas.{may_edit_in_seen, administers_seen, is_sysadmin_in_seen, is_user_in_seen}
+use Rattle.visibility.proofs.ViewLemmas.{role_in_administered}
 use Rattle.portal_core.proofs.TableViewing.{both, own-id}
-use Rattle.portal_core.specs.Answer.{asked_of}
+use Rattle.portal_core.specs.Answer.{call_view_of}
 use Rattle.portal_core.specs.Fit.{IsFit}
 use Rattle.portal_core.specs.State.{State}
 use Rattle.portal_core.specs.View.{view_of}
@@ -53,21 +53,21 @@ use Rattle.portal_core.specs.Change.{Change, People, Datasets, Tables}
 -- ---- people
 
 administered : (call : Call) (state : State) (org : List ℕ)
-    → IsAdministered (asked_of call (view_of call.caller state)) org → IsAdministered (asked_of call state) org
+    → IsAdministered (call_view_of call (view_of call.caller state)) org → IsAdministered (call_view_of call state) org
 administered call state org own = record {
-  stands = own.stands;
+  exists = own.exists;
   administered = sym (administers_seen call.caller state.people org) ∙ own.administered;
 }
 
 role : (call : Call) (state : State) (org user : List ℕ)
-    → IsFitRole (asked_of call (view_of call.caller state)) org user → IsFitRole (asked_of call state) org user
+    → IsFitRole (call_view_of call (view_of call.caller state)) org user → IsFitRole (call_view_of call state) org user
 role call state org user fit = record {
   own = administered call state org fit.own;
-  user_stands = sym (is_user_in_seen call.caller state.people user) ∙ fit.user_stands;
+  user_exists = sym (is_user_in_seen call.caller state.people user) ∙ fit.user_exists;
 }
 
-people-fit : (change : OrgChange) (call : Call) (state : State) → list_all is_open_if_harvested state.datasets ≡ true
-    → IsFitOrg (asked_of call (view_of call.caller state)) change → IsFitOrg (asked_of call state) change
+people-fit : (change : OrgChange) (call : Call) (state : State) → list_all is_public_if_harvested state.datasets ≡ true
+    → IsFitOrg (call_view_of call (view_of call.caller state)) change → IsFitOrg (call_view_of call state) change
 people-fit (Create org) call state harvested fit = record {
   named = fit.named;
   sysadmin = sym (is_sysadmin_in_seen call.caller state.people) ∙ fit.sysadmin;
@@ -92,18 +92,18 @@ people-fit (DropRole org user) call state harvested fit =
 
 -- ---- datasets
 
--- what is seen stands
-seen-stands : (caller : Caller) (people : Peopled) (datasets : List Package) (d : Package)
+-- a dataset of the view is one of the state
+seen-stands : (caller : Caller) (people : PeopleLists) (datasets : List Package) (d : Package)
     → Contains (datasets_seen caller people datasets) d → Contains datasets d
 seen-stands caller people datasets d seen =
     Contains-IsIn d datasets
     (IsIn-filter (sees_in people caller) d datasets (IsIn-Contains d (datasets_seen caller people datasets) seen)).0
 
 -- organizations are seen as they are
-sound-seen : (caller : Caller) (people : Peopled) (d : Package) → IsSound people d
+sound-seen : (caller : Caller) (people : PeopleLists) (d : Package) → IsSound people d
     → IsSound (people_seen caller people) d
 sound-seen caller people d is = record {
-  made_here = is.made_here;
+  not_harvested = is.not_harvested;
   id = is.id;
   name = is.name;
   org = is.org;
@@ -111,10 +111,10 @@ sound-seen caller people d is = record {
   tags = is.tags;
 }
 
-sound-there : (caller : Caller) (people : Peopled) (d : Package) → IsSound (people_seen caller people) d
+sound-there : (caller : Caller) (people : PeopleLists) (d : Package) → IsSound (people_seen caller people) d
     → IsSound people d
 sound-there caller people d is = record {
-  made_here = is.made_here;
+  not_harvested = is.not_harvested;
   id = is.id;
   name = is.name;
   org = is.org;
@@ -123,55 +123,56 @@ sound-there caller people d is = record {
 }
 
 -- the tables of a dataset that is seen are seen
-loses-seen : (ds : List Package) (tables : List ResourceTable) (id : List ℕ) (resources : List Resource)
+breaks_reference-seen : (ds : List Package) (tables : List ResourceTable) (id : List ℕ) (resources : List Resource)
     → list_any (λ (e : Package). bytes_eq id e.id) ds ≡ true
-    → loses_referred (holdings_of (tables_seen ds tables)) id resources
-    ≡ loses_referred (holdings_of tables) id resources
-loses-seen ds tables id resources seen =
-    list_any-map holding_of test (tables_seen ds tables)
-    ∙ any-filter_same (λ t. test (holding_of t)) (is_table_among ds) true
+    → breaks_references (summaries_of (tables_seen ds tables)) id resources
+    ≡ breaks_references (summaries_of tables) id resources
+breaks_reference-seen ds tables id resources seen =
+    list_any-map summary_of test (tables_seen ds tables)
+    ∙ any-filter_same (λ t. test (summary_of t)) (is_table_among ds) true
     (λ t passes. subst (λ (dataset : List ℕ). list_any (λ (e : Package). bytes_eq dataset e.id) ds ≡ true)
     (sym ((bytes_eq-Decides t.address.dataset id).0 (both _ _ passes).0)) seen) tables
-    ∙ sym (list_any-map holding_of test tables)
+    ∙ sym (list_any-map summary_of test tables)
   where
-    test : Holding → Bool
-    test h = bytes_eq h.dataset id && (is_among resources h.number && means_another resources h.means)
+    test : TableSummary → Bool
+    test h = bytes_eq h.dataset id && (is_among resources h.number && refers_outside resources h.targets)
 
 datasets-fit : (change : DatasetChange) (call : Call) (state : State)
-    → IsFitDataset (asked_of call (view_of call.caller state)) (holdings_of (view_of call.caller state).tables) change
-    → IsFitDataset (asked_of call state) (holdings_of state.tables) change
+    → IsFitDataset (call_view_of call (view_of call.caller state)) (summaries_of (view_of call.caller state).tables)
+    change
+    → IsFitDataset (call_view_of call state) (summaries_of state.tables) change
 datasets-fit (dataset.Create d) call state fit = sound-there call.caller state.people d fit
 datasets-fit (dataset.Replace d) call state fit = record {
   old = fit.old;
-  stood = seen-stands call.caller state.people state.datasets fit.old fit.stood;
+  is_present = seen-stands call.caller state.people state.datasets fit.old fit.is_present;
   id = fit.id;
   name = fit.name;
   sound = λ was. sound-there call.caller state.people d
       (fit.sound (sound-seen call.caller state.people fit.old was));
-  spared = by fit.spared;
+  keeps_references = by fit.keeps_references;
 }
   where
     seen : List Package
     seen = datasets_seen call.caller state.people state.datasets
 
     by : KeepsResources fit.old d
-        ⊎ (loses_referred (holdings_of (tables_seen seen state.tables)) d.id d.resources ≡ false)
-        → KeepsResources fit.old d ⊎ (loses_referred (holdings_of state.tables) d.id d.resources ≡ false)
+        ⊎ (breaks_references (summaries_of (tables_seen seen state.tables)) d.id d.resources ≡ false)
+        → KeepsResources fit.old d ⊎ (breaks_references (summaries_of state.tables) d.id d.resources ≡ false)
     by (inl keeps) = inl keeps
     by (inr none) =
-        inr (sym (loses-seen seen state.tables d.id d.resources
+        inr (sym (breaks_reference-seen seen state.tables d.id d.resources
         (subst (λ (id : List ℕ). list_any (λ (e : Package). bytes_eq id e.id) seen ≡ true) fit.id
-        (own-id fit.old seen (IsIn-Contains fit.old seen fit.stood)))) ∙ none)
+        (own-id fit.old seen (IsIn-Contains fit.old seen fit.is_present)))) ∙ none)
 datasets-fit (dataset.Remove id) call state fit = record {
   old = fit.old;
-  stood = seen-stands call.caller state.people state.datasets fit.old fit.stood;
+  is_present = seen-stands call.caller state.people state.datasets fit.old fit.is_present;
   id = fit.id;
 }
 
 -- ---- tables
 
 -- the tables beside one of a dataset that is seen are seen
-beside-there : (call : Call) (state : State) (placed : Placed)
+beside-there : (call : Call) (state : State) (placed : Located)
     → Contains (datasets_seen call.caller state.people state.datasets) placed.dataset
     → tables_beside placed (view_of call.caller state).tables ≡ tables_beside placed state.tables
 beside-there call state placed stood =
@@ -179,60 +180,60 @@ beside-there call state placed stood =
     (IsIn-Contains placed.dataset (datasets_seen call.caller state.people state.datasets) stood)
 
 own-there : (call : Call) (state : State) (address : Address)
-    → IsOwn (asked_of call (view_of call.caller state)) (view_of call.caller state).tables address
-    → IsOwn (asked_of call state) state.tables address
+    → IsOwn (call_view_of call (view_of call.caller state)) (view_of call.caller state).tables address
+    → IsOwn (call_view_of call state) state.tables address
 own-there call state address own = record {
   placed = own.placed;
-  stood = seen-stands call.caller state.people state.datasets own.placed.dataset own.stood;
+  is_present = seen-stands call.caller state.people state.datasets own.placed.dataset own.is_present;
   here = own.here;
   own = sym (may_edit_in_seen call.caller state.people own.placed.dataset) ∙ own.own;
   table = own.table;
-  stands = ap (table_at own.placed.resource.number) (sym (beside-there call state own.placed own.stood)) ∙ own.stands;
+  exists = ap (table_at own.placed.resource.number) (sym (beside-there call state own.placed own.is_present)) ∙ own.exists;
 }
 
 tables-fit : (change : TableChange) (call : Call) (state : State)
-    → IsFitTable (asked_of call (view_of call.caller state)) (view_of call.caller state).tables change
-    → IsFitTable (asked_of call state) state.tables change
+    → IsFitTable (call_view_of call (view_of call.caller state)) (view_of call.caller state).tables change
+    → IsFitTable (call_view_of call state) state.tables change
 unfolding own-there
 tables-fit (table.Create t) call state fit =
-    let beside = beside-there call state fit.own.placed fit.own.stood in
+    let beside = beside-there call state fit.own.placed fit.own.is_present in
     record {
       own = record {
         placed = fit.own.placed;
-        stood = seen-stands call.caller state.people state.datasets fit.own.placed.dataset fit.own.stood;
+        is_present = seen-stands call.caller state.people state.datasets fit.own.placed.dataset fit.own.is_present;
         named = fit.own.named;
         here = fit.own.here;
         own = sym (may_edit_in_seen call.caller state.people fit.own.placed.dataset) ∙ fit.own.own;
       };
       none = ap (table_at fit.own.placed.resource.number) (sym beside) ∙ fit.none;
       schema = fit.schema;
-      means = fit.means;
-      meant = ap (λ (b : List ResourceTable). all_meant fit.own.placed b fit.schema) (sym beside) ∙ fit.meant;
+      targets = fit.targets;
+      resolved = ap (λ (b : List ResourceTable). resolved_targets fit.own.placed b fit.schema) (sym beside) ∙ fit.resolved;
       records = fit.records;
-      taken = ap (λ (b : List ResourceTable). put_fault (put_among b method.Insert fit.records
-          (unfilled (address_of fit.own.placed) fit.schema fit.means))) (sym beside) ∙ fit.taken;
+      taken = ap (λ (b : List ResourceTable). put_error (put_among b method.Insert fit.records
+          (empty_table (address_of fit.own.placed) fit.schema fit.targets))) (sym beside) ∙ fit.taken;
       made = fit.made;
     }
 tables-fit (table.Remove address) call state fit = record {
   own = own-there call state address fit.own;
-  unreferred = ap (is_referred fit.own.placed.resource.number)
-      (sym (beside-there call state fit.own.placed fit.own.stood)) ∙ fit.unreferred;
+  unreferenced = ap (is_referenced fit.own.placed.resource.number)
+      (sym (beside-there call state fit.own.placed fit.own.is_present)) ∙ fit.unreferenced;
 }
 tables-fit (table.Put address how records) call state fit = record {
   own = own-there call state address fit.own;
-  taken = ap (λ (b : List ResourceTable). put_fault (put_among b how records fit.own.table))
-      (sym (beside-there call state fit.own.placed fit.own.stood)) ∙ fit.taken;
+  taken = ap (λ (b : List ResourceTable). put_error (put_among b how records fit.own.table))
+      (sym (beside-there call state fit.own.placed fit.own.is_present)) ∙ fit.taken;
 }
-tables-fit (table.Cut address ids) call state fit = record {
+tables-fit (table.DeleteRows address ids) call state fit = record {
   own = own-there call state address fit.own;
-  spared = ap (λ (b : List ResourceTable). cut_fault (cut_among b fit.own.placed.resource.number ids fit.own.table))
-      (sym (beside-there call state fit.own.placed fit.own.stood)) ∙ fit.spared;
+  keeps_references = ap (λ (b : List ResourceTable). delete_rows_error (delete_among b fit.own.placed.resource.number ids fit.own.table))
+      (sym (beside-there call state fit.own.placed fit.own.is_present)) ∙ fit.keeps_references;
 }
 
 -- ---- all changes
 
 pub fit_in_state : (change : Change) (call : Call) (state : State)
-    → list_all is_open_if_harvested state.datasets ≡ true
+    → list_all is_public_if_harvested state.datasets ≡ true
     → IsFit call (view_of call.caller state) change → IsFit call state change
 fit_in_state (People change) call state harvested fit = people-fit change call state harvested fit
 fit_in_state (Datasets change) call state harvested fit = datasets-fit change call state fit

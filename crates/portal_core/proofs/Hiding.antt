@@ -14,14 +14,14 @@ use Rattle.std.proofs.lemmas.Slice.Eq.{bytes_eq-Decides}
 use Rattle.portal_base.specs.declared.caller.Caller.{Caller}
 use Rattle.portal_base.specs.declared.caller.Caller.TheVariants.{Anonymous, Named}
 use Rattle.portal_base.specs.declared.json_value.Json.{Json}
-use Rattle.portal_base.specs.Ordered.{IsAscending, placed, dropped}
+use Rattle.portal_base.specs.Ordered.{IsAscending, upserted, dropped}
 use Rattle.portal_base.proofs.Filtered.{IsIn-filter, filter-IsIn, IsAscending-filter}
-use Rattle.portal_base.proofs.Placed.{Contains-placed, placed-Contains_other, Contains-dropped, dropped-Contains}
+use Rattle.portal_base.proofs.Upserted.{Contains-upserted, upserted-Contains_other, Contains-dropped, dropped-Contains}
 use Rattle.portal_base.proofs.Unique.{IsIn, IsIn-Contains, Contains-IsIn, unique}
 use Rattle.org_roles.specs.Changed.{changed_people}
 use Rattle.org_roles.specs.Order.{user_cmp, org_cmp, membership_cmp, pair_at}
 use Rattle.org_roles.specs.Order.{user_cmp_total, org_cmp_total, membership_cmp_total}
-use Rattle.org_roles.specs.Peopled.{Peopled, IsPeopled, role_in}
+use Rattle.org_roles.specs.PeopleLists.{PeopleLists, AreSorted, role_in}
 use Rattle.org_roles.specs.declared.change.OrgChange.{OrgChange}
 use Rattle.org_roles.specs.declared.change.OrgChange.TheVariants.{SetRole, DropRole}
 use Rattle.org_roles.specs.declared.entry.Membership.{Membership}
@@ -38,7 +38,7 @@ use Rattle.dataset_answers.specs.Changed.{dataset_at_id}
 use Rattle.dataset_answers.specs.declared.change.DatasetChange.TheVariants as dataset
 use Rattle.datastore_answers.proofs.FitLemmas.{put_into-address}
 use Rattle.datastore_answers.proofs.KeepLemmas.{at-is}
-use Rattle.datastore_answers.specs.Changed.{TableChange, changed_tables, cut_from, put_into}
+use Rattle.datastore_answers.specs.Changed.{TableChange, changed_tables, without_rows, put_into}
 use Rattle.datastore_answers.specs.Changed as table
 use Rattle.datastore_answers.specs.Order.{at_address, is_at, table_cmp, table_cmp_total}
 use Rattle.datastore_answers.specs.Tables.{is_table_among, tables_kept}
@@ -48,23 +48,23 @@ use Rattle.portal_calls.specs.declared.answer.Answer.{Answer}
 use Rattle.portal_calls.specs.declared.answer.Answer.TheVariants.{Accepted}
 use Rattle.portal_calls.specs.declared.call.Call.{Call}
 use Rattle.visibility.specs.View.{is_called, user_seen, administers, is_role_seen, people_seen}
-use Rattle.visibility.specs.Held.{is_among}
+use Rattle.visibility.specs.TableSummary.{is_among}
 use Rattle.visibility.specs.Visibility.{caller_role, sees_in}
 use Rattle.portal_core.specs.Answer.{answer_to}
-use Rattle.portal_core.specs.Changed.{changed, charged, made, claims_of, is_in_use}
+use Rattle.portal_core.specs.Changed.{changed, charged, applied, claims_of, is_in_use}
 use Rattle.portal_core.specs.Hidden.{IsHiddenChange, IsHiddenBetween, IsHidden, is_kept, is_caller}
 use Rattle.portal_core.specs.Hidden.{IsIdUnseen, IsRoleUnseen, address_in}
-use Rattle.portal_core.specs.State.{State, spent_cmp, spent_cmp_total, bytes_of_user}
-use Rattle.portal_core.specs.Step.{settled, settled_unless}
+use Rattle.portal_core.specs.State.{State, quota_used_cmp, quota_used_cmp_total, accepted_bytes_of_user}
+use Rattle.portal_core.specs.Step.{outcome_of, outcome_unless_in_use}
 use Rattle.portal_core.specs.Valid.{IsValid}
-use Rattle.portal_core.specs.View.{view_of, is_spent_of, is_table_seen}
+use Rattle.portal_core.specs.View.{view_of, is_own_quota, is_table_seen}
 use Rattle.portal_core.specs.Change.{Change, People, Datasets, Tables}
 use Rattle.portal_core.specs.declared.change.Claim.{Claim}
-use Rattle.portal_core.specs.declared.event.Event.TheVariants.{Call as a_call}
-use Rattle.portal_core.specs.declared.spent.Spent.{Spent}
+use Rattle.portal_calls.specs.declared.event.Event.TheVariants.{Call as a_call}
+use Rattle.portal_core.specs.declared.quota.QuotaUsed.{QuotaUsed}
 use Rattle.portal_core.proofs.TableViewing.{any-is}
 use Rattle.portal_core.proofs.Changing.{same_state, stated}
-use Rattle.portal_core.proofs.Changing.{IsSameStanding, is_sysadmin_in-users, is_role_seen-standing, sees_in-standing}
+use Rattle.portal_core.proofs.Changing.{HasSameRights, is_sysadmin_in-users, is_role_seen-rights, sees_in-rights}
 use Rattle.portal_core.proofs.Changing.{caller_role-own}
 
 -- ---- lists
@@ -94,12 +94,12 @@ same_list cmp o xs ys up_x up_y hidden =
 hidden-none : {X : Type 0} (p q : X → Bool) (xs : List X) → IsHiddenChange p q xs xs
 hidden-none p q xs = record { stays = λ x m k. m; stood = λ x m k. m }
 
--- an item that isn't kept is placed, where what is like it wasn't kept
+-- an item that isn't kept is inserted, where what is like it wasn't kept
 hidden-placed : {X : Type 0} (cmp : X → X → Ordering) (p q : X → Bool) (x : X) (xs : List X) → q x ≡ false
-    → ((z : X) → Contains xs z → is_eq (cmp z x) ≡ true → p z ≡ false) → IsHiddenChange p q xs (placed cmp x xs)
+    → ((z : X) → Contains xs z → is_eq (cmp z x) ≡ true → p z ≡ false) → IsHiddenChange p q xs (upserted cmp x xs)
 hidden-placed {X} cmp p q x xs unseen hides = record {
-  stays = λ z m kept. placed-Contains_other cmp x z xs m (apart z m kept (is_eq (cmp z x)) refl);
-  stood = λ z m kept. by z (Contains-placed cmp x z xs m) kept;
+  stays = λ z m kept. upserted-Contains_other cmp x z xs m (apart z m kept (is_eq (cmp z x)) refl);
+  stood = λ z m kept. by z (Contains-upserted cmp x z xs m) kept;
 }
   where
     apart : (z : X) → Contains xs z → p z ≡ true → (b : Bool) → is_eq (cmp z x) ≡ b → is_eq (cmp z x) ≡ false
@@ -171,7 +171,7 @@ or_true true b is = refl
 or_true false b is = is
 
 -- the caller's own roles are kept, so none of them changes
-own_roles : (caller : Caller) (p q : Peopled)
+own_roles : (caller : Caller) (p q : PeopleLists)
     → IsHiddenChange (is_role_seen p caller) (is_role_seen q caller) p.roles q.roles
     → IsHiddenChange (λ m. is_called caller m.user) (λ m. is_called caller m.user) p.roles q.roles
 own_roles caller p q hidden = record {
@@ -181,9 +181,9 @@ own_roles caller p q hidden = record {
 
 -- ---- the people
 
-standing : (caller : Caller) (s t : State) → IsPeopled s.people → IsPeopled t.people → IsHiddenBetween caller s t
-    → IsSameStanding caller s.people t.people
-standing caller s t in_s in_t hidden = (
+same_rights : (caller : Caller) (s t : State) → AreSorted s.people → AreSorted t.people → IsHiddenBetween caller s t
+    → HasSameRights caller s.people t.people
+same_rights caller s t in_s in_t hidden = (
   is_sysadmin_in-users caller s.people t.people
       (same_list user_cmp user_cmp_total s.people.users t.people.users in_s.users in_t.users hidden.users),
   caller_role-own caller s.people t.people
@@ -192,14 +192,14 @@ standing caller s t in_s in_t hidden = (
       (own_roles caller s.people t.people hidden.roles)),
 )
 
-abbrev peopled : List User → List Org → List Membership → Peopled
+abbrev peopled : List User → List Org → List Membership → PeopleLists
 peopled users orgs roles = record { users = users; orgs = orgs; roles = roles }
 
 same_people : {us vs : List User} {os ps : List Org} {ms ns : List Membership} → us ≡ vs → os ≡ ps → ms ≡ ns
     → peopled us os ms ≡ peopled vs ps ns
 same_people users orgs roles = rw (users, orgs, roles) refl
 
-people_seen-hidden : (caller : Caller) (s t : State) → IsPeopled s.people → IsPeopled t.people
+people_seen-hidden : (caller : Caller) (s t : State) → AreSorted s.people → AreSorted t.people
     → IsHiddenBetween caller s t
     → people_seen caller s.people ≡ people_seen caller t.people
 people_seen-hidden caller s t in_s in_t hidden =
@@ -211,7 +211,7 @@ people_seen-hidden caller s t in_s in_t hidden =
     ≡ filter (is_role_seen t.people caller) t.people.roles =
     filter-hidden membership_cmp membership_cmp_total (is_role_seen s.people caller) (is_role_seen t.people caller)
     s.people.roles t.people.roles
-    (is_role_seen-standing caller s.people t.people (standing caller s t in_s in_t hidden)) in_s.roles in_t.roles
+    (is_role_seen-rights caller s.people t.people (same_rights caller s t in_s in_t hidden)) in_s.roles in_t.roles
     hidden.roles in
     same_people (ap (map (user_seen caller)) users) orgs roles
 
@@ -221,18 +221,19 @@ people_seen-hidden caller s t in_s in_t hidden =
 pub view_of-hidden : (caller : Caller) (s t : State) → IsValid s → IsValid t → IsHiddenBetween caller s t
     → view_of caller s ≡ view_of caller t
 view_of-hidden caller s t in_s in_t hidden =
-    let same = standing caller s t in_s.people in_t.people hidden in
+    let same = same_rights caller s t in_s.people in_t.people hidden in
     let datasets : filter (sees_in s.people caller) s.datasets ≡ filter (sees_in t.people caller) t.datasets =
     filter-hidden dataset_cmp dataset_cmp_total (sees_in s.people caller) (sees_in t.people caller) s.datasets
-    t.datasets (sees_in-standing caller s.people t.people same) in_s.datasets in_t.datasets hidden.datasets in
+    t.datasets (sees_in-rights caller s.people t.people same) in_s.datasets in_t.datasets hidden.datasets in
     let tables : filter (is_table_seen caller s) s.tables ≡ filter (is_table_seen caller t) t.tables =
     filter-hidden table_cmp table_cmp_total (is_table_seen caller s) (is_table_seen caller t) s.tables t.tables
     (λ u. ap (λ (ds : List Package). is_table_among ds u) datasets) in_s.tables.ascending in_t.tables.ascending
     hidden.tables in
-    let spent : filter (is_spent_of caller) s.spent ≡ filter (is_spent_of caller) t.spent =
-    filter-hidden spent_cmp spent_cmp_total (is_spent_of caller) (is_spent_of caller) s.spent t.spent (λ e. refl)
-    in_s.spent in_t.spent hidden.spent in
-    same_state (people_seen-hidden caller s t in_s.people in_t.people hidden) datasets tables spent
+    let quota_used : filter (is_own_quota caller) s.quota_used ≡ filter (is_own_quota caller) t.quota_used =
+    filter-hidden quota_used_cmp quota_used_cmp_total (is_own_quota caller) (is_own_quota caller) s.quota_used
+    t.quota_used (λ e. refl)
+    in_s.quota_used in_t.quota_used hidden.quota_used in
+    same_state (people_seen-hidden caller s t in_s.people in_t.people hidden) datasets tables quota_used
 
 -- ---- what is charged
 
@@ -242,12 +243,13 @@ other_user Anonymous other others user is = refl
 other_user (Named name) other others user is = sym (ap (is_caller (Named name)) is) ∙ others
 
 charged-hidden : (caller other : Caller) (size : ℕ) (state : State) → is_caller caller other ≡ false
-    → IsHiddenChange (is_spent_of caller) (is_spent_of caller) state.spent (charged other size state).spent
-charged-hidden caller Anonymous size state others = hidden-none (is_spent_of caller) (is_spent_of caller) state.spent
+    → IsHiddenChange (is_own_quota caller) (is_own_quota caller) state.quota_used (charged other size state).quota_used
+charged-hidden caller Anonymous size state others = hidden-none (is_own_quota caller) (is_own_quota caller)
+    state.quota_used
 charged-hidden caller (Named user) size state others =
     let unseen : is_called caller user ≡ false = other_user caller (Named user) others user refl in
-    let entry : Spent = record { user = user; bytes = bytes_of_user user state.spent + size } in
-    hidden-placed spent_cmp (is_spent_of caller) (is_spent_of caller) entry state.spent unseen
+    let entry : QuotaUsed = record { user = user; bytes = accepted_bytes_of_user user state.quota_used + size } in
+    hidden-placed quota_used_cmp (is_own_quota caller) (is_own_quota caller) entry state.quota_used unseen
     (λ z m like. ap (is_called caller) ((bytes_eq-Decides z.user user).0 (sym (is_eq-slice_cmp z.user user) ∙ like))
     ∙ unseen)
 
@@ -264,11 +266,12 @@ tables-charged : (caller : Caller) (size : ℕ) (state : State) → (charged cal
 tables-charged Anonymous size state = refl
 tables-charged (Named user) size state = refl
 
-spent-charged : (other : Caller) (size : ℕ) (s t : State) → s.spent ≡ t.spent
-    → (charged other size s).spent ≡ (charged other size t).spent
-spent-charged Anonymous size s t same = same
-spent-charged (Named user) size s t same =
-    ap (λ (own : List Spent). placed spent_cmp (record { user = user; bytes = bytes_of_user user own + size }) own)
+quota_used-charged : (other : Caller) (size : ℕ) (s t : State) → s.quota_used ≡ t.quota_used
+    → (charged other size s).quota_used ≡ (charged other size t).quota_used
+quota_used-charged Anonymous size s t same = same
+quota_used-charged (Named user) size s t same =
+    ap (λ (own : List QuotaUsed). upserted quota_used_cmp (record
+    { user = user; bytes = accepted_bytes_of_user user own + size }) own)
     same
 
 -- nothing changes
@@ -279,50 +282,52 @@ unchanged-hidden caller state = record {
   roles = hidden-none (is_role_seen state.people caller) (is_role_seen state.people caller) state.people.roles;
   datasets = hidden-none (sees_in state.people caller) (sees_in state.people caller) state.datasets;
   tables = hidden-none (is_table_seen caller state) (is_table_seen caller state) state.tables;
-  spent = hidden-none (is_spent_of caller) (is_spent_of caller) state.spent;
+  quota_used = hidden-none (is_own_quota caller) (is_own_quota caller) state.quota_used;
 }
 
 -- what a change hides is hidden where it is charged to another caller
-made-hidden : (caller : Caller) (call : Call) (change : Change) (state : State) → is_caller caller call.caller ≡ false
-    → (changed change state).spent ≡ state.spent → IsHiddenBetween caller state (changed change state)
-    → IsHiddenBetween caller state (made call change state)
-made-hidden caller call change state others left hidden =
+applied-hidden : (caller : Caller) (call : Call) (change : Change) (state : State) → is_caller caller call.caller
+    ≡ false
+    → (changed change state).quota_used ≡ state.quota_used → IsHiddenBetween caller state (changed change state)
+    → IsHiddenBetween caller state (applied call change state)
+applied-hidden caller call change state others left hidden =
     let now : State = changed change state in
-    let Between : Peopled → List Package → List ResourceTable → List Spent → Type 0 =
-    λ people datasets tables spent. IsHiddenBetween caller state (stated people datasets tables spent) in
-    let spent : IsHiddenChange (is_spent_of caller) (is_spent_of caller) state.spent
-    (charged call.caller call.size now).spent =
-    subst (IsHiddenChange (is_spent_of caller) (is_spent_of caller) state.spent)
-    (spent-charged call.caller call.size state now (sym left))
+    let Between : PeopleLists → List Package → List ResourceTable → List QuotaUsed → Type 0 =
+    λ people datasets tables quota_used. IsHiddenBetween caller state (stated people datasets tables quota_used) in
+    let quota_used : IsHiddenChange (is_own_quota caller) (is_own_quota caller) state.quota_used
+    (charged call.caller call.size now).quota_used =
+    subst (IsHiddenChange (is_own_quota caller) (is_own_quota caller) state.quota_used)
+    (quota_used-charged call.caller call.size state now (sym left))
     (charged-hidden caller call.caller call.size state others) in
-    let there : Between now.people now.datasets now.tables (charged call.caller call.size now).spent = record {
+    let there : Between now.people now.datasets now.tables (charged call.caller call.size now).quota_used = record {
       users = hidden.users;
       orgs = hidden.orgs;
       roles = hidden.roles;
       datasets = hidden.datasets;
       tables = hidden.tables;
-      spent = spent;
+      quota_used = quota_used;
     } in
-    let after : State = made call change state in
-    subst (λ (people : Peopled). Between people after.datasets after.tables after.spent)
+    let after : State = applied call change state in
+    subst (λ (people : PeopleLists). Between people after.datasets after.tables after.quota_used)
     (sym (people-charged call.caller call.size now))
-    (subst (λ (datasets : List Package). Between now.people datasets after.tables after.spent)
+    (subst (λ (datasets : List Package). Between now.people datasets after.tables after.quota_used)
     (sym (datasets-charged call.caller call.size now))
-    (subst (λ (tables : List ResourceTable). Between now.people now.datasets tables after.spent)
+    (subst (λ (tables : List ResourceTable). Between now.people now.datasets tables after.quota_used)
     (sym (tables-charged call.caller call.size now)) there))
 
 -- a call of another caller that accepts a hidden change is hidden
 accepted-hidden : (caller : Caller) (call : Call) (json : Json) (change : Change) (state : State)
     → is_caller caller call.caller ≡ false → answer_to call (view_of call.caller state) ≡ Accepted json change
-    → IsHiddenBetween caller state (made call change state) → IsHidden caller state (a_call call)
+    → IsHiddenBetween caller state (applied call change state) → IsHidden caller state (a_call call)
 accepted-hidden caller call json change state others answers hidden = record {
   others = others;
   between =
-      subst (λ (a : Answer Change). IsHiddenBetween caller state (settled a call state).state) (sym answers)
+      subst (λ (a : Answer Change). IsHiddenBetween caller state (outcome_of a call state).state) (sym answers)
       (by (find (is_in_use state) (claims_of change)));
 }
   where
-    by : (claim : Option Claim) → IsHiddenBetween caller state (settled_unless claim call json change state).state
+    by : (claim : Option Claim) → IsHiddenBetween caller state
+        (outcome_unless_in_use claim call json change state).state
     by None = hidden
     by (Some c) = unchanged-hidden caller state
 
@@ -349,9 +354,9 @@ tables-unseen caller state id unseen t own = by (is_table_seen caller state t) r
 placed-hidden : (caller : Caller) (state : State) (d : Package) (tables : List ResourceTable)
     → sees_in state.people caller d ≡ false → IsIdUnseen caller state d.id
     → IsHiddenChange (is_table_seen caller state)
-    (is_table_seen caller (record state { datasets = placed dataset_cmp d state.datasets; tables = tables }))
+    (is_table_seen caller (record state { datasets = upserted dataset_cmp d state.datasets; tables = tables }))
     state.tables tables
-    → IsHiddenBetween caller state (record state { datasets = placed dataset_cmp d state.datasets; tables = tables })
+    → IsHiddenBetween caller state (record state { datasets = upserted dataset_cmp d state.datasets; tables = tables })
 placed-hidden caller state d tables unseen before hidden = record {
   users = hidden-none is_kept is_kept state.people.users;
   orgs = hidden-none is_kept is_kept state.people.orgs;
@@ -360,7 +365,7 @@ placed-hidden caller state d tables unseen before hidden = record {
       unseen
       (λ z m like. before z m ((bytes_eq-Decides z.id d.id).0 (sym (is_eq-slice_cmp z.id d.id) ∙ like)));
   tables = hidden;
-  spent = hidden-none (is_spent_of caller) (is_spent_of caller) state.spent;
+  quota_used = hidden-none (is_own_quota caller) (is_own_quota caller) state.quota_used;
 }
 
 -- the tables that go with resources of an unseen dataset
@@ -383,10 +388,10 @@ pub creation-hidden : (caller : Caller) (state : State) (call : Call) (json : Js
     → sees_in state.people caller d ≡ false → IsIdUnseen caller state d.id → IsHidden caller state (a_call call)
 creation-hidden caller state call json d others answers unseen before =
     accepted-hidden caller call json (Datasets (dataset.Create d)) state others answers
-    (made-hidden caller call (Datasets (dataset.Create d)) state others refl
+    (applied-hidden caller call (Datasets (dataset.Create d)) state others refl
     (placed-hidden caller state d state.tables unseen before
     (hidden-none (is_table_seen caller state)
-    (is_table_seen caller (record state { datasets = placed dataset_cmp d state.datasets; tables = state.tables }))
+    (is_table_seen caller (record state { datasets = upserted dataset_cmp d state.datasets; tables = state.tables }))
     state.tables)))
 
 pub replacement-hidden : (caller : Caller) (state : State) (call : Call) (json : Json) (d : Package)
@@ -395,7 +400,7 @@ pub replacement-hidden : (caller : Caller) (state : State) (call : Call) (json :
     → sees_in state.people caller d ≡ false → IsIdUnseen caller state d.id → IsHidden caller state (a_call call)
 replacement-hidden caller state call json d others answers unseen before =
     accepted-hidden caller call json (Datasets (dataset.Replace d)) state others answers
-    (made-hidden caller call (Datasets (dataset.Replace d)) state others refl
+    (applied-hidden caller call (Datasets (dataset.Replace d)) state others refl
     (placed-hidden caller state d (tables_kept d.id d.resources state.tables) unseen before
     (left-hidden caller state _ d.id d.resources before)))
 
@@ -405,7 +410,7 @@ pub removal-hidden : (caller : Caller) (state : State) (call : Call) (json : Jso
     → IsIdUnseen caller state id → IsHidden caller state (a_call call)
 removal-hidden caller state call json id others answers before =
     accepted-hidden caller call json (Datasets (dataset.Remove id)) state others answers
-    (made-hidden caller call (Datasets (dataset.Remove id)) state others refl
+    (applied-hidden caller call (Datasets (dataset.Remove id)) state others refl
     (record {
       users = hidden-none is_kept is_kept state.people.users;
       orgs = hidden-none is_kept is_kept state.people.orgs;
@@ -414,7 +419,7 @@ removal-hidden caller state call json id others answers before =
           state.datasets
           (λ z m like. before z m ((bytes_eq-Decides z.id id).0 (sym (is_eq-slice_cmp z.id id) ∙ like)));
       tables = left-hidden caller state _ id [] before;
-      spent = hidden-none (is_spent_of caller) (is_spent_of caller) state.spent;
+      quota_used = hidden-none (is_own_quota caller) (is_own_quota caller) state.quota_used;
     }))
 
 -- ---- tables
@@ -459,10 +464,10 @@ changed-hidden (table.Put a how records) caller state unseen =
     hidden-made (is_table_seen caller state) (is_table_seen caller state)
     (λ t. if is_at a t then put_into how records t else t) state.tables
     (λ t m. made-unseen caller state a (put_into how records) (put_into-address how records) unseen t)
-changed-hidden (table.Cut a ids) caller state unseen =
+changed-hidden (table.DeleteRows a ids) caller state unseen =
     hidden-made (is_table_seen caller state) (is_table_seen caller state)
-    (λ t. if is_at a t then cut_from ids t else t) state.tables
-    (λ t m. made-unseen caller state a (cut_from ids) (λ u. refl) unseen t)
+    (λ t. if is_at a t then without_rows ids t else t) state.tables
+    (λ t m. made-unseen caller state a (without_rows ids) (λ u. refl) unseen t)
 
 pub tables-hidden : (caller : Caller) (state : State) (call : Call) (json : Json) (change : TableChange)
     → is_caller caller call.caller ≡ false
@@ -470,14 +475,14 @@ pub tables-hidden : (caller : Caller) (state : State) (call : Call) (json : Json
     → IsIdUnseen caller state (address_in change).dataset → IsHidden caller state (a_call call)
 tables-hidden caller state call json change others answers unseen =
     accepted-hidden caller call json (Tables change) state others answers
-    (made-hidden caller call (Tables change) state others refl
+    (applied-hidden caller call (Tables change) state others refl
     (record {
       users = hidden-none is_kept is_kept state.people.users;
       orgs = hidden-none is_kept is_kept state.people.orgs;
       roles = hidden-none (is_role_seen state.people caller) (is_role_seen state.people caller) state.people.roles;
       datasets = hidden-none (sees_in state.people caller) (sees_in state.people caller) state.datasets;
       tables = changed-hidden change caller state unseen;
-      spent = hidden-none (is_spent_of caller) (is_spent_of caller) state.spent;
+      quota_used = hidden-none (is_own_quota caller) (is_own_quota caller) state.quota_used;
     }))
 
 -- ---- roles of others elsewhere
@@ -486,7 +491,7 @@ either : (a b : Bool) → a ≡ false → b ≡ false → (a || b) ≡ false
 either a b is_a is_b = rw (is_a, is_b) refl
 
 -- another user's role is hidden in an organization that the caller doesn't administer
-role_hidden : (caller : Caller) (people : Peopled) (org user : List ℕ) → IsRoleUnseen caller people org user
+role_hidden : (caller : Caller) (people : PeopleLists) (org user : List ℕ) → IsRoleUnseen caller people org user
     → (m : Membership) → (bytes_eq m.org org && bytes_eq m.user user) ≡ true
     → is_role_seen people caller m ≡ false
 role_hidden caller people org user unseen m like = by (bytes_eq m.org org) refl (bytes_eq m.user user) refl like
@@ -499,10 +504,10 @@ role_hidden caller people org user unseen m like = by (bytes_eq m.org org) refl 
     by true in_org false of_user l = absurd (cc)
     by false in_org b of_user l = absurd (cc)
 
--- roles of another user don't touch the caller's standing
-others_standing : (caller : Caller) (p q : Peopled) (user : List ℕ) → is_called caller user ≡ false
+-- roles of another user don't change the caller's rights
+others_standing : (caller : Caller) (p q : PeopleLists) (user : List ℕ) → is_called caller user ≡ false
     → q.users ≡ p.users → ((org name : List ℕ) → name ≢ user → role_in q org name ≡ role_in p org name)
-    → IsSameStanding caller q p
+    → HasSameRights caller q p
 others_standing caller p q user others users roles =
     (is_sysadmin_in-users caller q p users, λ org. by caller org others)
   where
@@ -511,16 +516,16 @@ others_standing caller p q user others users roles =
     by (Named name) org other =
         roles org name (λ is. let same : bytes_eq name user ≡ true = (bytes_eq-Decides name user).1 is in cc)
 
--- between people who differ in roles that are hidden from a caller whose standing is the same all is hidden
+-- between people who differ in roles that are hidden from a caller with the same rights all is hidden
 roles-hidden : (caller : Caller) (state : State) (change : OrgChange)
     → (changed_people change state.people).users ≡ state.people.users
     → (changed_people change state.people).orgs ≡ state.people.orgs
-    → IsSameStanding caller (changed_people change state.people) state.people
+    → HasSameRights caller (changed_people change state.people) state.people
     → IsHiddenChange (is_role_seen state.people caller) (is_role_seen state.people caller) state.people.roles
     (changed_people change state.people).roles
     → IsHiddenBetween caller state (changed (People change) state)
 roles-hidden caller state change users orgs same roles =
-    let now : Peopled = changed_people change state.people in
+    let now : PeopleLists = changed_people change state.people in
     record {
       users = subst (IsHiddenChange is_kept is_kept state.people.users) (sym users)
           (hidden-none is_kept is_kept state.people.users);
@@ -528,11 +533,11 @@ roles-hidden caller state change users orgs same roles =
           (hidden-none is_kept is_kept state.people.orgs);
       roles = record {
         stays = roles.stays;
-        stood = λ m after kept. roles.stood m after (sym (is_role_seen-standing caller now state.people same m) ∙ kept);
+        stood = λ m after kept. roles.stood m after (sym (is_role_seen-rights caller now state.people same m) ∙ kept);
       };
       datasets = record { stays = λ d m k. m; stood = λ d m k. m };
       tables = record { stays = λ t m k. m; stood = λ t m k. m };
-      spent = hidden-none (is_spent_of caller) (is_spent_of caller) state.spent;
+      quota_used = hidden-none (is_own_quota caller) (is_own_quota caller) state.quota_used;
     }
 
 pub role-hidden : (caller : Caller) (state : State) (call : Call) (json : Json) (org user : List ℕ) (role : Role)
@@ -542,7 +547,7 @@ pub role-hidden : (caller : Caller) (state : State) (call : Call) (json : Json) 
 role-hidden caller state call json org user role others answers unseen =
     let m : Membership = record { org = org; user = user; role = role } in
     accepted-hidden caller call json (People (SetRole org user role)) state others answers
-    (made-hidden caller call (People (SetRole org user role)) state others refl
+    (applied-hidden caller call (People (SetRole org user role)) state others refl
     (roles-hidden caller state (SetRole org user role) refl refl
     (others_standing caller state.people (changed_people (SetRole org user role) state.people) user unseen.others refl
     (λ other name differs. role_in-with_role_other m state.people other name (inr differs)))
@@ -558,7 +563,7 @@ pub former-role-hidden : (caller : Caller) (state : State) (call : Call) (json :
 former-role-hidden caller state call json org user others answers unseen =
     let m : Membership = record { org = org; user = user; role = Member } in
     accepted-hidden caller call json (People (DropRole org user)) state others answers
-    (made-hidden caller call (People (DropRole org user)) state others refl
+    (applied-hidden caller call (People (DropRole org user)) state others refl
     (roles-hidden caller state (DropRole org user) refl refl
     (others_standing caller state.people (changed_people (DropRole org user) state.people) user unseen.others refl
     (λ other name differs. role_in-without_role_other state.people org user other name (inr differs)))

@@ -6,14 +6,14 @@ use Rattle.portal_base.specs.declared.caller.Caller.TheVariants.{Anonymous, Name
 use Rattle.portal_calls.specs.declared.call.Call.{Call}
 use Rattle.portal_core.specs.Hidden.{is_caller, is_call_of, IsHidden}
 use Rattle.portal_core.specs.History.{calls_of, AreOthersHidden, Exchange, exchange_of, exchanges_of, AreAlike}
-use Rattle.portal_core.specs.History.{tell_of_no_use}
-use Rattle.portal_core.specs.Isolation.{tells_of_use}
+use Rattle.portal_core.specs.History.{has_no_name_in_use}
+use Rattle.portal_calls.specs.Reply.{is_name_in_use}
 use Rattle.portal_core.specs.State.{State}
 use Rattle.portal_core.specs.Step.{call_step, step_of, replay}
 use Rattle.portal_core.specs.Valid.{IsValid}
 use Rattle.portal_core.specs.View.{view_of}
-use Rattle.portal_core.specs.declared.event.Event.{Event}
-use Rattle.portal_core.specs.declared.event.Event.TheVariants.{Call as a_call}
+use Rattle.portal_calls.specs.declared.event.Event.{Event}
+use Rattle.portal_calls.specs.declared.event.Event.TheVariants.{Call as a_call}
 use Rattle.portal_core.proofs.Hiding.{view_of-hidden}
 use Rattle.portal_core.proofs.Isolating.{replies_alike, quiet_views_alike}
 use Rattle.portal_core.proofs.Settling.{refused-same, step-valid}
@@ -44,16 +44,16 @@ same_caller Anonymous (Named other) is = absurd (cc)
 same_caller (Named user) Anonymous is = absurd (cc)
 same_caller (Named user) (Named other) is = ap Named (sym ((bytes_eq-Decides user other).0 is))
 
--- a call that tells of nothing in use is the same exchange in both states
+-- a call without a reply of a name in use is the same exchange in both states
 call-exchange : (s t : State) (call : Call) → IsValid s → IsValid t → view_of call.caller s ≡ view_of call.caller t
-    → tells_of_use (call_step s call).reply ≡ false → tells_of_use (call_step t call).reply ≡ false
+    → is_name_in_use (call_step s call).reply ≡ false → is_name_in_use (call_step t call).reply ≡ false
     → exchange_of call.caller (call_step s call) ≡ exchange_of call.caller (call_step t call)
 call-exchange s t call in_s in_t same first second =
     rw (replies_alike s t call same first second, quiet_views_alike s t call in_s in_t same first second) refl
 
 own-exchange : (caller : Caller) (s t : State) (event : Event) → is_call_of caller event ≡ true → IsValid s
     → IsValid t → view_of caller s ≡ view_of caller t
-    → tells_of_use (step_of s event).reply ≡ false → tells_of_use (step_of t event).reply ≡ false
+    → is_name_in_use (step_of s event).reply ≡ false → is_name_in_use (step_of t event).reply ≡ false
     → exchange_of caller (step_of s event) ≡ exchange_of caller (step_of t event)
 own-exchange caller s t (a_call call) is in_s in_t same first second =
     subst (λ (c : Caller). view_of c s ≡ view_of c t
@@ -108,8 +108,8 @@ not_told false is = refl
 
 pub ends-alike : (caller : Caller) (s t : State) (events : List Event) → IsValid s → IsValid t
     → view_of caller s ≡ view_of caller t → AreOthersHidden caller s events
-    → tell_of_no_use (exchanges_of caller s events) ≡ true
-    → tell_of_no_use (exchanges_of caller t (calls_of caller events)) ≡ true
+    → has_no_name_in_use (exchanges_of caller s events) ≡ true
+    → has_no_name_in_use (exchanges_of caller t (calls_of caller events)) ≡ true
     → view_of caller (replay s events) ≡ view_of caller (replay t (calls_of caller events))
 ends-alike caller s t [] in_s in_t same hidden first second = same
 ends-alike caller s t (e ∷ events) in_s in_t same hidden first second =
@@ -121,11 +121,11 @@ ends-alike caller s t (e ∷ events) in_s in_t same hidden first second =
   where
     own_end : is_call_of caller e ≡ true
         → (view_of caller (step_of s e).state ≡ view_of caller (step_of t e).state
-        → tell_of_no_use (exchanges_of caller (step_of s e).state events) ≡ true
-        → tell_of_no_use (own_exchanges caller (step_of t e).state events) ≡ true
+        → has_no_name_in_use (exchanges_of caller (step_of s e).state events) ≡ true
+        → has_no_name_in_use (own_exchanges caller (step_of t e).state events) ≡ true
         → IsSameEnd caller (step_of s e).state (step_of t e).state events)
-        → tell_of_no_use (exchange_of caller (step_of s e) ∷ exchanges_of caller (step_of s e).state events) ≡ true
-        → tell_of_no_use (exchange_of caller (step_of t e) ∷ own_exchanges caller (step_of t e).state events) ≡ true
+        → has_no_name_in_use (exchange_of caller (step_of s e) ∷ exchanges_of caller (step_of s e).state events) ≡ true
+        → has_no_name_in_use (exchange_of caller (step_of t e) ∷ own_exchanges caller (step_of t e).state events) ≡ true
         → IsSameEnd caller (step_of s e).state (step_of t e).state events
     own_end is own quiet_s quiet_t =
         let parts_s = both_true _ _ quiet_s in
@@ -135,21 +135,22 @@ ends-alike caller s t (e ∷ events) in_s in_t same hidden first second =
 
     by : (b : Bool) → is_call_of caller e ≡ b
         → (view_of caller (step_of s e).state ≡ view_of caller (step_of t e).state
-        → tell_of_no_use (exchanges_of caller (step_of s e).state events) ≡ true
-        → tell_of_no_use (own_exchanges caller (step_of t e).state events) ≡ true
+        → has_no_name_in_use (exchanges_of caller (step_of s e).state events) ≡ true
+        → has_no_name_in_use (own_exchanges caller (step_of t e).state events) ≡ true
         → IsSameEnd caller (step_of s e).state (step_of t e).state events)
         → (view_of caller (step_of s e).state ≡ view_of caller t
-        → tell_of_no_use (exchanges_of caller (step_of s e).state events) ≡ true
-        → tell_of_no_use (own_exchanges caller t events) ≡ true → IsSameEnd caller (step_of s e).state t events)
-        → tell_of_no_use
+        → has_no_name_in_use (exchanges_of caller (step_of s e).state events) ≡ true
+        → has_no_name_in_use (own_exchanges caller t events) ≡ true → IsSameEnd caller (step_of s e).state t events)
+        → has_no_name_in_use
         (cond b (exchange_of caller (step_of s e) ∷ exchanges_of caller (step_of s e).state events)
         (exchanges_of caller (step_of s e).state events)) ≡ true
-        → tell_of_no_use (exchanges_of caller t (cond b (e ∷ calls_of caller events) (calls_of caller events))) ≡ true
+        → has_no_name_in_use (exchanges_of caller t (cond b (e ∷ calls_of caller events) (calls_of caller events)))
+        ≡ true
         → view_of caller (replay (step_of s e).state events)
         ≡ view_of caller (replay t (cond b (e ∷ calls_of caller events) (calls_of caller events)))
     by true is own other quiet_s quiet_t =
         own_end is own quiet_s
-        (subst (λ (b : Bool). tell_of_no_use
+        (subst (λ (b : Bool). has_no_name_in_use
         (cond b (exchange_of caller (step_of t e) ∷ own_exchanges caller (step_of t e).state events)
         (own_exchanges caller (step_of t e).state events)) ≡ true) is quiet_t)
     by false is own other quiet_s quiet_t = other (other-view caller s e in_s (hidden.0 is) ∙ same) quiet_s quiet_t

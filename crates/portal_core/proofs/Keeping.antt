@@ -13,16 +13,16 @@ use Rattle.std.proofs.lemmas.List.Sums.{AllPass-from_list_all}
 use Rattle.std.proofs.lemmas.Map.Text.{is_eq-slice_cmp}
 use Rattle.portal_base.specs.declared.caller.Caller.{Caller}
 use Rattle.portal_base.specs.declared.caller.Caller.TheVariants.{Anonymous, Named}
-use Rattle.portal_base.specs.Ordered.{IsAscending, ascending, placed, dropped}
+use Rattle.portal_base.specs.Ordered.{IsAscending, ascending, upserted, dropped}
 use Rattle.portal_base.proofs.Filtered.{IsIn-filter, IsIn-list_all, filter-all, is_some-find_any}
 use Rattle.portal_base.proofs.Inserted.{list_any-ascending, both_false}
-use Rattle.portal_base.proofs.Placed.{All-each, All-IsIn, All-dropped, All-placed}
-use Rattle.portal_base.proofs.Placed.{IsAscending-placed, IsAscending-dropped, Contains-placed, Contains-dropped}
-use Rattle.portal_base.proofs.Placed.{dropped-Contains, placed-Contains, placed-Contains_other}
+use Rattle.portal_base.proofs.Upserted.{All-each, All-IsIn, All-dropped, All-upserted}
+use Rattle.portal_base.proofs.Upserted.{IsAscending-upserted, IsAscending-dropped, Contains-upserted, Contains-dropped}
+use Rattle.portal_base.proofs.Upserted.{dropped-Contains, upserted-Contains, upserted-Contains_other}
 use Rattle.portal_base.proofs.Unique.{IsIn, IsIn-Contains, ascending-IsIn}
 use Rattle.org_roles.specs.Changed.{changed_people, org_fault}
 use Rattle.org_roles.specs.Order.{org_cmp, membership_cmp, org_at}
-use Rattle.org_roles.specs.Peopled.{Peopled, org_in, is_user_in, role_in}
+use Rattle.org_roles.specs.PeopleLists.{PeopleLists, org_in, is_user_in, role_in}
 use Rattle.org_roles.specs.declared.change.OrgChange.{OrgChange}
 use Rattle.org_roles.specs.declared.change.OrgChange.TheVariants.{Create, Patch, Remove, SetRole, DropRole}
 use Rattle.org_roles.specs.declared.change.OrgFault.{OrgFault}
@@ -30,40 +30,40 @@ use Rattle.org_roles.specs.declared.change.OrgFault.TheVariants.{OrgNameInUse, U
 use Rattle.org_roles.specs.declared.entry.Membership.{Membership}
 use Rattle.org_roles.specs.declared.entry.Org.{Org}
 use Rattle.org_roles.specs.declared.role.Role.{Role}
-use Rattle.org_roles.proofs.ChangeLemmas.{IsPeopled-changed, AreHoused-changed, org_in-without_org_other}
-use Rattle.org_roles.proofs.ChangeLemmas.{stands-with_org}
-use Rattle.org_roles.proofs.PeopleLemmas.{IsPeopled-ascending}
+use Rattle.org_roles.proofs.ChangeLemmas.{AreSorted-changed, RolesHaveOrgs-changed, org_in-without_org_other}
+use Rattle.org_roles.proofs.ChangeLemmas.{org_exists-with_org}
+use Rattle.org_roles.proofs.PeopleLemmas.{AreSorted-ascending}
 use Rattle.packages.specs.Order.{dataset_cmp, dataset_cmp_total}
 use Rattle.packages.specs.declared.package.Package.{Package}
 use Rattle.dataset_answers.specs.Changed.{dataset_at_id, has_id, has_name}
 use Rattle.dataset_answers.specs.Fit.{IsFitDataset, KeepsResources}
-use Rattle.dataset_answers.specs.Sound.{IsSound, Stands}
+use Rattle.dataset_answers.specs.Sound.{IsSound, OrgExists}
 use Rattle.dataset_answers.specs.declared.change.DatasetChange.{DatasetChange}
 use Rattle.dataset_answers.specs.declared.change.DatasetChange.TheVariants as dataset
 use Rattle.datastore_answers.proofs.ChangeLemmas.{fit-kept}
-use Rattle.datastore_answers.proofs.DropLemmas.{drops-kept, none-loses}
+use Rattle.datastore_answers.proofs.DropLemmas.{drops-kept, none-breaks_reference}
 use Rattle.datastore_answers.proofs.FitLemmas.{put_into-address}
-use Rattle.datastore_answers.proofs.HoldLemmas.{each-kept}
+use Rattle.datastore_answers.proofs.ReferenceLemmas.{each-kept}
 use Rattle.datastore_answers.proofs.KeepLemmas.{number_itself}
-use Rattle.datastore_answers.specs.Changed.{TableChange, changed_tables, cut_from, put_into, with_table_at}
+use Rattle.datastore_answers.specs.Changed.{TableChange, changed_tables, without_rows, put_into, with_table_at}
 use Rattle.datastore_answers.specs.Changed as table
 use Rattle.datastore_answers.specs.Fit.{IsFitTable}
-use Rattle.datastore_answers.specs.Holdings.{holdings_of}
-use Rattle.datastore_answers.specs.Kept.{AreKept}
+use Rattle.datastore_answers.specs.Summaries.{summaries_of}
+use Rattle.datastore_answers.specs.Consistent.{AreConsistent}
 use Rattle.datastore_answers.specs.Order.{at_address, is_at, table_cmp}
 use Rattle.datastore_answers.specs.Tables.{tables_kept}
 use Rattle.datastore_answers.specs.declared.address.Address.{Address}
 use Rattle.datastore_answers.specs.declared.resource_table.ResourceTable.{ResourceTable}
 use Rattle.organization_answers.specs.Fit.{IsFitOrg}
 use Rattle.packages.specs.declared.package.Resource.{Resource}
-use Rattle.visibility.specs.Held.{is_among, loses_referred}
+use Rattle.visibility.specs.TableSummary.{is_among, breaks_references}
 use Rattle.portal_calls.specs.declared.call.Call.{Call}
-use Rattle.visibility.specs.Visibility.{is_harvested, is_open_if_harvested, is_open}
-use Rattle.portal_core.specs.Answer.{asked_of}
+use Rattle.visibility.specs.Visibility.{is_harvested, is_public_if_harvested, is_public}
+use Rattle.portal_core.specs.Answer.{call_view_of}
 use Rattle.portal_core.specs.Changed.{changed, charged, is_in_use, IsUnused}
 use Rattle.portal_core.specs.Fit.{IsFit}
 use Rattle.portal_core.specs.Opened.{opened, is_opening}
-use Rattle.portal_core.specs.State.{State, spent_cmp, spent_cmp_total, bytes_of_user}
+use Rattle.portal_core.specs.State.{State, quota_used_cmp, quota_used_cmp_total, accepted_bytes_of_user}
 use Rattle.portal_core.proofs.Kept.{All-mapped, IsIn-slice_get, unique-at}
 use Rattle.portal_core.proofs.TableViewing.{any-among, made-address}
 use Rattle.portal_core.specs.Valid.{HasHome, IsValid}
@@ -85,9 +85,9 @@ All-ascending : {X : Type 0} (P : X → Type 0) (cmp : X → X → Ordering) (xs
     → All P (ascending cmp xs)
 All-ascending P cmp xs all = All-each P (ascending cmp xs) (λ z m. All-IsIn P xs all z (ascending-IsIn cmp z xs m))
 
--- an organization of the list stands
-stands-opened : (orgs : List Org) (org : List ℕ) (people : Peopled) → people.orgs ≡ ascending org_cmp orgs
-    → list_any (λ o. bytes_eq o.name org) orgs ≡ true → Stands people org
+-- an organization of the list is one of the state
+stands-opened : (orgs : List Org) (org : List ℕ) (people : PeopleLists) → people.orgs ≡ ascending org_cmp orgs
+    → list_any (λ o. bytes_eq o.name org) orgs ≡ true → OrgExists people org
 stands-opened orgs org people same any =
     is_some-find_any (λ o. bytes_eq o.name org) people.orgs
     ∙ ap (list_any (λ (o : Org). bytes_eq o.name org)) same
@@ -100,15 +100,15 @@ opened_valid opening fit =
     let pairs = both _ _ named.0 in
     let names = both _ _ pairs.0 in
     record {
-      people = IsPeopled-ascending opening.users _ opening.orgs _ opening.roles _ names.0 names.1 pairs.1 refl refl
+      people = AreSorted-ascending opening.users _ opening.orgs _ opening.roles _ names.0 names.1 pairs.1 refl refl
           refl;
       orgs = All-ascending (λ (o : Org). o.name ≢ []) org_cmp opening.orgs
           (All-weaker (λ (o : Org). nat_lt 0 (length o.name) ≡ true) (λ (o : Org). o.name ≢ [])
           (λ o long. not_empty o.name long) opening.orgs
           (AllPass-from_list_all (λ (o : Org). nat_lt 0 (length o.name)) opening.orgs named.1));
-      roles = All-ascending (λ (r : Membership). Stands (opened opening).people r.org) membership_cmp opening.roles
+      roles = All-ascending (λ (r : Membership). OrgExists (opened opening).people r.org) membership_cmp opening.roles
           (All-weaker (λ (r : Membership). list_any (λ (o : Org). bytes_eq o.name r.org) opening.orgs ≡ true)
-          (λ (r : Membership). Stands (opened opening).people r.org)
+          (λ (r : Membership). OrgExists (opened opening).people r.org)
           (λ r any. stands-opened opening.orgs r.org (opened opening).people refl any) opening.roles
           (AllPass-from_list_all (λ (r : Membership). list_any (λ (o : Org). bytes_eq o.name r.org) opening.orgs)
           opening.roles homes.1));
@@ -117,7 +117,7 @@ opened_valid opening fit =
       sound = All-nil (IsSound (opened opening).people);
       tables = each-kept [] tt (λ t m. absurd m);
       homes = All-nil (HasHome []);
-      spent = tt;
+      quota_used = tt;
     }
 
 -- ---- what is in use
@@ -156,21 +156,21 @@ free_name None is = refl
 free_name (Some org) is = absurd (cc)
 
 -- a change that is fit, and claims nothing that is in use, is refused for nothing
-pub unfaulted : (change : OrgChange) (call : Call) (state : State) → IsFitOrg (asked_of call state) change
+pub unfaulted : (change : OrgChange) (call : Call) (state : State) → IsFitOrg (call_view_of call state) change
     → IsUnused state (People change) → is_none (org_fault change state.people) ≡ true
 unfaulted (Create org) call state fit unused =
     free_name (org_in state.people org.name) (first_unused (is_in_use state) (OrgName org.name) [] unused).0
-unfaulted (Patch org) call state fit unused = stands_and (org_in state.people org.name) None fit.stands refl
-unfaulted (Remove name) call state fit unused = stands_and (org_in state.people name) None fit.own.stands refl
+unfaulted (Patch org) call state fit unused = stands_and (org_in state.people org.name) None fit.exists refl
+unfaulted (Remove name) call state fit unused = stands_and (org_in state.people name) None fit.own.exists refl
 unfaulted (SetRole org user role) call state fit unused =
-    stands_and (org_in state.people org) _ fit.own.stands
-    (known_and (is_user_in state.people user) None fit.user_stands refl)
+    stands_and (org_in state.people org) _ fit.own.exists
+    (known_and (is_user_in state.people user) None fit.user_exists refl)
 unfaulted (DropRole org user) call state fit unused =
-    stands_and (org_in state.people org) _ fit.fit.own.stands
-    (known_and (is_user_in state.people user) _ fit.fit.user_stands
+    stands_and (org_in state.people org) _ fit.fit.own.exists
+    (known_and (is_user_in state.people user) _ fit.fit.user_exists
     (has_role (role_in state.people org user) fit.has_role))
 
--- what is found passes the test and stands in the list
+-- what is found passes the test and is in the list
 found-is : {X : Type 0} (test : X → Bool) (xs : List X) → is_some (find test xs) ≡ true
     → (x : X) × IsIn x xs × (test x ≡ true)
 found-is test [] some = absurd (cc)
@@ -182,22 +182,22 @@ found-is {X} test (x ∷ xs) some = by (test x) refl some (found-is test xs)
     by true is there rest = (x, inl refl, is)
     by false is there rest = let z = rest there in (z.0, inr z.1, z.2)
 
--- an organization that stands has a name
-named-standing : (people : Peopled) (name : List ℕ) → All (λ o. o.name ≢ []) people.orgs → Stands people name
+-- an organization of the state has a name
+named-present : (people : PeopleLists) (name : List ℕ) → All (λ o. o.name ≢ []) people.orgs → OrgExists people name
     → name ≢ []
-named-standing people name named stands =
+named-present people name named stands =
     let o = found-is (λ (o : Org). bytes_eq o.name name) people.orgs stands in
     subst (λ (n : List ℕ). n ≢ []) ((bytes_eq-Decides o.0.name name).0 o.2)
     (All-IsIn (λ (o : Org). o.name ≢ []) people.orgs named o.0 o.1)
 
 -- the name of every organization that is set isn't empty
 orgs-named : (change : OrgChange) (call : Call) (state : State) → All (λ o. o.name ≢ []) state.people.orgs
-    → IsFitOrg (asked_of call state) change → All (λ o. o.name ≢ []) (changed_people change state.people).orgs
+    → IsFitOrg (call_view_of call state) change → All (λ o. o.name ≢ []) (changed_people change state.people).orgs
 orgs-named (Create org) call state named fit =
-    All-placed (λ (o : Org). o.name ≢ []) org_cmp org state.people.orgs fit.named named
+    All-upserted (λ (o : Org). o.name ≢ []) org_cmp org state.people.orgs fit.named named
 orgs-named (Patch org) call state named fit =
-    All-placed (λ (o : Org). o.name ≢ []) org_cmp org state.people.orgs
-    (named-standing state.people org.name named fit.stands) named
+    All-upserted (λ (o : Org). o.name ≢ []) org_cmp org state.people.orgs
+    (named-present state.people org.name named fit.exists) named
 orgs-named (Remove name) call state named fit =
     All-dropped (λ (o : Org). o.name ≢ []) (org_at name) state.people.orgs named
 orgs-named (SetRole org user role) call state named fit = named
@@ -210,12 +210,12 @@ none_passes test z [] none m = absurd m
 none_passes test z (x ∷ xs) none (inl e) = ap test e ∙ (both_false (test x) (list_any test xs) none).0
 none_passes test z (x ∷ xs) none (inr m) = none_passes test z xs (both_false (test x) (list_any test xs) none).1 m
 
--- the organizations of datasets stand after the change
+-- the organizations of datasets exist after the change
 home-left : (change : OrgChange) (call : Call) (state : State) (d : Package) → IsIn d state.datasets
-    → IsFitOrg (asked_of call state) change → Stands state.people d.owner_org
-    → Stands (changed_people change state.people) d.owner_org
-home-left (Create org) call state d within fit stands = stands-with_org org state.people d.owner_org stands
-home-left (Patch org) call state d within fit stands = stands-with_org org state.people d.owner_org stands
+    → IsFitOrg (call_view_of call state) change → OrgExists state.people d.owner_org
+    → OrgExists (changed_people change state.people) d.owner_org
+home-left (Create org) call state d within fit stands = org_exists-with_org org state.people d.owner_org stands
+home-left (Patch org) call state d within fit stands = org_exists-with_org org state.people d.owner_org stands
 home-left (Remove name) call state d within fit stands =
     ap (λ (o : Option Org). is_some o)
     (org_in-without_org_other state.people name d.owner_org
@@ -227,10 +227,10 @@ home-left (Remove name) call state d within fit stands =
 home-left (SetRole org user role) call state d within fit stands = stands
 home-left (DropRole org user) call state d within fit stands = stands
 
-at-home : (people : Peopled) (d : Package) (was : Peopled) → IsSound was d → Stands people d.owner_org
+at-home : (people : PeopleLists) (d : Package) (was : PeopleLists) → IsSound was d → OrgExists people d.owner_org
     → IsSound people d
 at-home people d was is stands = record {
-  made_here = is.made_here;
+  not_harvested = is.not_harvested;
   id = is.id;
   name = is.name;
   org = stands;
@@ -239,12 +239,12 @@ at-home people d was is stands = record {
 }
 
 people-valid : (change : OrgChange) (call : Call) (state : State) → IsValid state
-    → IsFitOrg (asked_of call state) change → IsUnused state (People change)
+    → IsFitOrg (call_view_of call state) change → IsUnused state (People change)
     → IsValid (changed (People change) state)
 people-valid change call state valid fit unused = record {
-  people = IsPeopled-changed change state.people valid.people;
+  people = AreSorted-changed change state.people valid.people;
   orgs = orgs-named change call state valid.orgs fit;
-  roles = AreHoused-changed change state.people (unfaulted change call state fit unused) valid.roles;
+  roles = RolesHaveOrgs-changed change state.people (unfaulted change call state fit unused) valid.roles;
   datasets = valid.datasets;
   names = valid.names;
   sound = All-each (IsSound (changed_people change state.people)) state.datasets
@@ -254,7 +254,7 @@ people-valid change call state valid fit unused = record {
       (home-left change call state d within fit was.org));
   tables = valid.tables;
   homes = valid.homes;
-  spent = valid.spent;
+  quota_used = valid.quota_used;
 }
 
 -- ---- datasets that change
@@ -267,10 +267,10 @@ same_text a b e = (bytes_eq-Decides a b).1 e
 names-placed : (d : Package) (datasets : List Package)
     → ((e f : Package) → Contains datasets e → Contains datasets f → e.name ≡ f.name → e ≡ f)
     → ((e : Package) → Contains datasets e → e.name ≡ d.name → is_eq (dataset_cmp e d) ≡ true)
-    → (e f : Package) → Contains (placed dataset_cmp d datasets) e → Contains (placed dataset_cmp d datasets) f
+    → (e f : Package) → Contains (upserted dataset_cmp d datasets) e → Contains (upserted dataset_cmp d datasets) f
     → e.name ≡ f.name → e ≡ f
 names-placed d datasets distinct free e f in_e in_f same =
-    by (Contains-placed dataset_cmp d e datasets in_e) (Contains-placed dataset_cmp d f datasets in_f)
+    by (Contains-upserted dataset_cmp d e datasets in_e) (Contains-upserted dataset_cmp d f datasets in_f)
   where
     by : (e ≡ d) ⊎ (Contains datasets e × (is_eq (dataset_cmp e d) ≡ false))
         → (f ≡ d) ⊎ (Contains datasets f × (is_eq (dataset_cmp f d) ≡ false)) → e ≡ f
@@ -289,18 +289,18 @@ names-placed d datasets distinct free e f in_e in_f same =
 
 placed-valid : (d : Package) (tables : List ResourceTable) (state : State) → IsValid state → IsSound state.people d
     → ((e : Package) → Contains state.datasets e → e.name ≡ d.name → is_eq (dataset_cmp e d) ≡ true)
-    → AreKept tables → All (HasHome (placed dataset_cmp d state.datasets)) tables
-    → IsValid (record state { datasets = placed dataset_cmp d state.datasets; tables = tables })
+    → AreConsistent tables → All (HasHome (upserted dataset_cmp d state.datasets)) tables
+    → IsValid (record state { datasets = upserted dataset_cmp d state.datasets; tables = tables })
 placed-valid d tables state valid sound free kept homes = record {
   people = valid.people;
   orgs = valid.orgs;
   roles = valid.roles;
-  datasets = IsAscending-placed dataset_cmp dataset_cmp_total d state.datasets valid.datasets;
+  datasets = IsAscending-upserted dataset_cmp dataset_cmp_total d state.datasets valid.datasets;
   names = names-placed d state.datasets valid.names free;
-  sound = All-placed (IsSound state.people) dataset_cmp d state.datasets sound valid.sound;
+  sound = All-upserted (IsSound state.people) dataset_cmp d state.datasets sound valid.sound;
   tables = kept;
   homes = homes;
-  spent = valid.spent;
+  quota_used = valid.quota_used;
 }
 
 -- ---- the tables of datasets
@@ -315,18 +315,18 @@ no-tables d state valid unused t within =
     let home = All-IsIn (HasHome state.datasets) state.tables valid.homes t within in
     ap (λ (id : List ℕ). bytes_eq id d.id) (sym home.id)
     ∙ none_passes (λ (e : Package). bytes_eq e.id d.id) home.dataset state.datasets unknown
-    (IsIn-Contains home.dataset state.datasets home.stands)
+    (IsIn-Contains home.dataset state.datasets home.is_present)
 
--- a table of another dataset keeps its home where one is placed, and one of that dataset has its home there
+-- a table of another dataset keeps its home where a dataset is inserted, and a table of that dataset has its home there
 home-placed : (d : Package) (datasets : List Package) (t : ResourceTable) → HasHome datasets t
     → (bytes_eq t.address.dataset d.id ≡ false) ⊎ (is_among d.resources t.address.number ≡ true)
-    → HasHome (placed dataset_cmp d datasets) t
+    → HasHome (upserted dataset_cmp d datasets) t
 home-placed d datasets t home known = by (bytes_eq t.address.dataset d.id) refl known
   where
-    other : bytes_eq t.address.dataset d.id ≡ false → HasHome (placed dataset_cmp d datasets) t
+    other : bytes_eq t.address.dataset d.id ≡ false → HasHome (upserted dataset_cmp d datasets) t
     other is = record {
       dataset = home.dataset;
-      stands = placed-Contains_other dataset_cmp d home.dataset datasets home.stands
+      is_present = upserted-Contains_other dataset_cmp d home.dataset datasets home.is_present
           (is_eq-slice_cmp home.dataset.id d.id ∙ ap (λ (id : List ℕ). bytes_eq id d.id) home.id ∙ is);
       id = home.id;
       resource = home.resource;
@@ -334,12 +334,12 @@ home-placed d datasets t home known = by (bytes_eq t.address.dataset d.id) refl 
 
     by : (b : Bool) → bytes_eq t.address.dataset d.id ≡ b
         → (bytes_eq t.address.dataset d.id ≡ false) ⊎ (is_among d.resources t.address.number ≡ true)
-        → HasHome (placed dataset_cmp d datasets) t
+        → HasHome (upserted dataset_cmp d datasets) t
     by b is (inl apart) = other apart
     by false is (inr among) = other is
     by true is (inr among) = record {
       dataset = d;
-      stands = placed-Contains dataset_cmp d datasets;
+      is_present = upserted-Contains dataset_cmp d datasets;
       id = sym ((bytes_eq-Decides t.address.dataset d.id).0 is);
       resource = among;
     }
@@ -363,28 +363,29 @@ all-stay old d state valid stood is keeps =
         → (not (bytes_eq t.address.dataset d.id) || is_among d.resources t.address.number) ≡ true
     by t home false other = ap (λ b. not b || is_among d.resources t.address.number) other
     by t home true own =
-        let here : home.dataset ≡ old = same-dataset state.datasets valid.datasets home.dataset old home.stands stood
+        let here : home.dataset ≡ old = same-dataset state.datasets valid.datasets home.dataset old home.is_present
+        stood
         (home.id ∙ (bytes_eq-Decides t.address.dataset d.id).0 own ∙ sym is) in
         ap (λ b. not b || is_among d.resources t.address.number) own
         ∙ keeps t.address.number
         (subst (λ (e : Package). is_among e.resources t.address.number ≡ true) here home.resource)
 
--- the tables that stay where a dataset takes the place of another are kept
+-- the tables that stay where a dataset replaces another are kept
 replaced-kept : (d : Package) (call : Call) (state : State) → IsValid state
-    → IsFitDataset (asked_of call state) (holdings_of state.tables) (dataset.Replace d)
-    → AreKept (tables_kept d.id d.resources state.tables)
-replaced-kept d call state valid fit = by fit.spared
+    → IsFitDataset (call_view_of call state) (summaries_of state.tables) (dataset.Replace d)
+    → AreConsistent (tables_kept d.id d.resources state.tables)
+replaced-kept d call state valid fit = by fit.keeps_references
   where
-    by : KeepsResources fit.old d ⊎ (loses_referred (holdings_of state.tables) d.id d.resources ≡ false)
-        → AreKept (tables_kept d.id d.resources state.tables)
-    by (inl keeps) = subst AreKept (sym (all-stay fit.old d state valid fit.stood fit.id keeps)) valid.tables
+    by : KeepsResources fit.old d ⊎ (breaks_references (summaries_of state.tables) d.id d.resources ≡ false)
+        → AreConsistent (tables_kept d.id d.resources state.tables)
+    by (inl keeps) = subst AreConsistent (sym (all-stay fit.old d state valid fit.is_present fit.id keeps)) valid.tables
     by (inr none) = drops-kept state.tables d.id d.resources valid.tables none
 
 -- each of those has its home
 replaced-homes : (d : Package) (state : State) → IsValid state
-    → All (HasHome (placed dataset_cmp d state.datasets)) (tables_kept d.id d.resources state.tables)
+    → All (HasHome (upserted dataset_cmp d state.datasets)) (tables_kept d.id d.resources state.tables)
 replaced-homes d state valid =
-    All-each (HasHome (placed dataset_cmp d state.datasets)) (tables_kept d.id d.resources state.tables)
+    All-each (HasHome (upserted dataset_cmp d state.datasets)) (tables_kept d.id d.resources state.tables)
     (λ t m. let was = IsIn-filter
     (λ t. not (bytes_eq t.address.dataset d.id) || is_among d.resources t.address.number) t state.tables m in
     home-placed d state.datasets t (All-IsIn (HasHome state.datasets) state.tables valid.homes t was.0)
@@ -403,7 +404,7 @@ left-homes id state valid =
     state.tables m in
     let home = All-IsIn (HasHome state.datasets) state.tables valid.homes t was.0 in record {
       dataset = home.dataset;
-      stands = dropped-Contains (dataset_at_id id) home.dataset state.datasets home.stands
+      is_present = dropped-Contains (dataset_at_id id) home.dataset state.datasets home.is_present
           (is_eq-slice_cmp home.dataset.id id ∙ ap (λ (i : List ℕ). bytes_eq i id) home.id
           ∙ apart (bytes_eq t.address.dataset id) was.1);
       id = home.id;
@@ -415,7 +416,7 @@ left-homes id state valid =
     apart false is = refl
 
 datasets-valid : (change : DatasetChange) (call : Call) (state : State) → IsValid state
-    → IsFitDataset (asked_of call state) (holdings_of state.tables) change → IsUnused state (Datasets change)
+    → IsFitDataset (call_view_of call state) (summaries_of state.tables) change → IsUnused state (Datasets change)
     → IsValid (changed (Datasets change) state)
 datasets-valid (dataset.Create d) call state valid fit unused =
     let unnamed : has_name d.name state.datasets ≡ false =
@@ -427,15 +428,15 @@ datasets-valid (dataset.Create d) call state valid fit unused =
     (IsIn-Contains e state.datasets within) in
     absurd (cc))
     valid.tables
-    (All-each (HasHome (placed dataset_cmp d state.datasets)) state.tables
+    (All-each (HasHome (upserted dataset_cmp d state.datasets)) state.tables
     (λ t within. home-placed d state.datasets t
     (All-IsIn (HasHome state.datasets) state.tables valid.homes t within)
     (inl (no-tables d state valid unused t within))))
 datasets-valid (dataset.Replace d) call state valid fit unused =
     placed-valid d (tables_kept d.id d.resources state.tables) state valid
     (fit.sound (All-IsIn (IsSound state.people) state.datasets valid.sound fit.old
-    (IsIn-Contains fit.old state.datasets fit.stood)))
-    (λ e within named. let is : e ≡ fit.old = valid.names e fit.old within fit.stood (named ∙ sym fit.name) in
+    (IsIn-Contains fit.old state.datasets fit.is_present)))
+    (λ e within named. let is : e ≡ fit.old = valid.names e fit.old within fit.is_present (named ∙ sym fit.name) in
     is_eq-slice_cmp e.id d.id ∙ same_text e.id d.id (ap (λ (x : Package). x.id) is ∙ fit.id))
     (replaced-kept d call state valid fit) (replaced-homes d state valid)
 datasets-valid (dataset.Remove id) call state valid fit unused = record {
@@ -446,14 +447,14 @@ datasets-valid (dataset.Remove id) call state valid fit unused = record {
   names = λ e f in_e in_f same. valid.names e f (Contains-dropped (dataset_at_id id) e state.datasets in_e).0
       (Contains-dropped (dataset_at_id id) f state.datasets in_f).0 same;
   sound = All-dropped (IsSound state.people) (dataset_at_id id) state.datasets valid.sound;
-  tables = drops-kept state.tables id [] valid.tables (none-loses state.tables id);
+  tables = drops-kept state.tables id [] valid.tables (none-breaks_reference state.tables id);
   homes = left-homes id state valid;
-  spent = valid.spent;
+  quota_used = valid.quota_used;
 }
 
 -- ---- tables that change
 
--- a resource that stands at a place is among them
+-- a resource that is at a position is among them
 among-at : (resources : List Resource) (place : ℕ) (r : Resource) → slice_get resources place ≡ Some r
     → is_among resources r.number ≡ true
 among-at resources place r there =
@@ -468,34 +469,34 @@ home-made datasets a make same tables homes =
     All-mapped (HasHome datasets) (λ t. if is_at a t then make t else t) tables
     (λ t home. let there = made-address a make same t in record {
       dataset = home.dataset;
-      stands = home.stands;
+      is_present = home.is_present;
       id = home.id ∙ sym (ap (λ (b : Address). b.dataset) there);
       resource = subst (λ (b : Address). is_among home.dataset.resources b.number ≡ true) (sym there) home.resource;
     }) homes
 
 tables-homes : (change : TableChange) (call : Call) (state : State) → IsValid state
-    → IsFitTable (asked_of call state) state.tables change
+    → IsFitTable (call_view_of call state) state.tables change
     → All (HasHome state.datasets) (changed_tables change state.tables)
 tables-homes (table.Create t) call state valid fit =
-    All-placed (HasHome state.datasets) table_cmp t state.tables
+    All-upserted (HasHome state.datasets) table_cmp t state.tables
     (record {
       dataset = fit.own.placed.dataset;
-      stands = fit.own.stood;
+      is_present = fit.own.is_present;
       id = sym (ap (λ (a : Address). a.dataset) fit.own.here);
       resource = subst (λ (a : Address). is_among fit.own.placed.dataset.resources a.number ≡ true)
           (sym fit.own.here)
-          (among-at fit.own.placed.dataset.resources fit.own.placed.place fit.own.placed.resource fit.own.named);
+          (among-at fit.own.placed.dataset.resources fit.own.placed.position fit.own.placed.resource fit.own.named);
     })
     valid.homes
 tables-homes (table.Remove a) call state valid fit =
     All-dropped (HasHome state.datasets) (at_address a) state.tables valid.homes
 tables-homes (table.Put a how records) call state valid fit =
     home-made state.datasets a (put_into how records) (put_into-address how records) state.tables valid.homes
-tables-homes (table.Cut a ids) call state valid fit =
-    home-made state.datasets a (cut_from ids) (λ t. refl) state.tables valid.homes
+tables-homes (table.DeleteRows a ids) call state valid fit =
+    home-made state.datasets a (without_rows ids) (λ t. refl) state.tables valid.homes
 
 tables-valid : (change : TableChange) (call : Call) (state : State) → IsValid state
-    → IsFitTable (asked_of call state) state.tables change → IsValid (changed (Tables change) state)
+    → IsFitTable (call_view_of call state) state.tables change → IsValid (changed (Tables change) state)
 tables-valid change call state valid fit = record {
   people = valid.people;
   orgs = valid.orgs;
@@ -503,9 +504,9 @@ tables-valid change call state valid fit = record {
   datasets = valid.datasets;
   names = valid.names;
   sound = valid.sound;
-  tables = fit-kept (asked_of call state) state.tables change valid.tables fit;
+  tables = fit-kept (call_view_of call state) state.tables change valid.tables fit;
   homes = tables-homes change call state valid fit;
-  spent = valid.spent;
+  quota_used = valid.quota_used;
 }
 
 -- ---- a change, and what is charged for it
@@ -527,17 +528,18 @@ charged_valid (Named user) size state valid = record {
   sound = valid.sound;
   tables = valid.tables;
   homes = valid.homes;
-  spent = IsAscending-placed spent_cmp spent_cmp_total
-      (record { user = user; bytes = bytes_of_user user state.spent + size }) state.spent valid.spent;
+  quota_used = IsAscending-upserted quota_used_cmp quota_used_cmp_total
+      (record { user = user; bytes = accepted_bytes_of_user user state.quota_used + size }) state.quota_used
+      valid.quota_used;
 }
 
 -- ---- what is harvested
 
-made-here_open : (d : Package) → is_harvested d ≡ false → is_open_if_harvested d ≡ true
-made-here_open d here = ap (λ b. not b || is_open d) here
+made-here_open : (d : Package) → is_harvested d ≡ false → is_public_if_harvested d ≡ true
+made-here_open d here = ap (λ b. not b || is_public d) here
 
 -- in a valid state nothing is harvested that isn't open
-pub harvested_open : (state : State) → IsValid state → list_all is_open_if_harvested state.datasets ≡ true
+pub harvested_open : (state : State) → IsValid state → list_all is_public_if_harvested state.datasets ≡ true
 harvested_open state valid =
-    IsIn-list_all is_open_if_harvested state.datasets
-    (λ d within. made-here_open d (All-IsIn (IsSound state.people) state.datasets valid.sound d within).made_here)
+    IsIn-list_all is_public_if_harvested state.datasets
+    (λ d within. made-here_open d (All-IsIn (IsSound state.people) state.datasets valid.sound d within).not_harvested)

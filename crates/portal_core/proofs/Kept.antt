@@ -8,9 +8,9 @@ use Rattle.std.specs.Prelude.{filter}
 use Rattle.std.specs.Cmp.{IsTotalOrder}
 use Rattle.std.specs.declared.cmp.Ordering.{Ordering}
 use Rattle.std.proofs.lemmas.Cmp.{tied_back}
-use Rattle.portal_base.specs.Ordered.{IsAscending, placed, dropped}
+use Rattle.portal_base.specs.Ordered.{IsAscending, upserted, dropped}
 use Rattle.portal_base.proofs.Filtered.{IsAscending-filter}
-use Rattle.portal_base.proofs.Placed.{All-IsIn, All-each, filter-placed, filter-dropped}
+use Rattle.portal_base.proofs.Upserted.{All-IsIn, All-each, filter-upserted, filter-dropped}
 use Rattle.portal_base.proofs.Removed.{is_eq_true}
 use Rattle.portal_base.proofs.Unique.{IsIn, below_in}
 
@@ -28,14 +28,14 @@ filter-narrower {X} p q (x ∷ xs) narrower =
     by true is false keeps rest = let seen : q x ≡ true = narrower x (inl refl) is in absurd (cc)
     by false is false keeps rest = rest
 
--- what is kept of a list in which an item was placed hangs on what is kept of the list
+-- what is kept of a list in which an item was inserted depends on what is kept of the list
 pub placed-kept : {X : Type 0} (cmp : X → X → Ordering) (o : IsTotalOrder cmp) (p q : X → Bool) (x : X) (xs : List X)
     → IsAscending cmp xs → filter p (filter q xs) ≡ filter p xs
-    → filter p (placed cmp x (filter q xs)) ≡ filter p (placed cmp x xs)
+    → filter p (upserted cmp x (filter q xs)) ≡ filter p (upserted cmp x xs)
 placed-kept cmp o p q x xs up same =
-    filter-placed cmp o p x (filter q xs) (IsAscending-filter cmp q xs up)
-    ∙ ap (λ l. cond (p x) (placed cmp x l) (dropped (λ y. cmp y x) l)) same
-    ∙ sym (filter-placed cmp o p x xs up)
+    filter-upserted cmp o p x (filter q xs) (IsAscending-filter cmp q xs up)
+    ∙ ap (λ l. cond (p x) (upserted cmp x l) (dropped (λ y. cmp y x) l)) same
+    ∙ sym (filter-upserted cmp o p x xs up)
 
 pub dropped-kept : {X : Type 0} (p q : X → Bool) (at : X → Ordering) (xs : List X) → filter p (filter q xs)
     ≡ filter p xs
@@ -66,7 +66,7 @@ unique-at cmp o (z ∷ zs) up x y (inr in_x) (inl is_y) like =
     absurd (cc)
 unique-at cmp o (z ∷ zs) up x y (inr in_x) (inr in_y) like = unique-at cmp o zs up.1 x y in_x in_y like
 
--- what stands at a place is in the list
+-- what is at an index is in the list
 pub IsIn-slice_get : {X : Type 0} (xs : List X) (place : ℕ) (x : X) → slice_get xs place ≡ Some x → IsIn x xs
 IsIn-slice_get [] place x there = absurd (cc)
 IsIn-slice_get (y ∷ ys) zero x there = inl (let same : y ≡ x = cc in sym same)

@@ -8,32 +8,32 @@ use Rattle.std.specs.Str.{bytes_eq}
 use Rattle.std.proofs.lemmas.Slice.Eq.{bytes_eq-Decides}
 use Rattle.portal_base.proofs.Filtered.{is_some-find_any}
 use Rattle.portal_base.proofs.Inserted.{list_any-ascending}
-use Rattle.portal_base.proofs.Placed.{All-IsIn}
+use Rattle.portal_base.proofs.Upserted.{All-IsIn}
 use Rattle.portal_base.proofs.Unique.{IsIn, IsIn-Contains}
 use Rattle.portal_base.specs.Name.{is_name}
 use Rattle.portal_base.specs.Ordered.{ascending}
 use Rattle.org_roles.specs.Order.{user_cmp, org_cmp, membership_cmp}
 use Rattle.packages.specs.Named.{is_named}
 use Rattle.packages.specs.Order.{dataset_cmp}
-use Rattle.packages.specs.Shelf.{Shelved, IsShelved, standing_at, number_in, datasets_of}
+use Rattle.packages.specs.Shelf.{ShelfState, IsValidShelf, package_at, number_in, datasets_of}
 use Rattle.packages.specs.declared.package.Package.{Package}
 use Rattle.packages.specs.declared.package.TheConstants.{LONGEST_NAME}
 use Rattle.packages.proofs.FindLemmas.{IsIn-find, find-none, list_any-map}
-use Rattle.packages.proofs.NumberLemmas.{IsIn-standing, standing-IsIn}
-use Rattle.packages.proofs.ShelfLemmas.{among_is_standing}
+use Rattle.packages.proofs.EntryLemmas.{IsIn-package_at, package_at-IsIn}
+use Rattle.packages.proofs.ShelfLemmas.{number_of_member}
 use Rattle.portal_calls.specs.declared.call.Call.{Call}
-use Rattle.datastore_answers.specs.Holdings.{holdings_of}
-use Rattle.datastore_answers.specs.Tables.{bare, tables_of}
+use Rattle.datastore_answers.specs.Summaries.{summaries_of}
+use Rattle.datastore_answers.specs.Tables.{without_room, tables_of}
 use Rattle.dataset_answers.specs.Changed.{has_name, has_id}
 use Rattle.dataset_answers.specs.Fit.{IsFitDataset}
 use Rattle.dataset_answers.specs.Sound.{IsSound, IsId}
 use Rattle.dataset_answers.specs.declared.change.DatasetChange.{DatasetChange}
 use Rattle.dataset_answers.specs.declared.change.DatasetChange.TheVariants as dataset
-use Rattle.portal_core.specs.Answer.{asked_of}
+use Rattle.portal_core.specs.Answer.{call_view_of}
 use Rattle.portal_core.specs.Changed.{is_in_use, IsUnused}
 use Rattle.portal_core.specs.Fit.{IsFit}
 use Rattle.portal_core.specs.Opened.{opened, is_opening}
-use Rattle.portal_core.specs.Parts.{state_of, IsWhole, IsFree, IsHeld, IsTakenBy, IsUnrefused, MakesSound}
+use Rattle.portal_core.specs.Parts.{state_of, IsConsistent, IsFree, IsOnShelf, IsTakenBy, IsUnrefused}
 use Rattle.portal_core.specs.Valid.{IsValid}
 use Rattle.portal_core.specs.Change.{Change, People, Datasets, Tables}
 use Rattle.portal_core.specs.declared.change.Claim.TheVariants.{DatasetName, DatasetId}
@@ -77,7 +77,7 @@ is_some-map f None = refl
 is_some-map f (Some x) = refl
 
 -- a text leads to a number exactly where it names one of the datasets
-pub leads_is : (shelf : Shelved) (key : List ℕ)
+pub leads_is : (shelf : ShelfState) (key : List ℕ)
     → is_some (number_in key shelf) ≡ list_any (is_named key) (datasets_of shelf)
 leads_is shelf key =
     is_some-map (λ (e : ℕ × Package). e.0) (find (λ e. is_named key e.1) shelf.entries)
@@ -93,20 +93,20 @@ only_right : (a b : Bool) → a ≡ false → (a || b) ≡ b
 only_right a b is = ap (λ c. c || b) is
 
 -- the name of a sound dataset is in use exactly where it leads to a number
-pub name_used : (parts : Parts) (d : Package) → IsWhole parts → IsSound parts.people.people d
+pub name_used : (parts : Parts) (d : Package) → IsConsistent parts → IsSound parts.people.people d
     → is_some (number_in d.name parts.shelf) ≡ has_name d.name (datasets_of parts.shelf)
-name_used parts d whole sound =
-    let each = All-IsIn (IsSound parts.people.people) (datasets_of parts.shelf) whole.valid.sound in
+name_used parts d consistent sound =
+    let each = All-IsIn (IsSound parts.people.people) (datasets_of parts.shelf) consistent.valid.sound in
     leads_is parts.shelf d.name
     ∙ list_any-within (is_named d.name) (λ e. bytes_eq e.name d.name) (datasets_of parts.shelf)
     (λ e within. only_right (bytes_eq e.id d.name) (bytes_eq e.name d.name)
     (name_is_no_id d.name e.id sound.name (each e within).id))
 
 -- and so is its id
-pub id_used : (parts : Parts) (d : Package) → IsWhole parts → IsSound parts.people.people d
+pub id_used : (parts : Parts) (d : Package) → IsConsistent parts → IsSound parts.people.people d
     → is_some (number_in d.id parts.shelf) ≡ has_id d.id (datasets_of parts.shelf)
-id_used parts d whole sound =
-    let each = All-IsIn (IsSound parts.people.people) (datasets_of parts.shelf) whole.valid.sound in
+id_used parts d consistent sound =
+    let each = All-IsIn (IsSound parts.people.people) (datasets_of parts.shelf) consistent.valid.sound in
     leads_is parts.shelf d.id
     ∙ list_any-within (is_named d.id) (λ e. bytes_eq e.id d.id) (datasets_of parts.shelf)
     (λ e within. only_left (bytes_eq e.id d.id) (bytes_eq e.name d.id)
@@ -116,14 +116,14 @@ none_of : {X : Type 0} (o : Option X) → is_some o ≡ false → o ≡ None
 none_of None is = refl
 none_of (Some x) is = absurd (cc)
 
-free : (parts : Parts) (call : Call) (d : Package) → IsWhole parts → IsSound parts.people.people d
+free : (parts : Parts) (call : Call) (d : Package) → IsConsistent parts → IsSound parts.people.people d
     → IsUnused (state_of parts) (Datasets (dataset.Create d)) → IsFree parts.shelf d
-free parts call d whole sound unused =
+free parts call d consistent sound unused =
     let unnamed = first_unused (is_in_use (state_of parts)) (DatasetName d.name) (DatasetId d.id ∷ []) unused in
     let unknown = first_unused (is_in_use (state_of parts)) (DatasetId d.id) [] unnamed.1 in
     record {
-      id = none_of (number_in d.id parts.shelf) (id_used parts d whole sound ∙ unknown.0);
-      name = none_of (number_in d.name parts.shelf) (name_used parts d whole sound ∙ unnamed.0);
+      id = none_of (number_in d.id parts.shelf) (id_used parts d consistent sound ∙ unknown.0);
+      name = none_of (number_in d.name parts.shelf) (name_used parts d consistent sound ∙ unnamed.0);
     }
 
 -- ---- what an id leads to
@@ -132,98 +132,90 @@ own_id : (d : Package) → is_named d.id d ≡ true
 own_id d = ap (λ b. b || bytes_eq d.name d.id) ((bytes_eq-Decides d.id d.id).1 refl)
 
 -- the id of a dataset leads to its number
-led : (shelf : Shelved) → IsShelved shelf → (d : Package) → IsIn d (datasets_of shelf)
-    → (n : ℕ) × (number_in d.id shelf ≡ Some n) × (standing_at n shelf ≡ Some d)
+led : (shelf : ShelfState) → IsValidShelf shelf → (d : Package) → IsIn d (datasets_of shelf)
+    → (n : ℕ) × (number_in d.id shelf ≡ Some n) × (package_at n shelf ≡ Some d)
 led shelf shelved d within =
-    let place = among_is_standing shelf shelved d within in
+    let place = number_of_member shelf shelved d within in
     (place.0, by place.0 place.1 (find (λ e. is_named d.id e.1) shelf.entries) refl, place.1)
   where
-    by : (n : ℕ) → standing_at n shelf ≡ Some d → (o : Option (ℕ × Package))
+    by : (n : ℕ) → package_at n shelf ≡ Some d → (o : Option (ℕ × Package))
         → find (λ e. is_named d.id e.1) shelf.entries ≡ o → option_map (λ (e : ℕ × Package). e.0) o ≡ Some n
     by n stands None is =
         let named : is_named d.id d ≡ true = own_id d in
         let other : is_named d.id d ≡ false =
         find-none (λ (e : ℕ × Package). is_named d.id e.1) (n, d) shelf.entries is
-        (IsIn-standing n d shelf.entries stands) in
+        (IsIn-package_at n d shelf.entries stands) in
         absurd (cc)
     by n stands (Some e) is =
         let there = IsIn-find (λ (e : ℕ × Package). is_named d.id e.1) e shelf.entries is in
         ap Some
-        (shelved.apart d.id e.0 n e.1 d (standing-IsIn e.0 e.1 shelf.entries shelved.numbers there.0) stands there.1
+        (shelved.apart d.id e.0 n e.1 d (package_at-IsIn e.0 e.1 shelf.entries shelved.numbers there.0) stands there.1
         (own_id d))
 
-held : (shelf : Shelved) → IsShelved shelf → (d : Package) (id : List ℕ) → IsIn d (datasets_of shelf) → d.id ≡ id
-    → IsHeld shelf id
-held shelf shelved d id within is =
+on_shelf : (shelf : ShelfState) → IsValidShelf shelf → (d : Package) (id : List ℕ) → IsIn d (datasets_of shelf) → d.id ≡ id
+    → IsOnShelf shelf id
+on_shelf shelf shelved d id within is =
     let place = led shelf shelved d within in
     record {
       number = place.0;
       leads = ap (λ (key : List ℕ). number_in key shelf) (sym is) ∙ place.1;
-      stands = ap (option_map (λ (e : Package). e.id)) place.2 ∙ ap Some is;
+      is_present = ap (option_map (λ (e : Package). e.id)) place.2 ∙ ap Some is;
     }
 
 -- ---- changes
 
-taken : (change : DatasetChange) (parts : Parts) (call : Call) → IsWhole parts
-    → IsFitDataset (asked_of call (state_of parts)) (holdings_of (state_of parts).tables) change
+taken : (change : DatasetChange) (parts : Parts) (call : Call) → IsConsistent parts
+    → IsFitDataset (call_view_of call (state_of parts)) (summaries_of (state_of parts).tables) change
     → IsUnused (state_of parts) (Datasets change)
     → IsTakenBy change parts.shelf
-unfolding held led
-taken (dataset.Create d) parts call whole fit unused = free parts call d whole fit unused
-taken (dataset.Replace d) parts call whole fit unused =
-    let within = IsIn-Contains fit.old (datasets_of parts.shelf) fit.stood in
-    let place = led parts.shelf whole.shelved fit.old within in
+unfolding on_shelf led
+taken (dataset.Create d) parts call consistent fit unused = free parts call d consistent fit unused
+taken (dataset.Replace d) parts call consistent fit unused =
+    let within = IsIn-Contains fit.old (datasets_of parts.shelf) fit.is_present in
+    let place = led parts.shelf consistent.shelved fit.old within in
     record {
-      held = held parts.shelf whole.shelved fit.old d.id within fit.id;
+      on_shelf = on_shelf parts.shelf consistent.shelved fit.old d.id within fit.id;
       name = ap (option_map (λ (e : Package). e.name)) place.2 ∙ ap Some fit.name;
     }
-taken (dataset.Remove id) parts call whole fit unused =
-    held parts.shelf whole.shelved fit.old id (IsIn-Contains fit.old (datasets_of parts.shelf) fit.stood) fit.id
+taken (dataset.Remove id) parts call consistent fit unused =
+    on_shelf parts.shelf consistent.shelved fit.old id (IsIn-Contains fit.old (datasets_of parts.shelf) fit.is_present)
+    fit.id
 
 -- What is fit, and claims nothing that is in use, is refused for nothing.
-pub unrefused : (change : Change) (parts : Parts) (call : Call) → IsWhole parts
+pub unrefused : (change : Change) (parts : Parts) (call : Call) → IsConsistent parts
     → IsFit call (state_of parts) change → IsUnused (state_of parts) change → IsUnrefused change parts
-unrefused (People change) parts call whole fit unused = unfaulted change call (state_of parts) fit unused
-unrefused (Datasets change) parts call whole fit unused = taken change parts call whole fit unused
-unrefused (Tables change) parts call whole fit unused = tt
-
--- a new dataset that is fit is sound
-pub makes_sound : (change : Change) (parts : Parts) (call : Call) → IsFit call (state_of parts) change
-    → MakesSound change parts
-makes_sound (People change) parts call fit = tt
-makes_sound (Datasets (dataset.Create d)) parts call fit = fit
-makes_sound (Datasets (dataset.Replace d)) parts call fit = tt
-makes_sound (Datasets (dataset.Remove id)) parts call fit = tt
-makes_sound (Tables change) parts call fit = tt
+unrefused (People change) parts call consistent fit unused = unfaulted change call (state_of parts) fit unused
+unrefused (Datasets change) parts call consistent fit unused = taken change parts call consistent fit unused
+unrefused (Tables change) parts call consistent fit unused = tt
 
 -- ---- an opening
 
-empty_shelved : (shelf : Shelved) → shelf.entries ≡ [] → shelf.room ≡ None → IsShelved shelf
+empty_shelved : (shelf : ShelfState) → shelf.entries ≡ [] → shelf.room ≡ None → IsValidShelf shelf
 empty_shelved shelf none no_room =
-    subst IsShelved same (record {
+    subst IsValidShelf same (record {
       numbers = tt;
       below = λ n d there. absurd (cc);
       apart = λ key m n d e there. absurd (cc);
       vacant = tt;
     })
   where
-    empty : Shelved
+    empty : ShelfState
     empty = record { entries = []; room = None }
 
     same : empty ≡ shelf
     same = rw (none, no_room) refl
 
 -- Parts with the people of an opening, nothing on the shelf and nothing charged make up a valid state.
-pub opened_whole : (parts : Parts) (opening : Opening) → is_opening opening ≡ true
+pub opened_consistent : (parts : Parts) (opening : Opening) → is_opening opening ≡ true
     → parts.people.people.users ≡ ascending user_cmp opening.users
     → parts.people.people.orgs ≡ ascending org_cmp opening.orgs
     → parts.people.people.roles ≡ ascending membership_cmp opening.roles
-    → parts.shelf.entries ≡ [] → parts.shelf.room ≡ None → parts.tables.tables ≡ [] → parts.spent.items ≡ []
-    → IsWhole parts
-opened_whole parts opening fit users orgs roles none no_room no_table no_charge =
+    → parts.shelf.entries ≡ [] → parts.shelf.room ≡ None → parts.tables.tables ≡ [] → parts.quota_used.items ≡ []
+    → IsConsistent parts
+opened_consistent parts opening fit users orgs roles none no_room no_table no_charge =
     let datasets : datasets_of parts.shelf ≡ [] =
     ap (λ (es : List (ℕ × Package)). ascending dataset_cmp (map (λ (e : ℕ × Package). e.1) es)) none in
-    let tables : tables_of parts.tables ≡ [] = ap (map bare) no_table in
+    let tables : tables_of parts.tables ≡ [] = ap (map without_room) no_table in
     let same : opened opening ≡ state_of parts = rw (users, orgs, roles, datasets, tables, no_charge) refl in
     record {
       valid = subst IsValid same (opened_valid opening fit);

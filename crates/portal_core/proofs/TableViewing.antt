@@ -6,18 +6,18 @@ use Rattle.std.specs.Prelude.{filter, if◌then◌else◌}
 use Rattle.std.specs.List.{list_any}
 use Rattle.std.specs.Str.{bytes_eq}
 use Rattle.std.proofs.lemmas.Slice.Eq.{bytes_eq-Decides}
-use Rattle.portal_base.specs.Ordered.{IsAscending, placed, dropped}
+use Rattle.portal_base.specs.Ordered.{IsAscending, upserted, dropped}
 use Rattle.portal_base.specs.declared.json_value.Json.{Json}
 use Rattle.portal_base.proofs.Unique.{IsIn}
 use Rattle.packages.specs.declared.package.Package.{Package}
-use Rattle.visibility.proofs.Viewing.{filter_twice}
+use Rattle.visibility.proofs.ViewLemmas.{filter_twice}
 use Rattle.datastore_table.specs.declared.method.Method.{Method}
-use Rattle.datastore_answers.specs.Changed.{TableChange, changed_tables, cut_from, put_into}
+use Rattle.datastore_answers.specs.Changed.{TableChange, changed_tables, without_rows, put_into}
 use Rattle.datastore_answers.specs.Changed as table
 use Rattle.datastore_answers.specs.Order.{at_address, is_at, table_cmp, table_cmp_total}
-use Rattle.datastore_answers.specs.Holdings.{holding_of, holdings_of}
+use Rattle.datastore_answers.specs.Summaries.{summary_of, summaries_of}
 use Rattle.datastore_answers.specs.Tables.{is_table_among, tables_seen}
-use Rattle.visibility.specs.Held.{held_seen}
+use Rattle.visibility.specs.TableSummary.{summaries_seen}
 use Rattle.datastore_answers.specs.declared.address.Address.{Address}
 use Rattle.datastore_answers.specs.declared.resource_table.ResourceTable.{ResourceTable}
 use Rattle.datastore_answers.proofs.FitLemmas.{put_into-address}
@@ -66,14 +66,14 @@ own-id d ds within =
 
 -- Answers on datasets ask the same of the tables that are seen and of what is seen of what they ask.
 pub held_there : (ds : List Package) (ts : List ResourceTable)
-    → held_seen ds (holdings_of ts) ≡ holdings_of (tables_seen ds ts)
+    → summaries_seen ds (summaries_of ts) ≡ summaries_of (tables_seen ds ts)
 held_there ds [] = refl
 held_there ds (t ∷ ts) = by (is_table_among ds t) (held_there ds ts)
   where
-    by : (b : Bool) → held_seen ds (holdings_of ts) ≡ holdings_of (tables_seen ds ts)
-        → cond b (holding_of t ∷ held_seen ds (holdings_of ts)) (held_seen ds (holdings_of ts))
-        ≡ holdings_of (cond b (t ∷ tables_seen ds ts) (tables_seen ds ts))
-    by true rest = ap (λ l. holding_of t ∷ l) rest
+    by : (b : Bool) → summaries_seen ds (summaries_of ts) ≡ summaries_of (tables_seen ds ts)
+        → cond b (summary_of t ∷ summaries_seen ds (summaries_of ts)) (summaries_seen ds (summaries_of ts))
+        ≡ summaries_of (cond b (t ∷ tables_seen ds ts) (tables_seen ds ts))
+    by true rest = ap (λ l. summary_of t ∷ l) rest
     by false rest = rest
 
 -- ---- changes of tables
@@ -116,7 +116,7 @@ tables-kept (table.Put a how records) datasets tables up =
     with-kept (is_table_among datasets) (λ t. if is_at a t then put_into how records t else t)
     (λ t. ap (λ (b : Address). list_any (λ (d : Package). bytes_eq b.dataset d.id) datasets)
     (made-address a (put_into how records) (put_into-address how records) t)) tables
-tables-kept (table.Cut a ids) datasets tables up =
-    with-kept (is_table_among datasets) (λ t. if is_at a t then cut_from ids t else t)
+tables-kept (table.DeleteRows a ids) datasets tables up =
+    with-kept (is_table_among datasets) (λ t. if is_at a t then without_rows ids t else t)
     (λ t. ap (λ (b : Address). list_any (λ (d : Package). bytes_eq b.dataset d.id) datasets)
-    (made-address a (cut_from ids) (λ u. refl) t)) tables
+    (made-address a (without_rows ids) (λ u. refl) t)) tables

@@ -11,7 +11,7 @@ pub data Change : Type 0 where
   Datasets : DatasetChange → Change
   Tables : TableChange → Change
 
--- the change that is planned
+-- the change of a plan
 abbrev pub change_of : Plan → Change
 change_of (plan.People change) = People change
 change_of (plan.Datasets change) = Datasets change

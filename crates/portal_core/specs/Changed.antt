@@ -1,11 +1,11 @@
--- A change, made in the state: the entries that it sets or drops, each by its key, and the names and ids that it
--- claims.
+-- The state after a change: the entries that the change sets or drops, each by its key. And the names and ids that the
+-- change claims.
 use Rattle.std.specs.Prelude.{◌≡◌, ℕ, List, [], ◌∷◌, ◌+◌, codes, Bool, is_some, Option, Some, None, find}
-use Rattle.portal_base.specs.Ordered.{placed}
+use Rattle.portal_base.specs.Ordered.{upserted}
 use Rattle.portal_base.specs.declared.caller.Caller.{Caller}
 use Rattle.portal_base.specs.declared.caller.Caller.TheVariants.{Anonymous, Named}
 use Rattle.org_roles.specs.Changed.{changed_people}
-use Rattle.org_roles.specs.Peopled.{org_in}
+use Rattle.org_roles.specs.PeopleLists.{org_in}
 use Rattle.org_roles.specs.declared.change.OrgChange.{OrgChange}
 use Rattle.org_roles.specs.declared.change.OrgChange.TheVariants as org
 use Rattle.dataset_answers.specs.Changed.{changed_datasets, has_name, has_id}
@@ -15,21 +15,21 @@ use Rattle.datastore_answers.specs.Changed.{changed_tables}
 use Rattle.datastore_answers.specs.Tables.{tables_kept}
 use Rattle.datastore_answers.specs.declared.resource_table.ResourceTable.{ResourceTable}
 use Rattle.portal_calls.specs.declared.call.Call.{Call}
-use Rattle.portal_core.specs.State.{State, spent_cmp, bytes_of_user}
+use Rattle.portal_core.specs.State.{State, quota_used_cmp, accepted_bytes_of_user}
 use Rattle.portal_core.specs.Change.{Change, People, Datasets, Tables}
 use Rattle.portal_core.specs.declared.change.Claim.{Claim}
 use Rattle.portal_core.specs.declared.change.Claim.TheVariants.{OrgName, DatasetName, DatasetId}
-use Rattle.portal_core.specs.declared.spent.Spent.{Spent}
+use Rattle.portal_core.specs.declared.quota.QuotaUsed.{QuotaUsed}
 
 -- ---- the change
 
--- The tables behind a change of a dataset: those of its resources stay, and those of resources that went are gone.
+-- The tables after a change of a dataset: those of its resources stay, and those of resources that are gone go.
 abbrev pub tables_left : DatasetChange → List ResourceTable → List ResourceTable
 tables_left (dataset.Create d) tables = tables
 tables_left (dataset.Replace d) tables = tables_kept d.id d.resources tables
 tables_left (dataset.Remove id) tables = tables_kept id [] tables
 
--- the state with the change made
+-- the state after the change
 abbrev pub changed : Change → State → State
 changed (People change) state = record state { people = changed_people change state.people }
 changed (Datasets change) state = record state {
@@ -38,22 +38,26 @@ changed (Datasets change) state = record state {
 }
 changed (Tables change) state = record state { tables = changed_tables change state.tables }
 
--- what is charged to the caller: its entry with so many bytes more; nobody has none
-abbrev pub charge_of : Caller → ℕ → List Spent → Option Spent
-charge_of Anonymous size spent = None
-charge_of (Named user) size spent = Some (record { user = user; bytes = bytes_of_user user spent + size })
+-- the charge to the caller's quota: its entry with the size added; the anonymous caller has none
+abbrev pub charge_of : Caller → ℕ → List QuotaUsed → Option QuotaUsed
+charge_of Anonymous size quota_used = None
+charge_of (Named user) size quota_used = Some (record {
+  user = user;
+  bytes =
+      accepted_bytes_of_user user quota_used + size;
+})
 
-abbrev pub with_charge : Option Spent → State → State
+abbrev pub with_charge : Option QuotaUsed → State → State
 with_charge None state = state
-with_charge (Some entry) state = record state { spent = placed spent_cmp entry state.spent }
+with_charge (Some entry) state = record state { quota_used = upserted quota_used_cmp entry state.quota_used }
 
--- the state with so many bytes more accepted from the caller
+-- the state with the size charged to the caller's quota
 abbrev pub charged : Caller → ℕ → State → State
-charged caller size state = with_charge (charge_of caller size state.spent) state
+charged caller size state = with_charge (charge_of caller size state.quota_used) state
 
--- the state with the change made, and the call's size charged for it
-abbrev pub made : Call → Change → State → State
-made call change state = charged call.caller call.size (changed change state)
+-- the state after the change, with the call's size charged for it
+abbrev pub applied : Call → Change → State → State
+applied call change state = charged call.caller call.size (changed change state)
 
 -- ---- what it claims
 
@@ -69,7 +73,7 @@ claims_of_datasets (dataset.Create d) = DatasetName d.name ∷ DatasetId d.id �
 claims_of_datasets (dataset.Replace d) = []
 claims_of_datasets (dataset.Remove id) = []
 
--- the names and ids that a change wants for its own, in the order in which they are told of
+-- the names and ids that a change claims for new entries, in the order in which they are checked
 abbrev pub claims_of : Change → List Claim
 claims_of (People change) = claims_of_people change
 claims_of (Datasets change) = claims_of_datasets change
@@ -81,7 +85,7 @@ is_in_use state (OrgName name) = is_some (org_in state.people name)
 is_in_use state (DatasetName name) = has_name name state.datasets
 is_in_use state (DatasetId id) = has_id id state.datasets
 
--- the key on which a claim is told of
+-- the key of a claim in the body
 abbrev pub key_of : Claim → List ℕ
 key_of (OrgName name) = codes "name"
 key_of (DatasetName name) = codes "name"

@@ -4,7 +4,7 @@ use Rattle.std.specs.List.{Contains}
 use Rattle.std.specs.Str.{bytes_eq}
 use Rattle.portal_base.specs.declared.caller.Caller.{Caller}
 use Rattle.portal_base.specs.declared.caller.Caller.TheVariants.{Anonymous, Named}
-use Rattle.org_roles.specs.Peopled.{Peopled}
+use Rattle.org_roles.specs.PeopleLists.{PeopleLists}
 use Rattle.packages.specs.declared.package.Package.{Package}
 use Rattle.datastore_answers.specs.Changed.{TableChange}
 use Rattle.datastore_answers.specs.Changed as table
@@ -13,9 +13,9 @@ use Rattle.visibility.specs.View.{administers, is_called, is_role_seen}
 use Rattle.visibility.specs.Visibility.{sees_in}
 use Rattle.portal_core.specs.State.{State}
 use Rattle.portal_core.specs.Step.{step_of}
-use Rattle.portal_core.specs.View.{is_spent_of, is_table_seen}
-use Rattle.portal_core.specs.declared.event.Event.{Event}
-use Rattle.portal_core.specs.declared.event.Event.TheVariants.{Call as a_call}
+use Rattle.portal_core.specs.View.{is_own_quota, is_table_seen}
+use Rattle.portal_calls.specs.declared.event.Event.{Event}
+use Rattle.portal_calls.specs.declared.event.Event.TheVariants.{Call as a_call}
 
 -- the two callers are one
 abbrev pub is_caller : Caller → Caller → Bool
@@ -28,8 +28,8 @@ is_caller (Named user) (Named other) = bytes_eq user other
 abbrev pub is_call_of : Caller → Event → Bool
 is_call_of caller (a_call call) = is_caller caller call.caller
 
--- What is kept of a list before stands in it after, and what is kept of it after stood in it before. So each item that
--- was added, changed or removed is kept neither before nor after.
+-- Each item that is kept of the list before is in it after, and each item that is kept of it after was in it before. So
+-- each item that was added, changed or removed is kept neither before nor after.
 pub record IsHiddenChange {X : Type 0} (kept_before kept_after : X → Bool) (before after : List X) : Type 0 where
   pub stays : (x : X) → Contains before x → kept_before x ≡ true → Contains after x
   pub stood : (x : X) → Contains after x → kept_after x ≡ true → Contains before x
@@ -48,9 +48,9 @@ pub record IsHiddenBetween (caller : Caller) (before after : State) : Type 0 whe
   pub datasets : IsHiddenChange (sees_in before.people caller) (sees_in after.people caller) before.datasets
       after.datasets
   pub tables : IsHiddenChange (is_table_seen caller before) (is_table_seen caller after) before.tables after.tables
-  pub spent : IsHiddenChange (is_spent_of caller) (is_spent_of caller) before.spent after.spent
+  pub quota_used : IsHiddenChange (is_own_quota caller) (is_own_quota caller) before.quota_used after.quota_used
 
--- The event is hidden from the caller: it is no call of the caller's, and changes only what the caller's view doesn't
+-- The event is hidden from the caller: it is no call of the caller, and changes only what the caller's view doesn't
 -- keep.
 pub record IsHidden (caller : Caller) (state : State) (event : Event) : Type 0 where
   pub others : is_call_of caller event ≡ false
@@ -63,14 +63,14 @@ abbrev pub IsIdUnseen : Caller → State → List ℕ → Type 0
 IsIdUnseen caller state id =
     (d : Package) → Contains state.datasets d → d.id ≡ id → sees_in state.people caller d ≡ false
 
--- where the table stands that changes
+-- the address of the table that changes
 abbrev pub address_in : TableChange → Address
 address_in (table.Create t) = t.address
 address_in (table.Remove address) = address
 address_in (table.Put address how records) = address
-address_in (table.Cut address ids) = address
+address_in (table.DeleteRows address ids) = address
 
 -- the caller neither administers the organization nor is the user
-pub record IsRoleUnseen (caller : Caller) (people : Peopled) (org user : List ℕ) : Type 0 where
+pub record IsRoleUnseen (caller : Caller) (people : PeopleLists) (org user : List ℕ) : Type 0 where
   pub elsewhere : administers people caller org ≡ false
   pub others : is_called caller user ≡ false

@@ -4,7 +4,6 @@ pub mod Changed
 pub mod Fit
 pub mod Hidden
 pub mod History
-pub mod Isolation
 pub mod Opened
 pub mod Page
 pub mod Parts

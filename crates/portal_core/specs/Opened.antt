@@ -1,4 +1,4 @@
--- What a portal may be opened with, and the state that it is opened with.
+-- The openings of a portal, and the state that an opening makes.
 use Rattle.std.specs.Prelude.{◌&&◌, Bool, nat_lt, length, List, [], if◌then◌else◌}
 use Rattle.std.specs.List.{list_all, list_any}
 use Rattle.std.specs.Str.{bytes_eq}
@@ -7,7 +7,7 @@ use Rattle.portal_base.specs.declared.caller.Caller.{Caller}
 use Rattle.portal_base.specs.declared.caller.Caller.TheVariants.{Anonymous, Named}
 use Rattle.org_roles.specs.Distinct.{have_distinct_names, have_distinct_org_names, have_distinct_pairs}
 use Rattle.org_roles.specs.Order.{user_cmp, org_cmp, membership_cmp}
-use Rattle.org_roles.specs.Peopled.{Peopled, is_user_in}
+use Rattle.org_roles.specs.PeopleLists.{PeopleLists, is_user_in}
 use Rattle.org_roles.specs.declared.entry.Membership.{Membership}
 use Rattle.org_roles.specs.declared.entry.Org.{Org}
 use Rattle.portal_core.specs.State.{State}
@@ -22,7 +22,7 @@ abbrev pub have_orgs : List Org → List Membership → Bool
 have_orgs orgs roles = list_all (λ role. list_any (λ org. bytes_eq org.name role.org) orgs) roles
 
 -- No two users and no two organizations have one name, no organization's name is empty, each role names one of the
--- organizations, and no pair of organization and user stands twice.
+-- organizations, and no pair of organization and user comes twice.
 abbrev pub is_opening : Opening → Bool
 is_opening opening =
     have_distinct_names opening.users && have_distinct_org_names opening.orgs && have_distinct_pairs opening.roles
@@ -38,10 +38,10 @@ opened opening = record {
   };
   datasets = [];
   tables = [];
-  spent = [];
+  quota_used = [];
 }
 
--- a user that isn't known is nobody
-abbrev pub known_caller : Peopled → Caller → Caller
+-- the caller, where it is a user of the portal, else the anonymous caller
+abbrev pub known_caller : PeopleLists → Caller → Caller
 known_caller people Anonymous = Anonymous
 known_caller people (Named user) = if is_user_in people user then Named user else Anonymous

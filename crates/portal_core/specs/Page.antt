@@ -28,7 +28,7 @@ column_dictionary fields name = json.Map (
 
 -- ---- the page
 
--- the number of rows on all pages, where it is told
+-- the count of rows on all pages, where the search asks for it
 abbrev pub total_member : Bool → ℕ → List (List ℕ × Json)
 total_member true total = (codes "total", json.Whole (pos total)) ∷ []
 total_member false total = []

@@ -2,7 +2,7 @@
 use Rattle.std.specs.Prelude.{◌≡◌, ◌<◌, ℕ, ⊤, IsTrue, IsSome, List, Option, Some, None, is_none, vec_len, vec_capacity}
 use Rattle.std.specs.Option.{option_map}
 use Rattle.org_roles.specs.Changed.{IsReady, org_fault}
-use Rattle.packages.specs.Shelf.{Shelved, IsShelved, standing_at, number_in, datasets_of}
+use Rattle.packages.specs.Shelf.{ShelfState, IsValidShelf, package_at, number_in, datasets_of}
 use Rattle.packages.specs.declared.package.Package.{Package}
 use Rattle.dataset_answers.specs.Sound.{IsSound}
 use Rattle.dataset_answers.specs.declared.change.DatasetChange.{DatasetChange}
@@ -13,14 +13,14 @@ use Rattle.portal_core.specs.Valid.{IsValid}
 use Rattle.datastore_answers.specs.Plan as table
 use Rattle.datastore_answers.specs.Tables.{Stored, tables_of}
 use Rattle.portal_core.specs.Change.{Change}
-use Rattle.portal_core.specs.Change as made
+use Rattle.portal_core.specs.Change as portal_change
 use Rattle.portal_core.specs.declared.change.Plan.{Plan}
 use Rattle.portal_core.specs.declared.change.Plan.TheVariants as plan
 use Rattle.portal_core.specs.declared.parts.Parts.{Parts}
 use Rattle.portal_core.specs.declared.parts.Prepared.{Prepared}
 use Rattle.portal_core.specs.declared.parts.PreparedChange.{PreparedChange}
 use Rattle.portal_core.specs.declared.parts.PreparedChange.TheVariants.{People, Put, Replace, Remove, Tables}
-use Rattle.portal_core.specs.declared.spent.Spent.{Spent}
+use Rattle.portal_core.specs.declared.quota.QuotaUsed.{QuotaUsed}
 
 -- the state that the parts make up
 abbrev pub state_of : Parts → State
@@ -28,53 +28,53 @@ state_of parts = record {
   people = parts.people.people;
   datasets = datasets_of parts.shelf;
   tables = tables_of parts.tables;
-  spent = parts.spent.items;
+  quota_used = parts.quota_used.items;
 }
 
--- The parts make up a valid state.
-pub record IsWhole (parts : Parts) : Type 0 where
+-- The parts make up a valid state, and the shelf's indexes are right.
+pub record IsConsistent (parts : Parts) : Type 0 where
   pub valid : IsValid (state_of parts)
-  pub shelved : IsShelved parts.shelf
+  pub shelved : IsValidShelf parts.shelf
 
 -- a new dataset is sound
 abbrev pub MakesSound : Change → Parts → Type 0
-MakesSound (made.People change) parts = ⊤
-MakesSound (made.Datasets (dataset.Create d)) parts = IsSound parts.people.people d
-MakesSound (made.Datasets (dataset.Replace d)) parts = ⊤
-MakesSound (made.Datasets (dataset.Remove id)) parts = ⊤
-MakesSound (made.Tables change) parts = ⊤
+MakesSound (portal_change.People change) parts = ⊤
+MakesSound (portal_change.Datasets (dataset.Create d)) parts = IsSound parts.people.people d
+MakesSound (portal_change.Datasets (dataset.Replace d)) parts = ⊤
+MakesSound (portal_change.Datasets (dataset.Remove id)) parts = ⊤
+MakesSound (portal_change.Tables change) parts = ⊤
 
 -- ---- what can be prepared
 
 -- no dataset has the new one's id or name, as id or as name
-pub record IsFree (shelf : Shelved) (dataset : Package) : Type 0 where
+pub record IsFree (shelf : ShelfState) (dataset : Package) : Type 0 where
   pub id : number_in dataset.id shelf ≡ None
   pub name : number_in dataset.name shelf ≡ None
 
--- the dataset of that id stands where the id leads
-pub record IsHeld (shelf : Shelved) (id : List ℕ) : Type 0 where
+-- the shelf has the dataset of that id at the number that it has for the id
+pub record IsOnShelf (shelf : ShelfState) (id : List ℕ) : Type 0 where
   pub number : ℕ
   pub leads : number_in id shelf ≡ Some number
-  pub stands : option_map (λ d. d.id) (standing_at number shelf) ≡ Some id
+  pub is_present : option_map (λ d. d.id) (package_at number shelf) ≡ Some id
 
--- and has that name
-pub record IsHeldAs (shelf : Shelved) (dataset : Package) : Type 0 where
-  pub held : IsHeld shelf dataset.id
-  pub name : option_map (λ d. d.name) (standing_at held.number shelf) ≡ Some dataset.name
+-- and the dataset has that name
+pub record IsOnShelfAs (shelf : ShelfState) (dataset : Package) : Type 0 where
+  pub on_shelf : IsOnShelf shelf dataset.id
+  pub name : option_map (λ d. d.name) (package_at on_shelf.number shelf) ≡ Some dataset.name
 
 -- the shelf can take the change
-abbrev pub IsTakenBy : DatasetChange → Shelved → Type 0
+abbrev pub IsTakenBy : DatasetChange → ShelfState → Type 0
 IsTakenBy (dataset.Create d) shelf = IsFree shelf d
-IsTakenBy (dataset.Replace d) shelf = IsHeldAs shelf d
-IsTakenBy (dataset.Remove id) shelf = IsHeld shelf id
+IsTakenBy (dataset.Replace d) shelf = IsOnShelfAs shelf d
+IsTakenBy (dataset.Remove id) shelf = IsOnShelf shelf id
 
--- the parts refuse the change for nothing
+-- no part refuses the change
 abbrev pub IsUnrefused : Change → Parts → Type 0
-IsUnrefused (made.People change) parts = IsTrue (is_none (org_fault change parts.people.people))
-IsUnrefused (made.Datasets change) parts = IsTakenBy change parts.shelf
-IsUnrefused (made.Tables change) parts = ⊤
+IsUnrefused (portal_change.People change) parts = IsTrue (is_none (org_fault change parts.people.people))
+IsUnrefused (portal_change.Datasets change) parts = IsTakenBy change parts.shelf
+IsUnrefused (portal_change.Tables change) parts = ⊤
 
--- what a table prepared for the plan is ready
+-- the batch that the plan prepared on a table is ready
 abbrev pub IsPlannedOn : Plan → Stored → Type 0
 IsPlannedOn (plan.People change) stored = ⊤
 IsPlannedOn (plan.Datasets change) stored = ⊤
@@ -85,40 +85,40 @@ IsPlanned p parts = IsPlannedOn p parts.tables
 
 -- ---- what is prepared
 
--- what the prepared change changes
+-- the change that is prepared
 abbrev pub change_in : PreparedChange → Change
-change_in (People change) = made.People change
-change_in (Put d) = made.Datasets (dataset.Create d)
-change_in (Replace number d) = made.Datasets (dataset.Replace d)
-change_in (Remove number id) = made.Datasets (dataset.Remove id)
-change_in (Tables change) = made.Tables (table.change_of change)
+change_in (People change) = portal_change.People change
+change_in (Put d) = portal_change.Datasets (dataset.Create d)
+change_in (Replace number d) = portal_change.Datasets (dataset.Replace d)
+change_in (Remove number id) = portal_change.Datasets (dataset.Remove id)
+change_in (Tables change) = portal_change.Tables (table.change_of change)
 
--- the state with the prepared change made and charged
+-- the state after the prepared change, with its charge
 abbrev pub with_prepared : Prepared → State → State
 with_prepared prepared state = with_charge prepared.charge (changed (change_in prepared.change) state)
 
--- There is room for the new dataset, and it is free.
-pub record IsPutReady (shelf : Shelved) (dataset : Package) : Type 0 where
+-- There is room for the new dataset, and its id and name are free.
+pub record IsPutReady (shelf : ShelfState) (dataset : Package) : Type 0 where
   pub room : IsSome shelf.room
   pub free : IsFree shelf dataset
 
 -- The dataset at the number has this one's id and name.
-pub record IsReplaceReady (shelf : Shelved) (number : ℕ) (dataset : Package) : Type 0 where
-  pub id : option_map (λ d. d.id) (standing_at number shelf) ≡ Some dataset.id
-  pub name : option_map (λ d. d.name) (standing_at number shelf) ≡ Some dataset.name
+pub record IsReplaceReady (shelf : ShelfState) (number : ℕ) (dataset : Package) : Type 0 where
+  pub id : option_map (λ d. d.id) (package_at number shelf) ≡ Some dataset.id
+  pub name : option_map (λ d. d.name) (package_at number shelf) ≡ Some dataset.name
 
 -- there is room for the change
 abbrev pub IsChangeReady : PreparedChange → Parts → Type 0
 IsChangeReady (People change) parts = IsReady change parts.people
 IsChangeReady (Put dataset) parts = IsPutReady parts.shelf dataset
 IsChangeReady (Replace number dataset) parts = IsReplaceReady parts.shelf number dataset
-IsChangeReady (Remove number id) parts = option_map (λ d. d.id) (standing_at number parts.shelf) ≡ Some id
+IsChangeReady (Remove number id) parts = option_map (λ d. d.id) (package_at number parts.shelf) ≡ Some id
 IsChangeReady (Tables change) parts = table.IsReadyPlan change parts.tables
 
 -- there is room for what is charged
-abbrev pub IsChargeReady : Option Spent → Parts → Type 0
+abbrev pub IsChargeReady : Option QuotaUsed → Parts → Type 0
 IsChargeReady None parts = ⊤
-IsChargeReady (Some entry) parts = vec_len parts.spent < vec_capacity parts.spent
+IsChargeReady (Some entry) parts = vec_len parts.quota_used < vec_capacity parts.quota_used
 
 -- A prepared change can be made and charged.
 pub record IsPrepared (prepared : Prepared) (parts : Parts) : Type 0 where

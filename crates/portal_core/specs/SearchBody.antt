@@ -1,7 +1,7 @@
--- What the body of a `datastore_search` asks for (CKAN 2.10), and what is told of it. Bounds and messages are the
--- portal's own.
+-- The search that the body of a `datastore_search` asks for (CKAN 2.10), and the body's errors. Limits and messages are
+-- the portal's own.
 use Rattle.std.specs.Prelude.{ℕ, ◌-◌, ◌^◌, min, Bool, true, false, List, [], codes, Option, Some, None, Result, Ok, Err}
-use Rattle.portal_base.specs.Faults.{Fault, found_value, kind_message, noted_if}
+use Rattle.portal_base.specs.KeyErrors.{KeyError, found_value, kind_message, error_if}
 use Rattle.portal_base.specs.Kinds.{count_at, dictionary_at, text_at, texts_at, truth_at}
 use Rattle.portal_base.specs.declared.json_value.Json.{Json}
 use Rattle.portal_base.specs.declared.json_value.Json as json
@@ -11,18 +11,18 @@ use Rattle.portal_core.specs.declared.search_body.Search.{Search}
 
 -- ---- values, or their defaults
 
--- what stands at a key, where it is there and of its kind
+-- the value at a key, where it is there and of its kind, else the default
 abbrev pub value_or : {A : Type 0} → A → Result (Option A) KindFault → A
-value_or usual (Ok (Some value)) = value
-value_or usual (Ok None) = usual
-value_or usual (Err fault) = usual
+value_or default (Ok (Some value)) = value
+value_or default (Ok None) = default
+value_or default (Err fault) = default
 
 -- No body that is read as JSON has a larger count than the last of a u64.
 abbrev pub count_or : ℕ → List ℕ → Json → ℕ
-count_or usual key body = min (value_or usual (count_at key body)) (2 ^ 64 - 1)
+count_or default key body = min (value_or default (count_at key body)) (2 ^ 64 - 1)
 
 abbrev pub truth_or : Bool → List ℕ → Json → Bool
-truth_or usual key body = value_or usual (truth_at key body)
+truth_or default key body = value_or default (truth_at key body)
 
 abbrev pub text_or : List ℕ → Json → List ℕ
 text_or key body = value_or [] (text_at key body)
@@ -51,23 +51,23 @@ parts_in body = record {
   offset = count_or 0 (codes "offset") body;
 }
 
--- By default the number of rows on all pages is told.
+-- By default the reply has the count of rows on all pages.
 abbrev pub search_in : Json → Search
 search_in body = record { parts = parts_in body; total = truth_or true (codes "include_total") body }
 
--- ---- what is told
+-- ---- errors
 
--- each key of the query that is of another kind, beside these faults
-abbrev pub noted_in : Json → List Fault → List Fault
-noted_in body faults =
-    noted_if (codes "offset") (kind_message (count_at (codes "offset") body))
-    (noted_if (codes "limit") (kind_message (count_at (codes "limit") body))
-    (noted_if (codes "sort") (kind_message (text_at (codes "sort") body))
-    (noted_if (codes "fields") (kind_message (texts_at (codes "fields") body))
-    (noted_if (codes "distinct") (kind_message (truth_at (codes "distinct") body))
-    (noted_if (codes "q") (kind_message (text_at (codes "q") body))
-    (noted_if (codes "filters") (kind_message (dictionary_at (codes "filters") body)) faults))))))
+-- these faults, with the error of each key of the query that is of another kind
+abbrev pub with_query_errors : Json → List KeyError → List KeyError
+with_query_errors body faults =
+    error_if (codes "offset") (kind_message (count_at (codes "offset") body))
+    (error_if (codes "limit") (kind_message (count_at (codes "limit") body))
+    (error_if (codes "sort") (kind_message (text_at (codes "sort") body))
+    (error_if (codes "fields") (kind_message (texts_at (codes "fields") body))
+    (error_if (codes "distinct") (kind_message (truth_at (codes "distinct") body))
+    (error_if (codes "q") (kind_message (text_at (codes "q") body))
+    (error_if (codes "filters") (kind_message (dictionary_at (codes "filters") body)) faults))))))
 
-abbrev pub told_in : Json → List Fault
-told_in body =
-    noted_if (codes "include_total") (kind_message (truth_at (codes "include_total") body)) (noted_in body [])
+abbrev pub search_errors : Json → List KeyError
+search_errors body =
+    error_if (codes "include_total") (kind_message (truth_at (codes "include_total") body)) (with_query_errors body [])

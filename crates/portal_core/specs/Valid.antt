@@ -1,33 +1,33 @@
--- Which states are valid. Every state that a portal comes to is.
+-- Valid states. Every state that a portal reaches is valid.
 use Rattle.std.specs.Prelude.{◌≡◌, ◌≢◌, true, List, []}
 use Rattle.std.specs.List.{All, Contains}
 use Rattle.portal_base.specs.Ordered.{IsAscending}
-use Rattle.org_roles.specs.Peopled.{IsPeopled, AreHoused}
+use Rattle.org_roles.specs.PeopleLists.{AreSorted, RolesHaveOrgs}
 use Rattle.packages.specs.Order.{dataset_cmp}
 use Rattle.packages.specs.declared.package.Package.{Package}
 use Rattle.dataset_answers.specs.Sound.{IsSound}
-use Rattle.datastore_answers.specs.Kept.{AreKept}
+use Rattle.datastore_answers.specs.Consistent.{AreConsistent}
 use Rattle.datastore_answers.specs.declared.resource_table.ResourceTable.{ResourceTable}
-use Rattle.visibility.specs.Held.{is_among}
-use Rattle.portal_core.specs.State.{State, spent_cmp}
+use Rattle.visibility.specs.TableSummary.{is_among}
+use Rattle.portal_core.specs.State.{State, quota_used_cmp}
 
--- The table's resource stands.
+-- The table's resource exists.
 pub record HasHome (datasets : List Package) (t : ResourceTable) : Type 0 where
   pub dataset : Package
-  pub stands : Contains datasets dataset
+  pub is_present : Contains datasets dataset
   pub id : dataset.id ≡ t.address.dataset
   pub resource : is_among dataset.resources t.address.number ≡ true
 
 -- Each list strictly ascends by its key, so that no two entries have one. No organization's name is empty, and each
--- role is one in an organization that stands. No two datasets have one name, and each is sound. Each table is one of a
--- resource that stands, its rows meet its schema, and each of its references finds its row.
+-- role is one in an organization that exists. No two datasets have one name, and each is sound. Each table belongs to a
+-- resource that exists, its rows meet its schema, and each of its references finds its row.
 pub record IsValid (state : State) : Type 0 where
-  pub people : IsPeopled state.people
+  pub people : AreSorted state.people
   pub orgs : All (λ o. o.name ≢ []) state.people.orgs
-  pub roles : AreHoused state.people
+  pub roles : RolesHaveOrgs state.people
   pub datasets : IsAscending dataset_cmp state.datasets
   pub names : (d e : Package) → Contains state.datasets d → Contains state.datasets e → d.name ≡ e.name → d ≡ e
   pub sound : All (IsSound state.people) state.datasets
-  pub tables : AreKept state.tables
+  pub tables : AreConsistent state.tables
   pub homes : All (HasHome state.datasets) state.tables
-  pub spent : IsAscending spent_cmp state.spent
+  pub quota_used : IsAscending quota_used_cmp state.quota_used

@@ -1,26 +1,26 @@
--- What a caller may see of the state.
+-- A caller's view of the state.
 use Rattle.std.specs.Prelude.{Bool, filter}
 use Rattle.portal_base.specs.declared.caller.Caller.{Caller}
 use Rattle.datastore_answers.specs.Tables.{is_table_among, tables_seen}
 use Rattle.datastore_answers.specs.declared.resource_table.ResourceTable.{ResourceTable}
 use Rattle.visibility.specs.View.{is_called, people_seen, datasets_seen}
 use Rattle.portal_core.specs.State.{State}
-use Rattle.portal_core.specs.declared.spent.Spent.{Spent}
+use Rattle.portal_core.specs.declared.quota.QuotaUsed.{QuotaUsed}
 
--- what was accepted is the caller's own
-abbrev pub is_spent_of : Caller → Spent → Bool
-is_spent_of caller spent = is_called caller spent.user
+-- the entry is the caller's own quota
+abbrev pub is_own_quota : Caller → QuotaUsed → Bool
+is_own_quota caller quota_used = is_called caller quota_used.user
 
 -- it is a table of a dataset that the caller sees
 abbrev pub is_table_seen : Caller → State → ResourceTable → Bool
 is_table_seen caller state = is_table_among (datasets_seen caller state.people state.datasets)
 
--- The state as the caller sees it. The datasets that are seen are seen whole, their tables with them, and of what was
--- accepted the caller's own.
+-- The caller's view of the state: the datasets that the caller sees, each complete and with its tables, and of the
+-- quotas the caller's own.
 abbrev pub view_of : Caller → State → State
 view_of caller state = record {
   people = people_seen caller state.people;
   datasets = datasets_seen caller state.people state.datasets;
   tables = tables_seen (datasets_seen caller state.people state.datasets) state.tables;
-  spent = filter (is_spent_of caller) state.spent;
+  quota_used = filter (is_own_quota caller) state.quota_used;
 }

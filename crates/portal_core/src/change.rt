@@ -4,8 +4,8 @@ use datastore_answers::plan::TablePlan;
 use org_roles::change::OrgChange;
 use portal_base::text::Text;
 
-/// What an accepted call changes: entries that are set or dropped, each by its key, with what a table prepared for it.
-/// A contract sees the change without that, as `change_of` has it.
+/// The change of an accepted call: entries that are set or dropped, each by its key, and what a table prepared for it.
+/// Contracts speak of the change without the prepared part, by `change_of`.
 #[derive(Drop)]
 pub enum Plan {
     People(OrgChange),
@@ -13,7 +13,7 @@ pub enum Plan {
     Tables(TablePlan),
 }
 
-/// A name or an id that a change wants for its own.
+/// A name or an id that a change claims for a new entry.
 #[derive(Drop)]
 pub enum Claim {
     OrgName(Text),

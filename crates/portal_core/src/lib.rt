@@ -1,4 +1,4 @@
-//! The portal: its state, what its callers see of it, and the step that an event makes.
+//! The portal: its state, the view that a caller has of it, and the step that an event makes.
 #![tactic(auto)]
 
 pub mod change;
@@ -9,5 +9,5 @@ mod page;
 pub mod parts;
 pub mod portal;
 mod queries;
+pub mod quota;
 mod search_body;
-pub mod spent;

@@ -20,17 +20,17 @@ use table_schema::{Cell, Field, Schema};
 // ---- columns
 
 /// The field of that name, if there is one.
-fn field_named<'a>(fields: &'a [Field], name: &Text) -> Option<&'a Field>
+fn find_field<'a>(fields: &'a [Field], name: &Text) -> Option<&'a Field>
     ensures { option_copied result ≡ find (λ f. bytes_eq f.name name.now) fields.now }
 {
     fields.iter().find(|field| *field.name() == *name)
 }
 
-/// The type of the column of that name. `_id`s are whole numbers.
+/// The type of the column of that name. The type of `_id` is `int`.
 fn column_type(fields: &[Field], name: &Text) -> &'static str
     ensures { result.now ≡ column_type fields.now name.now }
 {
-    match field_named(fields, name) {
+    match find_field(fields, name) {
         Some(field) => type_name(field.form().kind()),
         None => "int",
     }
@@ -60,7 +60,7 @@ fn columns_json(alloc: Global, fields: &[Field], names: &[Text]) -> Result<Seq<J
 
 // ---- records
 
-/// Rows as records by these columns.
+/// The rows as records of these columns.
 fn records_json(
     alloc: Global,
     columns: &[Column],
@@ -84,8 +84,8 @@ fn count_json(count: u64) -> Json
     Json::Whole(i128::from(count))
 }
 
-/// A page of the rows of the table of the resource of that id. The number of rows on all pages stands there where the
-/// body asks for it.
+/// The dictionary of a page of the rows of the table of the resource of that id. It has the count of rows on all pages
+/// where the body asks for it.
 pub(crate) fn page_json(
     alloc: Global,
     schema: &Schema,

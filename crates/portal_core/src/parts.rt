@@ -1,22 +1,22 @@
-//! The portal's parts as one value, and changes of it: all growth is prepared, and then the change is made by a commit
-//! that takes no memory and can't fail.
+//! The portal's parts as one value, and changes of it. A change first prepares all growth. Then a commit makes the
+//! change: it takes no memory and can't fail.
 ghost use Rattle.std.specs.Prelude.{◌≡◌, IfNone, IfOk, OnErr, OnOk, IsTrue, is_none, find};
 ghost use Rattle.std.specs.Option.{option_map, option_copied};
 ghost use Rattle.portal_base.specs.Ordered.{IsAscending};
 ghost use Rattle.org_roles.specs.Changed.{org_fault, IsReady};
-ghost use Rattle.packages.specs.Shelf.{IsShelved};
+ghost use Rattle.packages.specs.Shelf.{IsValidShelf};
 ghost use Rattle.dataset_answers.specs.Sound.{IsSound};
 ghost use Rattle.portal_core.specs.Change.{change_of, Datasets};
-ghost use Rattle.portal_core.specs.Changed.{changed, made, charge_of, with_charge, claims_of, is_in_use, key_of};
+ghost use Rattle.portal_core.specs.Changed.{changed, applied, charge_of, with_charge, claims_of, is_in_use, key_of};
 ghost use Rattle.portal_core.specs.Changed.{IsUnused};
 ghost use Rattle.portal_core.specs.Fit.{IsFit};
-ghost use Rattle.portal_core.specs.Parts.{state_of, change_in, with_prepared, IsWhole, MakesSound, IsTakenBy};
+ghost use Rattle.portal_core.specs.Parts.{state_of, change_in, with_prepared, IsConsistent, MakesSound, IsTakenBy};
 ghost use Rattle.portal_core.specs.Parts.{IsUnrefused};
 ghost use Rattle.portal_core.specs.Parts.{IsPlanned, IsPrepared, IsChangeReady, IsChargeReady};
-ghost use Rattle.portal_core.specs.State.{bytes_of, bytes_of_user, spent_cmp};
+ghost use Rattle.portal_core.specs.State.{accepted_bytes_of, accepted_bytes_of_user, quota_used_cmp};
 
 use crate::change::Plan;
-use crate::spent::Spent;
+use crate::quota::QuotaUsed;
 use dataset_answers::change::DatasetChange;
 use datastore_answers::plan::TablePlan;
 use datastore_answers::tables::Tables;
@@ -32,50 +32,50 @@ use portal_base::text::Text;
 use portal_calls::call::Call;
 use std::alloc::{AllocError, Global};
 
-/// What a portal keeps.
+/// The parts of a portal.
 #[derive(Drop)]
 pub struct Parts {
     pub people: People,
     pub shelf: Shelf,
     pub tables: Tables,
-    pub spent: Vec<Spent>,
+    pub quota_used: Vec<QuotaUsed>,
 }
 
-/// A change for which there is room.
+/// A change for which memory is prepared.
 #[derive(Drop)]
 pub enum PreparedChange {
     People(PreparedOrg),
     /// A new dataset.
     Put(Package),
-    /// The dataset in place of the one at the number.
+    /// The dataset that replaces the one at the number.
     Replace(u32, Package),
-    /// No dataset at the number, where the one of this id stands.
+    /// Removal of the dataset at the number, which has this id.
     Remove(u32, Text),
     /// A change of a table.
     Tables(TablePlan),
 }
 
-/// A change for which there is room, with the entry of what is charged for it.
+/// A change for which memory is prepared, with the caller's quota after it.
 #[derive(Drop)]
 pub struct Prepared {
     pub change: PreparedChange,
-    pub charge: Option<Spent>,
+    pub charge: Option<QuotaUsed>,
 }
 
 impl Parts {
-    /// How many bytes of the caller's changes were accepted.
-    pub fn bytes_of(&self, caller: &Caller) -> u64
-        ensures { result ≡ bytes_of caller.now self.now.spent.items }
+    /// The bytes that were accepted from the caller.
+    pub fn accepted_bytes_of(&self, caller: &Caller) -> u64
+        ensures { result ≡ accepted_bytes_of caller.now self.now.quota_used.items }
     {
         match caller {
             Caller::Anonymous => 0,
-            Caller::Named(user) => bytes_of_user(&self.spent, user),
+            Caller::Named(user) => accepted_bytes_of_user(&self.quota_used, user),
         }
     }
 
-    /// The key on which it is told that a name or an id that the change claims is in use, if one is.
+    /// The key of the first name or id that the change claims and that is in use.
     pub fn key_in_use(&self, plan: &Plan) -> Option<&'static str>
-        requires whole { IsWhole self.now }
+        requires consistent { IsConsistent self.now }
         requires sound { MakesSound (change_of plan.now) self.now }
         ensures key { option_copied result
             ≡ option_map key_of (find (is_in_use (state_of self.now)) (claims_of (change_of plan.now))) }
@@ -92,10 +92,10 @@ impl Parts {
         }
     }
 
-    /// The same for a new dataset: its name is asked first.
+    /// The key in use of a new dataset. Its name comes before its id.
     #[tactic(auto, using(crate::proofs::Shelving::name_used, crate::proofs::Shelving::id_used))]
     fn dataset_key_in_use(&self, dataset: &Package) -> Option<&'static str>
-        requires whole { IsWhole self.now }
+        requires consistent { IsConsistent self.now }
         requires sound { IsSound self.now.people.people dataset.now }
         ensures key { option_copied result ≡ option_map key_of
             (find (is_in_use (state_of self.now)) (claims_of (Datasets (DatasetChange.Create dataset.now)))) }
@@ -111,49 +111,49 @@ impl Parts {
         }
     }
 
-    /// Makes a change that is fit and claims nothing that is in use, and charges it. For want of memory nothing
-    /// changes.
-    pub fn make(&mut self, alloc: Global, call: &Call, plan: Plan) -> Result<(), AllocError>
-        requires whole { IsWhole self.old }
+    /// Makes a change that is fit and claims nothing that is in use, and charges it to the caller's quota. Where memory
+    /// runs out, nothing changes.
+    pub fn apply(&mut self, alloc: Global, call: &Call, plan: Plan) -> Result<(), AllocError>
+        requires consistent { IsConsistent self.old }
         requires fit { IsFit call.now (state_of self.old) (change_of plan) }
         requires planned { IsPlanned plan self.old }
         requires unused { IsUnused (state_of self.old) (change_of plan) }
-        ensures made { OnOk result (state_of self.new ≡ made call.now (change_of plan) (state_of self.old)) }
+        ensures applied { OnOk result (state_of self.new ≡ applied call.now (change_of plan) (state_of self.old)) }
         ensures kept { OnErr result (state_of self.new ≡ state_of self.old) }
-        ensures shelved { IsShelved self.new.shelf }
+        ensures shelved { IsValidShelf self.new.shelf }
     {
         let prepared = self.prepare(alloc, call, plan)?;
         self.commit(prepared);
         Ok(())
     }
 
-    /// Prepares a change that is fit and claims nothing that is in use, and what is charged for it. The state stays.
+    /// Prepares a change that is fit and claims nothing that is in use, and its charge. The state stays the same.
     #[tactic(auto, using(crate::proofs::Shelving::unrefused))]
     fn prepare(&mut self, alloc: Global, call: &Call, plan: Plan) -> Result<Prepared, AllocError>
-        requires whole { IsWhole self.old }
+        requires consistent { IsConsistent self.old }
         requires fit { IsFit call.now (state_of self.old) (change_of plan) }
         requires planned { IsPlanned plan self.old }
         requires unused { IsUnused (state_of self.old) (change_of plan) }
         ensures same { state_of self.new ≡ state_of self.old }
-        ensures shelved { IsShelved self.new.shelf }
+        ensures shelved { IsValidShelf self.new.shelf }
         ensures ready { IfOk result (λ prepared. IsPrepared prepared self.new) }
         ensures change { IfOk result (λ prepared. change_in prepared.change ≡ change_of plan) }
         ensures charge { IfOk result (λ prepared.
-            prepared.charge ≡ charge_of call.now.caller call.now.size self.old.spent.items) }
+            prepared.charge ≡ charge_of call.now.caller call.now.size self.old.quota_used.items) }
     {
         let charge = self.prepare_charge(alloc, call)?;
         let change = self.prepare_change(plan)?;
         Ok(Prepared { change, charge })
     }
 
-    /// Makes room for a change that is refused for nothing.
+    /// Prepares a change that no part refuses.
     fn prepare_change(&mut self, plan: Plan) -> Result<PreparedChange, AllocError>
-        requires shelved { IsShelved self.old.shelf }
+        requires shelved { IsValidShelf self.old.shelf }
         requires unrefused { IsUnrefused (change_of plan) self.old }
         requires planned { IsPlanned plan self.old }
         ensures same { state_of self.new ≡ state_of self.old }
-        ensures shelved { IsShelved self.new.shelf }
-        ensures spent { self.new.spent ≡ self.old.spent }
+        ensures shelved { IsValidShelf self.new.shelf }
+        ensures quota_used { self.new.quota_used ≡ self.old.quota_used }
         ensures change { IfOk result (λ prepared. change_in prepared ≡ change_of plan) }
         ensures ready { IfOk result (λ prepared. IsChangeReady prepared self.new) }
     {
@@ -170,13 +170,13 @@ impl Parts {
         }
     }
 
-    /// The same for a change of a dataset, whose number is looked up where it stands.
+    /// Prepares a change of a dataset. A dataset that is replaced or removed is found by its id.
     fn prepare_dataset(&mut self, change: DatasetChange) -> Result<PreparedChange, AllocError>
-        requires shelved { IsShelved self.old.shelf }
+        requires shelved { IsValidShelf self.old.shelf }
         requires taken { IsTakenBy change self.old.shelf }
         ensures same { state_of self.new ≡ state_of self.old }
-        ensures shelved { IsShelved self.new.shelf }
-        ensures spent { self.new.spent ≡ self.old.spent }
+        ensures shelved { IsValidShelf self.new.shelf }
+        ensures quota_used { self.new.quota_used ≡ self.old.quota_used }
         ensures change { IfOk result (λ prepared. change_in prepared ≡ Datasets change) }
         ensures ready { IfOk result (λ prepared. IsChangeReady prepared self.new) }
     {
@@ -196,25 +196,29 @@ impl Parts {
         }
     }
 
-    /// The entry that is charged to the call's caller, for which room is made.
-    fn prepare_charge(&mut self, alloc: Global, call: &Call) -> Result<Option<Spent>, AllocError>
+    /// The charge to the caller's quota, for which memory is prepared. Anonymous callers have none.
+    fn prepare_charge(
+        &mut self,
+        alloc: Global,
+        call: &Call,
+    ) -> Result<Option<QuotaUsed>, AllocError>
         ensures same { state_of self.new ≡ state_of self.old }
         ensures people { self.new.people ≡ self.old.people }
         ensures shelf { self.new.shelf ≡ self.old.shelf }
         ensures tables { self.new.tables ≡ self.old.tables }
         ensures charge { IfOk result (λ charge.
-            charge ≡ charge_of call.now.caller call.now.size self.old.spent.items) }
+            charge ≡ charge_of call.now.caller call.now.size self.old.quota_used.items) }
         ensures ready { IfOk result (λ charge. IsChargeReady charge self.new) }
     {
         match &call.caller {
             Caller::Anonymous => Ok(None),
             Caller::Named(user) => {
-                let bytes = bytes_of_user(&self.spent, user)
+                let bytes = accepted_bytes_of_user(&self.quota_used, user)
                     .checked_add(call.size)
                     .ok_or(AllocError)?;
                 let user = user.try_clone(alloc)?;
-                reserve(&mut self.spent)?;
-                Ok(Some(Spent { user, bytes }))
+                reserve(&mut self.quota_used)?;
+                Ok(Some(QuotaUsed { user, bytes }))
             }
         }
     }
@@ -222,10 +226,10 @@ impl Parts {
     /// Makes a prepared change, and charges it. It takes no memory and can't fail.
     fn commit(&mut self, prepared: Prepared)
         requires ready { IsPrepared prepared self.old }
-        requires shelved { IsShelved self.old.shelf }
-        requires ascending { IsAscending spent_cmp self.old.spent.items }
+        requires shelved { IsValidShelf self.old.shelf }
+        requires ascending { IsAscending quota_used_cmp self.old.quota_used.items }
         ensures state { state_of self.new ≡ with_prepared prepared (state_of self.old) }
-        ensures shelved { IsShelved self.new.shelf }
+        ensures shelved { IsValidShelf self.new.shelf }
     {
         let Prepared { change, charge } = prepared;
         self.commit_change(change);
@@ -235,10 +239,10 @@ impl Parts {
     /// Makes a prepared change.
     fn commit_change(&mut self, change: PreparedChange)
         requires ready { IsChangeReady change self.old }
-        requires shelved { IsShelved self.old.shelf }
+        requires shelved { IsValidShelf self.old.shelf }
         ensures state { state_of self.new ≡ changed (change_in change) (state_of self.old) }
-        ensures shelved { IsShelved self.new.shelf }
-        ensures spent { self.new.spent ≡ self.old.spent }
+        ensures shelved { IsValidShelf self.new.shelf }
+        ensures quota_used { self.new.quota_used ≡ self.old.quota_used }
     {
         match change {
             PreparedChange::People(change) => self.people.commit(change),
@@ -257,30 +261,30 @@ impl Parts {
         }
     }
 
-    /// Charges what was prepared.
-    fn commit_charge(&mut self, charge: Option<Spent>)
+    /// Makes a prepared charge.
+    fn commit_charge(&mut self, charge: Option<QuotaUsed>)
         requires ready { IsChargeReady charge self.old }
-        requires ascending { IsAscending spent_cmp self.old.spent.items }
+        requires ascending { IsAscending quota_used_cmp self.old.quota_used.items }
         ensures state { state_of self.new ≡ with_charge charge (state_of self.old) }
         ensures shelf { self.new.shelf ≡ self.old.shelf }
     {
         if let Some(entry) = charge {
-            replace_or_put(&mut self.spent, entry);
+            replace_or_put(&mut self.quota_used, entry);
         }
     }
 }
 
-/// How many bytes of the user's changes were accepted.
-fn bytes_of_user(spent: &[Spent], user: &Text) -> u64
-    ensures { result ≡ bytes_of_user user.now spent.now }
+/// The bytes that were accepted from the user.
+fn accepted_bytes_of_user(quota_used: &[QuotaUsed], user: &Text) -> u64
+    ensures { result ≡ accepted_bytes_of_user user.now quota_used.now }
 {
-    match spent.iter().find(|entry| entry.user == *user) {
+    match quota_used.iter().find(|entry| entry.user == *user) {
         Some(entry) => entry.bytes,
         None => 0,
     }
 }
 
-/// Prepares a change of the people that is refused for nothing.
+/// Prepares a change of the people that they don't refuse.
 fn prepare_people(people: &mut People, change: OrgChange) -> Result<PreparedOrg, AllocError>
     requires { IsTrue (is_none (org_fault change people.old.people)) }
     ensures same { people.new.people ≡ people.old.people }

@@ -1,18 +1,17 @@
-//! The portal: what it keeps, and the one step that an event makes.
+//! The portal, and the one step that an event makes.
 //!
-//! A call is decided on what its caller sees, then all growth is prepared, and then the change is made by a commit
-//! that takes no memory and can't fail.
+//! The portal decides a call on its caller's view: the right first, then the rules. Then it prepares all growth, and
+//! then a commit makes the change: it takes no memory and can't fail.
 ghost use Rattle.std.specs.Prelude.{◌≡◌, ◌≢◌, IsTrue, IfOk, OnOk, OnErr};
 ghost use Rattle.portal_calls.specs.declared.answer.Answer.TheVariants.{Accepted};
 ghost use Rattle.portal_core.specs.Change.{change_of};
 ghost use Rattle.portal_core.specs.Fit.{IsFit};
-ghost use Rattle.portal_core.specs.Parts.{state_of, IsPlanned, IsWhole};
-ghost use Rattle.portal_core.specs.Step.{refusal_of, settled};
+ghost use Rattle.portal_core.specs.Parts.{state_of, IsPlanned, IsConsistent};
+ghost use Rattle.portal_core.specs.Step.{outcome_of};
 ghost use Rattle.portal_core.specs.View.{view_of};
 
 use crate::change::Plan;
 use crate::decide::decide;
-use crate::event::{Event, Refusal, Reply};
 use crate::parts::Parts;
 use datastore_answers::tables::Tables;
 use org_roles::entry::{Membership, Org, User};
@@ -23,15 +22,16 @@ use portal_base::copy::TryClone;
 use portal_base::json_value::Json;
 use portal_base::seq::Seq;
 use portal_base::text::Text;
-use portal_calls::answer::{Answer, Denial};
+use portal_calls::answer::Answer;
 use portal_calls::call::Call;
+use portal_calls::event::{Event, Refusal, Reply, refusal_of};
 use std::alloc::{AllocError, Global};
 use std::marker::Model;
 
-/// A role of a user in an organization, as an opening has it.
+/// A role of a user in an organization, in an opening.
 pub type Role0 = Membership;
 
-/// What a portal is opened with.
+/// The users, organizations and roles that a portal is opened with.
 #[derive(Drop)]
 pub struct Opening {
     pub users: Seq<User>,
@@ -39,13 +39,13 @@ pub struct Opening {
     pub roles: Seq<Role0>,
 }
 
-/// Why a portal wasn't opened.
+/// Why opening a portal failed.
 #[derive(Clone, Copy, Debug, PartialEq, Eq)]
 pub enum OpenFault {
     OutOfMemory,
 }
 
-/// The portal. A contract sees it as its state, which is valid.
+/// The portal. Its value in contracts is its state, which is valid.
 #[derive(Drop)]
 pub struct Portal {
     alloc: Global,
@@ -53,14 +53,14 @@ pub struct Portal {
 }
 
 impl Model for Portal {
-    ghost use Rattle.portal_core.specs.Parts.{state_of, IsWhole};
+    ghost use Rattle.portal_core.specs.Parts.{state_of, IsConsistent};
     ghost use Rattle.portal_core.specs.State.{State};
 
     ghost Value = { State };
 
     ghost view = { λ p. state_of p.parts };
 
-    ghost invariant = { λ p. IsWhole p.parts };
+    ghost invariant = { λ p. IsConsistent p.parts };
 }
 
 impl Portal {
@@ -72,14 +72,14 @@ impl Portal {
         requires { IsTrue (is_opening opening.now) }
         ensures { IfOk result (λ portal. portal ≡ opened opening.now) }
     {
-        match Portal::assembled(alloc, opening) {
+        match Portal::assemble(alloc, opening) {
             Ok(portal) => Ok(portal),
             Err(_refused) => Err(OpenFault::OutOfMemory),
         }
     }
 
-    #[tactic(auto, using(crate::proofs::Shelving::opened_whole))]
-    fn assembled(alloc: Global, opening: &Opening) -> Result<Portal, AllocError>
+    #[tactic(auto, using(crate::proofs::Shelving::opened_consistent))]
+    fn assemble(alloc: Global, opening: &Opening) -> Result<Portal, AllocError>
         requires { IsTrue (is_opening opening.now) }
         ensures { IfOk result (λ portal. portal ≡ opened opening.now) }
     {
@@ -92,13 +92,13 @@ impl Portal {
                 people: People::of_lists(users, orgs, roles),
                 shelf: Shelf::new(alloc),
                 tables: Tables::new(alloc),
-                spent: Vec::new(alloc),
+                quota_used: Vec::new(alloc),
             },
         })
     }
 
-    /// The caller, where it is nobody or a user of this portal, and else nobody.
-    pub fn known(&self, caller: Caller) -> Caller
+    /// The caller, where it is a user of this portal, else the anonymous caller.
+    pub fn known_caller(&self, caller: Caller) -> Caller
         ensures { result ≡ known_caller self.now.people caller }
     {
         match caller {
@@ -111,8 +111,8 @@ impl Portal {
         }
     }
 
-    /// Works one event. The reply and the state after it are the step's, but for want of memory, which changes
-    /// nothing.
+    /// Makes the step of one event. The reply and the state after it are the step's. Where memory runs out, the reply
+    /// is `OutOfMemory` and nothing changes.
     #[tactic(auto, using(crate::proofs::Settling::step_there))]
     pub fn act(&mut self, event: &Event) -> Reply
         ensures reply { result ≢ Reply.Refused Refusal.OutOfMemory
@@ -122,14 +122,14 @@ impl Portal {
         ensures kept { result ≡ Reply.Refused Refusal.OutOfMemory → self.new ≡ self.old }
     {
         let Event::Call(call) = event;
-        match self.work(call) {
+        match self.act_on_call(call) {
             Ok(reply) => reply,
             Err(_refused) => Reply::Refused(Refusal::OutOfMemory),
         }
     }
 
     #[tactic(auto, using(crate::proofs::Answering::accepted_fit))]
-    fn work(&mut self, call: &Call) -> Result<Reply, AllocError>
+    fn act_on_call(&mut self, call: &Call) -> Result<Reply, AllocError>
         ensures reply { IfOk result (λ reply. reply ≡ (call_step self.old call.now).reply) }
         ensures state { OnOk result (self.new ≡ (call_step self.old call.now).state) }
         ensures kept { OnErr result (self.new ≡ self.old) }
@@ -137,44 +137,39 @@ impl Portal {
         match decide(self.alloc, &mut self.parts, call)? {
             Answer::Shown(json) => Ok(Reply::Shown(json)),
             Answer::Refused(denial) => Ok(Reply::Refused(refusal_of(denial))),
-            Answer::Accepted(json, plan) => settle(self.alloc, &mut self.parts, call, json, plan),
+            Answer::Accepted(json, plan) => apply_if_unused(
+                self.alloc,
+                &mut self.parts,
+                call,
+                json,
+                plan,
+            ),
         }
     }
 }
 
-/// Makes a change that was accepted, where nothing that it claims is in use.
-#[tactic(auto, using(crate::proofs::Settling::settled_unused, crate::proofs::Settling::kept_whole))]
-fn settle(
+/// Makes an accepted change, where nothing that it claims is in use, else refuses it.
+#[tactic(auto, using(crate::proofs::Settling::outcome_unused, crate::proofs::Settling::kept_consistent))]
+fn apply_if_unused(
     alloc: Global,
     parts: &mut Parts,
     call: &Call,
     json: Json,
     plan: Plan,
 ) -> Result<Reply, AllocError>
-    requires whole { IsWhole parts.old }
+    requires consistent { IsConsistent parts.old }
     requires fit { IsFit call.now (view_of call.now.caller (state_of parts.old)) (change_of plan) }
     requires planned { IsPlanned plan parts.old }
-    ensures whole { IsWhole parts.new }
+    ensures consistent { IsConsistent parts.new }
     ensures reply { IfOk result (λ reply.
-        reply ≡ (settled (Accepted json (change_of plan)) call.now (state_of parts.old)).reply) }
+        reply ≡ (outcome_of (Accepted json (change_of plan)) call.now (state_of parts.old)).reply) }
     ensures state { OnOk result
-        (state_of parts.new ≡ (settled (Accepted json (change_of plan)) call.now (state_of parts.old)).state) }
+        (state_of parts.new ≡ (outcome_of (Accepted json (change_of plan)) call.now (state_of parts.old)).state) }
     ensures kept { OnErr result (state_of parts.new ≡ state_of parts.old) }
 {
     if let Some(key) = parts.key_in_use(&plan) {
         return Ok(Reply::Refused(Refusal::NameInUse(Text::from_static(key))));
     }
-    parts.make(alloc, call, plan)?;
+    parts.apply(alloc, call, plan)?;
     Ok(Reply::Accepted(json))
-}
-
-/// The refusal that is replied.
-fn refusal_of(denial: Denial) -> Refusal
-    ensures { result ≡ refusal_of denial }
-{
-    match denial {
-        Denial::NotFound(kind) => Refusal::NotFound(kind),
-        Denial::NotAuthorized(right) => Refusal::NotAuthorized(right),
-        Denial::Validation(faults) => Refusal::Validation(faults),
-    }
 }

@@ -1,14 +1,14 @@
-//! The answers to calls whose bodies hold a query of a table: `datastore_search`, and `datastore_delete`, which may have
-//! filters.
+//! The answers to calls whose bodies hold a query of a table: `datastore_search`, and `datastore_delete`, which may
+//! have filters.
 ghost use Rattle.std.specs.Prelude.{◌≡◌, IfOk, IsTrue};
 ghost use Rattle.table_schema.specs.Values.{is_map};
 ghost use Rattle.datastore_query.specs.Query.{query_reading};
-ghost use Rattle.visibility.specs.Seen.{seen_by};
-ghost use Rattle.datastore_answers.specs.Answered.{AcceptsSuch, answer_with, table_answer_with};
+ghost use Rattle.visibility.specs.CallView.{context_view};
+ghost use Rattle.datastore_answers.specs.TableAnswers.{TableAcceptsOnly, map_answer, map_table_answer};
 ghost use Rattle.datastore_answers.specs.Plan.{IsPlanned, change_of};
 ghost use Rattle.datastore_answers.specs.Tables.{tables_of, tables_seen};
 ghost use Rattle.portal_core.specs.Queries.{answer_to_datastore_delete, answer_to_datastore_search, filters_alone};
-ghost use Rattle.portal_core.specs.Queries.{found_among, found_in, query_for, search_answer};
+ghost use Rattle.portal_core.specs.Queries.{find_rows_of_resource, find_rows, query_for, search_answer};
 
 use crate::page::page_json;
 use crate::search_body::search_in;
@@ -20,21 +20,21 @@ use datastore_answers::plan::TablePlan;
 use datastore_answers::tables::Tables;
 use datastore_query::{Parts, Query, QueryFault};
 use datastore_table::Table;
-use portal_base::faults::Faults;
 use portal_base::json_value::Json;
+use portal_base::key_errors::KeyErrors;
 use portal_base::kinds::dictionary_at;
 use portal_base::seq::Seq;
 use portal_base::text::Text;
 use portal_calls::answer::{Answer, Denial, denial_of};
 use std::alloc::{AllocError, Global};
-use visibility::asked::Asked;
+use visibility::context::CallContext;
 
 // ---- datastore_search
 
-/// The query of the parts, where each can be read and no key was told of before, and else all that is told.
+/// The query of the parts, where they can be read and there are no errors yet, else the refusal with all errors.
 fn query_for(
     alloc: Global,
-    mut faults: Faults,
+    mut faults: KeyErrors,
     table: &Table,
     parts: &Parts,
 ) -> Result<Result<Query, Denial>, AllocError>
@@ -47,24 +47,24 @@ fn query_for(
             Some(denial) => Ok(Err(denial)),
         },
         Err(QueryFault::Fields(told)) => {
-            faults.note_all(told)?;
+            faults.add_errors(told)?;
             Ok(Err(Denial::Validation(faults.into_list())))
         }
         Err(QueryFault::OutOfMemory) => Err(AllocError),
     }
 }
 
-/// The page that a body asks for, of the table of the resource of that id.
-fn searched(
+/// The answer with the page that a body asks for, of the table of the resource of that id.
+fn search_answer(
     alloc: Global,
     body: &Json,
     id: Text,
     table: &Table,
 ) -> Result<Answer<TablePlan>, AllocError>
-    ensures { IfOk result (λ answer. answer_with change_of answer
+    ensures { IfOk result (λ answer. map_answer change_of answer
         ≡ search_answer body.now id table.now.schema.fields table.now.rows) }
 {
-    let mut faults = Faults::new(alloc);
+    let mut faults = KeyErrors::new(alloc);
     let search = search_in(alloc, &mut faults, body)?;
     let query = match query_for(alloc, faults, table, &search.parts)? {
         Ok(query) => query,
@@ -77,21 +77,21 @@ fn searched(
 /// The answer to a `datastore_search`.
 pub(crate) fn datastore_search(
     alloc: Global,
-    asked: &Asked<'_>,
+    context: &CallContext<'_>,
     tables: &Tables,
 ) -> Result<TableAnswer<TablePlan>, AllocError>
-    ensures { IfOk result (λ answer. table_answer_with change_of answer
-        ≡ answer_to_datastore_search (seen_by asked.now)
-        (tables_seen (seen_by asked.now).datasets (tables_of tables.now))) }
+    ensures { IfOk result (λ answer. map_table_answer change_of answer
+        ≡ answer_to_datastore_search (context_view context.now)
+        (tables_seen (context_view context.now).datasets (tables_of tables.now))) }
 {
-    let placed = match resource_at(alloc, asked, "resource_id")? {
-        Ok(placed) => placed,
+    let positioned = match resource_at(alloc, context, "resource_id")? {
+        Ok(positioned) => positioned,
         Err(denial) => return Ok(TableAnswer::Answered(Answer::Refused(denial))),
     };
-    match tables.get(&placed.dataset.id, placed.resource.number) {
+    match tables.get(&positioned.dataset.id, positioned.resource.number) {
         Some(table) => {
-            let id = id_of(alloc, &placed)?;
-            let answer = searched(alloc, &asked.call.request.body, id, &table.table)?;
+            let id = id_of(alloc, &positioned)?;
+            let answer = search_answer(alloc, &context.call.request.body, id, &table.table)?;
             Ok(TableAnswer::Answered(answer))
         }
         None => Ok(TableAnswer::NoTable),
@@ -100,7 +100,7 @@ pub(crate) fn datastore_search(
 
 // ---- datastore_delete
 
-/// The query of filters alone.
+/// The parts of a query that only has filters.
 fn filters_alone(alloc: Global, filters: &Seq<(Text, Json)>) -> Result<Parts, AllocError>
     ensures { IfOk result (λ parts. parts ≡ filters_alone filters.now) }
 {
@@ -115,13 +115,13 @@ fn filters_alone(alloc: Global, filters: &Seq<(Text, Json)>) -> Result<Parts, Al
     })
 }
 
-/// The rows of the table that pass these filters, or what is told of them.
-fn found_in(
+/// The ids of the table's rows that pass these filters, or the error of the filters.
+fn find_rows(
     alloc: Global,
     filters: &Seq<(Text, Json)>,
     table: &Table,
 ) -> Result<Result<Seq<u64>, Text>, AllocError>
-    ensures { IfOk result (λ found. found ≡ found_in filters.now table.now.schema.fields table.now.rows) }
+    ensures { IfOk result (λ found. found ≡ find_rows filters.now table.now.schema.fields table.now.rows) }
 {
     let parts = filters_alone(alloc, filters)?;
     match Query::read(alloc, table, &parts) {
@@ -134,47 +134,47 @@ fn found_in(
     }
 }
 
-/// The same of the table of the resource that the body names. No row is found where there is none.
-fn found_among(
+/// The same for the table of the resource that the body names. There is no row where there is no such table.
+fn find_rows_of_resource(
     alloc: Global,
-    asked: &Asked<'_>,
+    context: &CallContext<'_>,
     tables: &Tables,
     filters: &Seq<(Text, Json)>,
 ) -> Result<Result<Seq<u64>, Text>, AllocError>
-    ensures { IfOk result (λ found. found ≡ found_among (seen_by asked.now)
-        (tables_seen (seen_by asked.now).datasets (tables_of tables.now)) filters.now) }
+    ensures { IfOk result (λ found. found ≡ find_rows_of_resource (context_view context.now)
+        (tables_seen (context_view context.now).datasets (tables_of tables.now)) filters.now) }
 {
-    let placed = match resource_at(alloc, asked, "resource_id")? {
-        Ok(placed) => placed,
+    let positioned = match resource_at(alloc, context, "resource_id")? {
+        Ok(positioned) => positioned,
         Err(_denial) => return Ok(Ok(Seq::new(alloc))),
     };
-    match tables.get(&placed.dataset.id, placed.resource.number) {
-        Some(table) => found_in(alloc, filters, &table.table),
+    match tables.get(&positioned.dataset.id, positioned.resource.number) {
+        Some(table) => find_rows(alloc, filters, &table.table),
         None => Ok(Ok(Seq::new(alloc))),
     }
 }
 
-/// The answer to a `datastore_delete`: without filters the table goes, and with filters the rows that pass them.
-pub(crate) fn datastore_delete_by(
+/// The answer to a `datastore_delete`. Without filters it drops the table, with filters the rows that pass them.
+pub(crate) fn datastore_delete_with_filters(
     alloc: Global,
-    asked: &Asked<'_>,
+    context: &CallContext<'_>,
     tables: &mut Tables,
 ) -> Result<TableAnswer<TablePlan>, AllocError>
     ensures same { tables_of tables.new ≡ tables_of tables.old }
-    ensures answer { IfOk result (λ answer. table_answer_with change_of answer
-        ≡ answer_to_datastore_delete (seen_by asked.now)
-        (tables_seen (seen_by asked.now).datasets (tables_of tables.old))) }
-    ensures ready { IfOk result (λ answer. AcceptsSuch (λ plan. IsPlanned plan tables.new) answer) }
+    ensures answer { IfOk result (λ answer. map_table_answer change_of answer
+        ≡ answer_to_datastore_delete (context_view context.now)
+        (tables_seen (context_view context.now).datasets (tables_of tables.old))) }
+    ensures ready { IfOk result (λ answer. TableAcceptsOnly (λ plan. IsPlanned plan tables.new) answer) }
 {
-    match dictionary_at(&asked.call.request.body, "filters") {
-        Ok(None) => datastore_delete(alloc, asked, tables),
+    match dictionary_at(&context.call.request.body, "filters") {
+        Ok(None) => datastore_delete(alloc, context, tables),
         Ok(Some(filters)) => {
-            let found = found_among(alloc, asked, tables, filters)?;
-            datastore_delete_rows(alloc, asked, tables, found)
+            let found = find_rows_of_resource(alloc, context, tables, filters)?;
+            datastore_delete_rows(alloc, context, tables, found)
         }
         Err(fault) => {
             let message = fault.message(alloc)?;
-            datastore_delete_rows(alloc, asked, tables, Err(message))
+            datastore_delete_rows(alloc, context, tables, Err(message))
         }
     }
 }

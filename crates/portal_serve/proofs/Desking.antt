@@ -10,22 +10,22 @@ use Rattle.portal_base.specs.Outside.{GivesOne, Rose}
 use Rattle.portal_base.specs.declared.outside.Failed.{Failed}
 use Rattle.portal_core.specs.State.{State}
 use Rattle.portal_serve.proofs.Working.{DrawsAll-none, DrawsAll-more, Rose-before}
-use Rattle.portal_serve.specs.Desk.{Visit, DeskSight, ServesAll, ServesLinks, ServesNext, ServesDesk, GivesAll}
+use Rattle.portal_serve.specs.Desk.{Visit, DeskTrace, ServesAll, ServesLinks, ServesNext, ServesDesk, GivesAll}
 use Rattle.portal_serve.specs.Desk.{TakesAll}
 use Rattle.portal_serve.specs.Desk.{counted}
 use Rattle.portal_serve.specs.Run.{DrawsAll}
-use Rattle.portal_serve.specs.Served.{LinkSight, Serves}
+use Rattle.portal_serve.specs.Served.{LinkTrace, Serves}
 use Rattle.portal_serve.specs.Tokens.{Digests}
 use Rattle.portal_serve.specs.declared.serve.Served.{Served}
 
-serves_all_more : {Peer : Type 0} (sight : Peer → LinkSight) (digests : Digests) (state middle after : State)
+serves_all_more : {Peer : Type 0} (trace : Peer → LinkTrace) (digests : Digests) (state middle after : State)
     (visits more : List (Visit Peer))
-    → ServesAll sight digests state visits middle → ServesAll sight digests middle more after
-    → ServesAll sight digests state (visits ++ more) after
-serves_all_more sight digests state middle after [] more first second =
-    subst (λ s. ServesAll sight digests s more after) first second
-serves_all_more sight digests state middle after (v ∷ visits) more first second =
-    (first.0, first.1, first.2, serves_all_more sight digests first.0 middle after visits more first.3 second)
+    → ServesAll trace digests state visits middle → ServesAll trace digests middle more after
+    → ServesAll trace digests state (visits ++ more) after
+serves_all_more trace digests state middle after [] more first second =
+    subst (λ s. ServesAll trace digests s more after) first second
+serves_all_more trace digests state middle after (v ∷ visits) more first second =
+    (first.0, first.1, first.2, serves_all_more trace digests first.0 middle after visits more first.3 second)
 
 gives_none : {X : Type 0} (o : Option (List X)) → GivesAll o [] o
 gives_none None = refl
@@ -54,17 +54,17 @@ counted_more (suc m) n count =
     let one : suc m + n ≡ suc (m + n) = omega arith in
     ap (λ k. counted k count) one ∙ counted_more m n (next_count count)
 
--- what served links, and how many
-abbrev pub Counted : {Peer : Type 0} → (Peer → LinkSight) → Digests → State → ℕ → DeskSight Peer → DeskSight Peer
+-- what served links, and their count
+abbrev pub Counted : {Peer : Type 0} → (Peer → LinkTrace) → Digests → State → ℕ → DeskTrace Peer → DeskTrace Peer
     → State → ℕ → Type 0
-Counted sight digests state most old new after count =
-    (s : ServesLinks sight digests state most old new after) × (length s.visits ≡ count)
+Counted trace digests state limit old new after count =
+    (s : ServesLinks trace digests state limit old new after) × (length s.visits ≡ count)
 
 -- no link was served, and nothing but the count of faults changed
-pub serves_none : {Peer : Type 0} (sight : Peer → LinkSight) (digests : Digests) (state : State) (most : ℕ)
-    (old new : DeskSight Peer) → new.to_come ≡ old.to_come → new.taken_back ≡ old.taken_back → new.count ≡ old.count
-    → new.moments ≡ old.moments → new.nonces ≡ old.nonces → Counted sight digests state most old new state 0
-serves_none sight digests state most old new to_come taken_back count moments nonces = (
+pub serves_none : {Peer : Type 0} (trace : Peer → LinkTrace) (digests : Digests) (state : State) (limit : ℕ)
+    (old new : DeskTrace Peer) → new.to_come ≡ old.to_come → new.taken_back ≡ old.taken_back → new.count ≡ old.count
+    → new.moments ≡ old.moments → new.nonces ≡ old.nonces → Counted trace digests state limit old new state 0
+serves_none trace digests state limit old new to_come taken_back count moments nonces = (
   record {
     visits = [];
     serves = refl;
@@ -84,13 +84,13 @@ gives_one (Some all) None x gave = absurd gave
 gives_one (Some all) (Some rest) x gave = (rest, refl, gave)
 
 -- one link was served
-pub serves_one : {Peer : Type 0} (sight : Peer → LinkSight) (digests : Digests) (state after : State) (end : Served)
-    (old new : DeskSight Peer) (v : Visit Peer)
-    → Serves digests state v.moment v.nonce (sight v.link) (sight v.back) end after
+pub serves_one : {Peer : Type 0} (trace : Peer → LinkTrace) (digests : Digests) (state after : State) (end : Served)
+    (old new : DeskTrace Peer) (v : Visit Peer)
+    → Serves digests state v.moment v.nonce (trace v.link) (trace v.back) end after
     → GivesAll old.to_come (v.link ∷ []) new.to_come → TakesAll old.taken_back (v.back ∷ []) new.taken_back
     → new.count ≡ next_count old.count → DrawsAll old.moments (v.moment ∷ []) new.moments
-    → DrawsAll old.nonces (v.nonce ∷ []) new.nonces → Counted sight digests state 1 old new after 1
-serves_one sight digests state after end old new v serves came back count clock numbers = (
+    → DrawsAll old.nonces (v.nonce ∷ []) new.nonces → Counted trace digests state 1 old new after 1
+serves_one trace digests state after end old new v serves came back count clock numbers = (
   record {
     visits = v ∷ [];
     serves = (after, end, serves, refl);
@@ -105,17 +105,17 @@ serves_one sight digests state after end old new v serves came back count clock 
 )
 
 -- links were served, and then others
-pub serves_more : {Peer : Type 0} (sight : Peer → LinkSight) (digests : Digests) (state middle after : State)
-    (first second most m n : ℕ) (a b c : DeskSight Peer)
-    → m + n ≤ most → Counted sight digests state first a b middle m → Counted sight digests middle second b c after n
-    → Counted sight digests state most a c after (m + n)
-serves_more {Peer} sight digests state middle after first second most m n a b c both xs ys =
+pub serves_more : {Peer : Type 0} (trace : Peer → LinkTrace) (digests : Digests) (state middle after : State)
+    (first second limit m n : ℕ) (a b c : DeskTrace Peer)
+    → m + n ≤ limit → Counted trace digests state first a b middle m → Counted trace digests middle second b c after n
+    → Counted trace digests state limit a c after (m + n)
+serves_more {Peer} trace digests state middle after first second limit m n a b c both xs ys =
     let x = xs.0 in
     let y = ys.0 in
     let total : length (x.visits ++ y.visits) ≡ length x.visits + length y.visits = length-append x.visits y.visits in (
       record {
         visits = x.visits ++ y.visits;
-        serves = serves_all_more sight digests state middle after x.visits y.visits x.serves y.serves;
+        serves = serves_all_more trace digests state middle after x.visits y.visits x.serves y.serves;
         few = omega (arith, total, both, xs.1, ys.1);
         came = subst (λ l. GivesAll a.to_come l c.to_come) (sym (map-append (λ v. v.link) x.visits y.visits))
             (gives_more a.to_come b.to_come c.to_come (map (λ v. v.link) x.visits) (map (λ v. v.link) y.visits) x.came
@@ -135,11 +135,11 @@ serves_more {Peer} sight digests state middle after first second most m n a b c 
       omega (arith, total, xs.1, ys.1),
     )
 
--- a greater most
-pub serves_within : {Peer : Type 0} (sight : Peer → LinkSight) (digests : Digests) (state after : State)
-    (first most m : ℕ) (a b : DeskSight Peer) → m ≤ most → Counted sight digests state first a b after m
-    → Counted sight digests state most a b after m
-serves_within sight digests state after first most m a b within xs =
+-- a greater limit
+pub serves_within : {Peer : Type 0} (trace : Peer → LinkTrace) (digests : Digests) (state after : State)
+    (first limit m : ℕ) (a b : DeskTrace Peer) → m ≤ limit → Counted trace digests state first a b after m
+    → Counted trace digests state limit a b after m
+serves_within trace digests state after first limit m a b within xs =
     let x = xs.0 in (
       record {
         visits = x.visits;
@@ -157,87 +157,87 @@ serves_within sight digests state after first most m a b within xs =
 -- ---- one turn of a desk
 
 -- the listener failed
-pub next_failed : {Peer : Type 0} (sight : Peer → LinkSight) (digests : Digests) (state : State)
-    (old new : DeskSight Peer) (fault : Failed) → new.to_come ≡ old.to_come → new.taken_back ≡ old.taken_back
+pub next_failed : {Peer : Type 0} (trace : Peer → LinkTrace) (digests : Digests) (state : State)
+    (old new : DeskTrace Peer) (fault : Failed) → new.to_come ≡ old.to_come → new.taken_back ≡ old.taken_back
     → new.count ≡ old.count → new.moments ≡ old.moments → new.nonces ≡ old.nonces → Rose old.faults new.faults
-    → ServesNext sight digests state old new state (Err fault)
-next_failed sight digests state old new fault to_come taken_back count moments nonces rose = record {
-  served = (serves_none sight digests state 1 old new to_come taken_back count moments nonces).0;
+    → ServesNext trace digests state old new state (Err fault)
+next_failed trace digests state old new fault to_come taken_back count moments nonces rose = record {
+  served = (serves_none trace digests state 1 old new to_come taken_back count moments nonces).0;
   one = λ is. absurd (cc);
   ended = λ is. absurd (cc);
   failed = rose;
 }
 
 -- there was no link
-pub next_none : {Peer : Type 0} (sight : Peer → LinkSight) (digests : Digests) (state : State)
-    (old new : DeskSight Peer) → new.to_come ≡ old.to_come → new.taken_back ≡ old.taken_back
+pub next_none : {Peer : Type 0} (trace : Peer → LinkTrace) (digests : Digests) (state : State)
+    (old new : DeskTrace Peer) → new.to_come ≡ old.to_come → new.taken_back ≡ old.taken_back
     → new.count ≡ old.count → new.moments ≡ old.moments → new.nonces ≡ old.nonces → IsTrue new.is_at_end
-    → ServesNext sight digests state old new state (Ok false)
-next_none sight digests state old new to_come taken_back count moments nonces at_end = record {
-  served = (serves_none sight digests state 1 old new to_come taken_back count moments nonces).0;
+    → ServesNext trace digests state old new state (Ok false)
+next_none trace digests state old new to_come taken_back count moments nonces at_end = record {
+  served = (serves_none trace digests state 1 old new to_come taken_back count moments nonces).0;
   one = λ is. absurd (cc);
   ended = λ is. at_end;
   failed = tt;
 }
 
--- a link was served; between, the listener had these still to come, these taken back, and so many
-pub next_one : {Peer : Type 0} (sight : Peer → LinkSight) (digests : Digests) (state after : State) (end : Served)
-    (old new : DeskSight Peer) (v : Visit Peer) (to_come taken_back : Option (List Peer)) (count : ℕ)
-    → Serves digests state v.moment v.nonce (sight v.link) (sight v.back) end after
+-- a link was served; between, the listener had these still to come, these taken back, and this count
+pub next_one : {Peer : Type 0} (trace : Peer → LinkTrace) (digests : Digests) (state after : State) (end : Served)
+    (old new : DeskTrace Peer) (v : Visit Peer) (to_come taken_back : Option (List Peer)) (count : ℕ)
+    → Serves digests state v.moment v.nonce (trace v.link) (trace v.back) end after
     → GivesOne old.to_come v.link to_come → new.to_come ≡ to_come
     → taken_back ≡ old.taken_back → TakesAll taken_back (v.back ∷ []) new.taken_back
     → count ≡ old.count → new.count ≡ next_count count
     → DrawsAll old.moments (v.moment ∷ []) new.moments → DrawsAll old.nonces (v.nonce ∷ []) new.nonces
-    → ServesNext sight digests state old new after (Ok true)
-next_one sight digests state after end old new v to_come taken_back count serves gave left kept back same one clock
+    → ServesNext trace digests state old new after (Ok true)
+next_one trace digests state after end old new v to_come taken_back count serves gave left kept back same one clock
     numbers =
-    let served = serves_one sight digests state after end old new v serves
+    let served = serves_one trace digests state after end old new v serves
     (subst (λ o. GivesAll old.to_come (v.link ∷ []) o) (sym left) (gives_one old.to_come to_come v.link gave))
     (subst (λ o. TakesAll o (v.back ∷ []) new.taken_back) kept back) (one ∙ ap next_count same) clock numbers in
     record { served = served.0; one = λ is. served.1; ended = λ is. absurd (cc); failed = tt }
 
 -- ---- the turns of a desk
 
--- there was no link any more
-pub desk_ends : {Peer : Type 0} (sight : Peer → LinkSight) (digests : Digests) (first state after : State)
-    (most m : ℕ) (a b c : DeskSight Peer) (result : Result Bool Failed) → result ≡ Ok false → suc m ≤ most
-    → Counted sight digests first m a b state m → ServesNext sight digests state b c after result
-    → ServesDesk sight digests first most a c after (Ok tt)
-desk_ends sight digests first state after most m a b c result none more so_far next =
-    let within : m + length next.served.visits ≤ most = omega (arith, more, next.served.few) in
+-- there was no further link
+pub desk_ends : {Peer : Type 0} (trace : Peer → LinkTrace) (digests : Digests) (first state after : State)
+    (limit m : ℕ) (a b c : DeskTrace Peer) (result : Result Bool Failed) → result ≡ Ok false → suc m ≤ limit
+    → Counted trace digests first m a b state m → ServesNext trace digests state b c after result
+    → ServesDesk trace digests first limit a c after (Ok tt)
+desk_ends trace digests first state after limit m a b c result none more so_far next =
+    let within : m + length next.served.visits ≤ limit = omega (arith, more, next.served.few) in
     record {
-      served = (serves_more sight digests first state after m 1 most m (length next.served.visits) a b c within so_far
+      served = (serves_more trace digests first state after m 1 limit m (length next.served.visits) a b c within so_far
           (next.served, refl)).0;
       ended = λ is. inl (next.ended none);
       failed = tt;
     }
 
 -- the listener failed
-pub desk_fails : {Peer : Type 0} (sight : Peer → LinkSight) (digests : Digests) (first state after : State)
-    (most m : ℕ) (a b c : DeskSight Peer) (fault : Failed) → suc m ≤ most → a.faults ≤ b.faults
-    → Counted sight digests first m a b state m
-    → ServesNext sight digests state b c after (Err fault) → ServesDesk sight digests first most a c after (Err fault)
-desk_fails sight digests first state after most m a b c fault more faults so_far next =
-    let within : m + length next.served.visits ≤ most = omega (arith, more, next.served.few) in
+pub desk_fails : {Peer : Type 0} (trace : Peer → LinkTrace) (digests : Digests) (first state after : State)
+    (limit m : ℕ) (a b c : DeskTrace Peer) (fault : Failed) → suc m ≤ limit → a.faults ≤ b.faults
+    → Counted trace digests first m a b state m
+    → ServesNext trace digests state b c after (Err fault) → ServesDesk trace digests first limit a c after (Err fault)
+desk_fails trace digests first state after limit m a b c fault more faults so_far next =
+    let within : m + length next.served.visits ≤ limit = omega (arith, more, next.served.few) in
     record {
-      served = (serves_more sight digests first state after m 1 most m (length next.served.visits) a b c within so_far
+      served = (serves_more trace digests first state after m 1 limit m (length next.served.visits) a b c within so_far
           (next.served, refl)).0;
       ended = λ is. absurd (cc);
       failed = Rose-before a.faults b.faults c.faults faults next.failed;
     }
 
 -- one link more
-pub desk_goes_on : {Peer : Type 0} (sight : Peer → LinkSight) (digests : Digests) (first state after : State)
-    (m : ℕ) (a b c : DeskSight Peer) (result : Result Bool Failed) → result ≡ Ok true
-    → Counted sight digests first m a b state m → ServesNext sight digests state b c after result
-    → Counted sight digests first (m + 1) a c after (m + 1)
-desk_goes_on sight digests first state after m a b c result one so_far next =
-    serves_more sight digests first state after m 1 (m + 1) m 1 a b c (omega arith) so_far (next.served, next.one one)
+pub desk_goes_on : {Peer : Type 0} (trace : Peer → LinkTrace) (digests : Digests) (first state after : State)
+    (m : ℕ) (a b c : DeskTrace Peer) (result : Result Bool Failed) → result ≡ Ok true
+    → Counted trace digests first m a b state m → ServesNext trace digests state b c after result
+    → Counted trace digests first (m + 1) a c after (m + 1)
+desk_goes_on trace digests first state after m a b c result one so_far next =
+    serves_more trace digests first state after m 1 (m + 1) m 1 a b c (omega arith) so_far (next.served, next.one one)
 
--- the most links were served
-pub desk_is_full : {Peer : Type 0} (sight : Peer → LinkSight) (digests : Digests) (first after : State)
-    (most m : ℕ) (a b : DeskSight Peer) → m ≡ most → Counted sight digests first m a b after m
-    → ServesDesk sight digests first most a b after (Ok tt)
-desk_is_full sight digests first after most m a b full so_far =
-    let all = serves_within sight digests first after m most m a b (omega (arith, full)) so_far in
+-- as many links as the limit were served
+pub desk_is_full : {Peer : Type 0} (trace : Peer → LinkTrace) (digests : Digests) (first after : State)
+    (limit m : ℕ) (a b : DeskTrace Peer) → m ≡ limit → Counted trace digests first m a b after m
+    → ServesDesk trace digests first limit a b after (Ok tt)
+desk_is_full trace digests first after limit m a b full so_far =
+    let all = serves_within trace digests first after m limit m a b (omega (arith, full)) so_far in
     record { served = all.0; ended = λ is. inr (all.1 ∙ full); failed = tt }

@@ -2,23 +2,23 @@
 use Rattle.std.proofs.Common.{◌≡◌, ◌⊎◌, ℕ, ℤ, List, [], ◌∷◌, Some, Ok, subst, sym, ◌∙◌, inl, inr, take, length, refl}
 use Rattle.portal_base.specs.Outside.{TakesPrefix}
 use Rattle.portal_core.specs.State.{State}
-use Rattle.portal_serve.proofs.Working.{begins_take, call_written, takes_no_prefix, works_call, works_lines}
+use Rattle.portal_serve.proofs.Working.{begins_take, call_written, takes_no_prefix, processes_call, processes_lines}
 use Rattle.portal_serve.specs.Calls.{BeginsCall, MakesCall}
-use Rattle.portal_serve.specs.Played.{StopsLines, WorksLines}
-use Rattle.portal_serve.specs.Run.{Begins, DrawsAll, Outlet}
+use Rattle.portal_serve.specs.Played.{StopsLines, ProcessesLines}
+use Rattle.portal_serve.specs.Run.{Begins, DrawsAll, StageTrace}
 use Rattle.portal_serve.specs.Script.{ScriptCall, call_of_line}
-use Rattle.portal_serve.specs.Transcript.{replied_to, reply_line}
+use Rattle.portal_serve.specs.Transcript.{outcome_of_call, reply_line}
 
 -- ---- a call that was begun
 
--- output took a beginning of its line
-pub begins_call : (state after : State) (said : ScriptCall) (size : ℕ) (m : ℤ) (n : ℕ) (text : List ℕ)
-    (old new : Outlet)
-    → text ≡ reply_line (Some said.action) (replied_to state said size m n).reply
-    → (after ≡ state) ⊎ (after ≡ (replied_to state said size m n).state)
+-- output took some prefix of its line
+pub begins_call : (state after : State) (call : ScriptCall) (size : ℕ) (m : ℤ) (n : ℕ) (text : List ℕ)
+    (old new : StageTrace)
+    → text ≡ reply_line (Some call.action) (outcome_of_call state call size m n).reply
+    → (after ≡ state) ⊎ (after ≡ (outcome_of_call state call size m n).state)
     → DrawsAll old.moments (m ∷ []) new.moments → DrawsAll old.nonces (n ∷ []) new.nonces
-    → TakesPrefix old.taken text new.taken → BeginsCall state said size after old new
-begins_call state after said size m n text old new wrote left clock numbers part = record {
+    → TakesPrefix old.taken text new.taken → BeginsCall state call size after old new
+begins_call state after call size m n text old new wrote left clock numbers part = record {
   moment = m;
   nonce = n;
   leaves = left;
@@ -28,16 +28,18 @@ begins_call state after said size m n text old new wrote left clock numbers part
 }
 
 -- it stopped before it wrote
-pub begins_call_unwritten : (state after : State) (said : ScriptCall) (size : ℕ) (m : ℤ) (n : ℕ) (old new : Outlet)
-    → (after ≡ state) ⊎ (after ≡ (replied_to state said size m n).state)
+pub begins_call_unwritten : (state after : State) (call : ScriptCall) (size : ℕ) (m : ℤ) (n : ℕ) (old new : StageTrace)
+    → (after ≡ state) ⊎ (after ≡ (outcome_of_call state call size m n).state)
     → DrawsAll old.moments (m ∷ []) new.moments → DrawsAll old.nonces (n ∷ []) new.nonces
-    → new.taken ≡ old.taken → BeginsCall state said size after old new
-begins_call_unwritten state after said size m n old new left clock numbers same = record {
+    → new.taken ≡ old.taken → BeginsCall state call size after old new
+begins_call_unwritten state after call size m n old new left clock numbers same = record {
   moment = m;
   nonce = n;
   leaves = left;
-  output = subst (λ t. TakesPrefix old.taken (reply_line (Some said.action) (replied_to state said size m n).reply) t)
-      (sym same) (takes_no_prefix old.taken (reply_line (Some said.action) (replied_to state said size m n).reply));
+  output = subst (λ t. TakesPrefix old.taken (reply_line (Some call.action) (outcome_of_call state call size m n).reply)
+      t)
+      (sym same) (takes_no_prefix old.taken (reply_line (Some call.action)
+      (outcome_of_call state call size m n).reply));
   clock = clock;
   numbers = numbers;
 }
@@ -45,13 +47,13 @@ begins_call_unwritten state after said size m n old new left clock numbers same 
 -- ---- the line that asks for a call
 
 -- the call of a line was made
-pub works_made : (state after : State) (line : List ℕ) (said : ScriptCall) (status : ℕ) (old new : Outlet)
-    → call_of_line line ≡ Ok said → MakesCall state said (length line) status after old new
-    → WorksLines state (line ∷ []) after old new
-works_made state after line said status old new is made =
-    works_lines state after (line ∷ []) (made.moment ∷ []) (made.nonce ∷ [])
-    (reply_line (Some said.action) (replied_to state said (length line) made.moment made.nonce).reply) old new
-    (call_written state after line said made.moment made.nonce _ is refl made.leaves) made.clock made.numbers
+pub processes_made : (state after : State) (line : List ℕ) (call : ScriptCall) (status : ℕ) (old new : StageTrace)
+    → call_of_line line ≡ Ok call → MakesCall state call (length line) status after old new
+    → ProcessesLines state (line ∷ []) after old new
+processes_made state after line call status old new is made =
+    processes_lines state after (line ∷ []) (made.moment ∷ []) (made.nonce ∷ [])
+    (reply_line (Some call.action) (outcome_of_call state call (length line) made.moment made.nonce).reply) old new
+    (call_written state after line call made.moment made.nonce _ is refl made.leaves) made.clock made.numbers
     made.output
 
 -- the state is as before, or the one that a call leaves
@@ -61,14 +63,14 @@ left_by_call state after left last is (inl kept) = inl kept
 left_by_call state after left last is (inr made) = inr (made ∙ sym is)
 
 -- the call of a line was begun
-pub stops_begun : (state after : State) (line : List ℕ) (said : ScriptCall) (old new : Outlet)
-    → call_of_line line ≡ Ok said → BeginsCall state said (length line) after old new
+pub stops_begun : (state after : State) (line : List ℕ) (call : ScriptCall) (old new : StageTrace)
+    → call_of_line line ≡ Ok call → BeginsCall state call (length line) after old new
     → StopsLines state (line ∷ []) after old new
-stops_begun state after line said old new is begun =
+stops_begun state after line call old new is begun =
     let m = begun.moment in
     let n = begun.nonce in
-    let text = reply_line (Some said.action) (replied_to state said (length line) m n).reply in
-    let w = works_call state line said m n is in
+    let text = reply_line (Some call.action) (outcome_of_call state call (length line) m n).reply in
+    let w = processes_call state line call m n is in
     inr (record {
       written = take begun.output.0 text;
       moments = m ∷ [];

@@ -10,34 +10,34 @@ use Rattle.serde_json.specs.Written.{compact_text}
 use Rattle.serde_json.proofs.OnLiterals.{serde_json_on_literals}
 use Rattle.httparse.specs.Grammar.{RequestHead}
 use Rattle.action_api.specs.Error.{bad_request, error_dictionary, memory_dictionary}
-use Rattle.action_api.specs.Query.{reads}
+use Rattle.action_api.specs.Query.{is_reading_action}
 use Rattle.action_api.specs.Reply.{failure_dictionary, reply_status}
 use Rattle.action_api.specs.declared.early.Early.{Early}
 use Rattle.action_api.specs.declared.early.Early.TheVariants.{TooLong, NotJson, Fraction, UnknownAction}
 use Rattle.action_api.specs.declared.early.Early.TheVariants.{OutOfMemory as no_memory}
 use Rattle.http_front.specs.Response.{response_bytes}
 use Rattle.http_front.specs.Head.{Pairs, extent, pairs_of}
-use Rattle.http_front.specs.Request.{AnswersAt, AsksOf, IsReceived, IsWanted, UnlessFails}
+use Rattle.http_front.specs.Request.{AnswersAt, AsksOf, IsReceived, IsActionTarget, UnlessFails}
 use Rattle.http_front.specs.declared.fault.FrontFault.{FrontFault}
 use Rattle.http_front.specs.declared.fault.FrontFault.TheVariants as front
 use Rattle.http_front.specs.declared.incoming.Incoming.{Incoming}
-use Rattle.http_front.specs.declared.wanted.Wanted.{Wanted}
+use Rattle.http_front.specs.declared.action_target.ActionTarget.{ActionTarget}
 use Rattle.portal_base.specs.Json.{data_of}
 use Rattle.portal_base.specs.Outside.{Rose, Takes, TakesPrefix}
 use Rattle.portal_base.specs.declared.json_value.Json.{the_lemmas}
-use Rattle.portal_core.specs.declared.event.Refusal.TheVariants.{NotFound, NotAuthorized, Validation, NameInUse}
-use Rattle.portal_core.specs.declared.event.Refusal.TheVariants.{OutOfMemory}
-use Rattle.portal_core.specs.declared.event.Reply.{Reply}
-use Rattle.portal_core.specs.declared.event.Reply.TheVariants.{Accepted, Shown, Refused}
+use Rattle.portal_calls.specs.declared.event.Refusal.TheVariants.{NotFound, NotAuthorized, Validation, NameInUse}
+use Rattle.portal_calls.specs.declared.event.Refusal.TheVariants.{OutOfMemory}
+use Rattle.portal_calls.specs.declared.event.Reply.{Reply}
+use Rattle.portal_calls.specs.declared.event.Reply.TheVariants.{Accepted, Shown, Refused}
 use Rattle.portal_core.specs.State.{State}
 use Rattle.portal_serve.proofs.Working.{Rose-before}
-use Rattle.portal_serve.specs.Replied.{Replied}
-use Rattle.portal_serve.specs.Served.{Answers, LinkSight, Reading, Writes, WritesFault, answer_text, error_text}
+use Rattle.portal_serve.specs.RequestOutcome.{RequestOutcome}
+use Rattle.portal_serve.specs.Served.{Answers, LinkTrace, IsReadingAnswer, Writes, WritesFault, answer_text, error_text}
 use Rattle.portal_serve.specs.Served.{fault_text, memory_text}
 use Rattle.portal_serve.specs.declared.serve.Served.{Served}
 use Rattle.portal_serve.specs.declared.serve.Served.TheVariants as served
 
--- ---- texts that stand in the program
+-- ---- constants of the program
 
 error_data : (kind message : List ℕ)
     → data_of (failure_dictionary [] (error_dictionary kind message))
@@ -111,9 +111,9 @@ has_phrase (Err no_memory) = refl
 -- ---- a link that was read before it was written to
 
 -- what was written since reading ended was written since before it
-pub writes_since : (text : ℕ × List ℕ) (old middle new : LinkSight) (end : Served) → middle.taken ≡ old.taken
+pub writes_since : (text : ℕ × List ℕ) (old middle new : LinkTrace) (end : Served) → middle.taken ≡ old.taken
     → old.faults ≤ middle.faults → Writes text middle new end → Writes text old new end
-writes_since text old middle new (served.Replied status) same rose w =
+writes_since text old middle new (served.RequestOutcome status) same rose w =
     (w.0, subst (λ t. Takes t (response_bytes text.0 text.1) new.taken) same w.1)
 writes_since text old middle new served.EndedEarly same rose w = w
 writes_since text old middle new served.LinkFault same rose w = (
@@ -122,16 +122,16 @@ writes_since text old middle new served.LinkFault same rose w = (
 )
 
 -- so was the answer to what was received
-pub answers_since : (incoming : Incoming) (replied : Replied) (state : State) (old middle new : LinkSight)
+pub answers_since : (incoming : Incoming) (outcome : RequestOutcome) (state : State) (old middle new : LinkTrace)
     (end : Served) (after : State) → middle.taken ≡ old.taken → old.faults ≤ middle.faults
-    → Answers incoming replied state middle new end after → Answers incoming replied state old new end after
-answers_since incoming replied state old middle new end after same rose (inl a) =
-    inl (writes_since (answer_text incoming replied) old middle new end same rose a.0, a.1)
-answers_since incoming replied state old middle new end after same rose (inr a) =
+    → Answers incoming outcome state middle new end after → Answers incoming outcome state old new end after
+answers_since incoming outcome state old middle new end after same rose (inl a) =
+    inl (writes_since (answer_text incoming outcome) old middle new end same rose a.0, a.1)
+answers_since incoming outcome state old middle new end after same rose (inr a) =
     inr (writes_since memory_text old middle new end same rose a.0, a.1)
 
 -- and the reply to a fault
-pub fault_since : (fault : FrontFault) (old middle new : LinkSight) (end : Served) → middle.taken ≡ old.taken
+pub fault_since : (fault : FrontFault) (old middle new : LinkTrace) (end : Served) → middle.taken ≡ old.taken
     → old.faults ≤ middle.faults → (fault ≡ front.LinkFault → Rose old.faults middle.faults)
     → (fault ≢ front.LinkFault → WritesFault fault (fault_text fault) middle new end)
     → (fault ≡ front.LinkFault → (end ≡ served.LinkFault) × (new ≡ middle))
@@ -153,39 +153,39 @@ fault_since front.EndedEarly old middle new end same rose failed w none =
 fault_since front.LinkFault old middle new end same rose failed w none =
     let n = none refl in (
       n.0,
-      ap (λ (s : LinkSight). s.taken) n.1 ∙ same,
-      subst (λ (s : LinkSight). Rose old.faults s.faults) (sym n.1) (failed refl),
+      ap (λ (s : LinkTrace). s.taken) n.1 ∙ same,
+      subst (λ (s : LinkTrace). Rose old.faults s.faults) (sym n.1) (failed refl),
     )
 
 -- ---- what was received, by how names are looked up
 
 asks_reading : (says : Bor (List ℕ) → Option Bool → Type 0)
-    → ((name : Bor (List ℕ)) (answer : Option Bool) → says name answer → answer ≡ reads name.now)
-    → (method target : List ℕ) (fields : Pairs) (wanted : Result Wanted FrontFault)
-    → AsksOf (AnswersAt says) method target fields wanted → AsksOf Reading method target fields wanted
-asks_reading says all method target fields wanted a = (
+    → ((name : Bor (List ℕ)) (answer : Option Bool) → says name answer → answer ≡ is_reading_action name.now)
+    → (method target : List ℕ) (fields : Pairs) (action_target : Result ActionTarget FrontFault)
+    → AsksOf (AnswersAt says) method target fields action_target → AsksOf IsReadingAnswer method target fields action_target
+asks_reading says all method target fields action_target a = (
   a.0,
-  λ name route get. let s = a.1 name route get in all s.0 a.0 s.2 ∙ ap reads s.1,
+  λ name route get. let s = a.1 name route get in all s.0 a.0 s.2 ∙ ap is_reading_action s.1,
   a.2,
 )
 
-wanted_reading : (says : Bor (List ℕ) → Option Bool → Type 0)
-    → ((name : Bor (List ℕ)) (answer : Option Bool) → says name answer → answer ≡ reads name.now)
-    → (text : List ℕ) (mark : RequestHead) (wanted : Result Wanted FrontFault)
-    → IsWanted (AnswersAt says) text mark wanted → IsWanted Reading text mark wanted
-wanted_reading says all text mark wanted (inl w) =
-    inl (w.0, w.1, w.2, w.3, asks_reading says all w.0.method w.0.target (pairs_of w.0) wanted w.4)
-wanted_reading says all text mark wanted (inr w) = inr w
+target_reading : (says : Bor (List ℕ) → Option Bool → Type 0)
+    → ((name : Bor (List ℕ)) (answer : Option Bool) → says name answer → answer ≡ is_reading_action name.now)
+    → (text : List ℕ) (mark : RequestHead) (action_target : Result ActionTarget FrontFault)
+    → IsActionTarget (AnswersAt says) text mark action_target → IsActionTarget IsReadingAnswer text mark action_target
+target_reading says all text mark action_target (inl w) =
+    inl (w.0, w.1, w.2, w.3, asks_reading says all w.0.method w.0.target (pairs_of w.0) action_target w.4)
+target_reading says all text mark action_target (inr w) = inr w
 
 received_reading : (says : Bor (List ℕ) → Option Bool → Type 0)
-    → ((name : Bor (List ℕ)) (answer : Option Bool) → says name answer → answer ≡ reads name.now)
+    → ((name : Bor (List ℕ)) (answer : Option Bool) → says name answer → answer ≡ is_reading_action name.now)
     → (bytes : List ℕ) (result : Result Incoming FrontFault)
-    → IsReceived (AnswersAt says) bytes result → IsReceived Reading bytes result
+    → IsReceived (AnswersAt says) bytes result → IsReceived IsReadingAnswer bytes result
 received_reading says all bytes result (inl r) = inl (record {
   head = r.head;
-  wanted = r.wanted;
+  action_target = r.action_target;
   begins = r.begins;
-  asks = wanted_reading says all (take (extent r.head) bytes) r.head r.wanted r.asks;
+  asks = target_reading says all (take (extent r.head) bytes) r.head r.action_target r.asks;
   gives = r.gives;
 })
 received_reading says all bytes result (inr n) = inr n
@@ -202,12 +202,11 @@ unless_fails (Err front.EndedEarly) f p = f p
 unless_fails (Err front.LinkFault) f p = p
 unless_fails (Err front.OutOfMemory) f p = p
 
--- What is received where names are looked up by such a function, is what is received where they are looked up by
--- `reads`.
+-- What is received with a function that gives the same answers as `is_reading_action` is what is received with it.
 pub receives_reading : (says : Bor (List ℕ) → Option Bool → Type 0)
-    → ((name : Bor (List ℕ)) (answer : Option Bool) → says name answer → answer ≡ reads name.now)
-    → (told : Option (List ℕ)) (result : Result Incoming FrontFault)
-    → IfSome told (λ bytes. UnlessFails result (IsReceived (AnswersAt says) bytes result))
-    → IfSome told (λ bytes. UnlessFails result (IsReceived Reading bytes result))
+    → ((name : Bor (List ℕ)) (answer : Option Bool) → says name answer → answer ≡ is_reading_action name.now)
+    → (observed : Option (List ℕ)) (result : Result Incoming FrontFault)
+    → IfSome observed (λ bytes. UnlessFails result (IsReceived (AnswersAt says) bytes result))
+    → IfSome observed (λ bytes. UnlessFails result (IsReceived IsReadingAnswer bytes result))
 receives_reading says all None result r = r
 receives_reading says all (Some bytes) result r = unless_fails result (received_reading says all bytes result) r

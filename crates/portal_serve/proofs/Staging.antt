@@ -1,4 +1,4 @@
--- Devices that are lent together, and are still the same.
+-- Devices that are borrowed together, and are still the same.
 use Rattle.std.proofs.Common.{◌≡◌, ℕ, List, Option, refl, subst, ◌∙◌}
 use Rattle.portal_base.specs.Outside.{TakesPrefix}
 use Rattle.portal_serve.specs.Stage.{AreSameLoans}
@@ -15,6 +15,6 @@ same_loans_on a b c first second = record {
   nonces = second.nonces ∙ first.nonces;
 }
 
--- what a sink took a beginning of that is as it was before
+-- the prefix that a sink took, where the sink was as before
 pub prefix_from : {a b c : Option (List ℕ)} (piece : List ℕ) → b ≡ a → TakesPrefix b piece c → TakesPrefix a piece c
 prefix_from {c = c} piece same takes = subst (λ t. TakesPrefix t piece c) same takes

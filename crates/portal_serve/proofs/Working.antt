@@ -1,4 +1,4 @@
--- Scripts worked line by line: what the lines so far wrote and left, and one line more.
+-- Scripts processed line by line: what the lines so far wrote and left, and one line more.
 use Rattle.std.proofs.Common.{◌≡◌, ◌≢◌, ◌⊎◌, ℕ, ◌+◌, ◌<◌, ◌≤◌, ℤ, List, [], ◌∷◌, ◌++◌, length, ◌==◌, ltb, cond, true}
 use Rattle.std.proofs.Common.{false}
 use Rattle.std.proofs.Common.{Option, Some, None, Result, Ok, Err, OnOk, OnErr, IfOk, IfErr, refl, sym, ap, subst, ◌∙◌}
@@ -7,7 +7,7 @@ use Rattle.std.specs.Prelude.{filter}
 use Rattle.std.proofs.lemmas.List.Elements.{filter-append}
 use Rattle.portal_base.specs.Outside.{Takes, TakesPrefix, Draws, Rose}
 use Rattle.portal_base.proofs.OutsideLemmas.{Takes-none}
-use Rattle.portal_serve.specs.Played.{Works, WorksLines, BeginsLines, StopsLines, unless_empty}
+use Rattle.portal_serve.specs.Played.{Processes, ProcessesLines, BeginsLines, StopsLines, unless_empty}
 use Rattle.action_api.specs.declared.early.Early.{Early}
 use Rattle.action_api.specs.declared.early.Early.TheVariants.{TooLong, OutOfMemory}
 use Rattle.portal_serve.specs.Script.{ScriptCall, call_of_line, call_of_reading}
@@ -17,63 +17,65 @@ use Rattle.portal_serve.specs.declared.script.TheConstants.{LONGEST_LINE}
 use Rattle.std.proofs.lemmas.Bool.{lt-ltb}
 use Rattle.std.proofs.lemmas.Bool.Decides.{nat_tests}
 use Rattle.portal_core.specs.State.{State}
-use Rattle.portal_serve.specs.Replied.{Replied, replied_for}
-use Rattle.portal_serve.specs.Transcript.{Standing, AreDrawn, asks, draws, turn, turn_of, standing_after, written_for}
-use Rattle.portal_serve.specs.Transcript.{replied_to, reply_line, early_line}
+use Rattle.portal_serve.specs.RequestOutcome.{RequestOutcome, outcome_of_request}
+use Rattle.portal_serve.specs.Transcript.{ScriptState, AreDrawn, asks, draws, turn, turn_of, script_state_after}
+use Rattle.portal_serve.specs.Transcript.{written_for}
+use Rattle.portal_serve.specs.Transcript.{outcome_of_call, reply_line, early_line}
 use Rattle.action_api.specs.Request.{request_for}
 use Rattle.portal_base.specs.declared.caller.Caller.{Caller}
 use Rattle.portal_calls.specs.declared.call.Request.{Request}
 use Rattle.portal_core.specs.Opened.{known_caller}
-use Rattle.portal_core.specs.declared.event.Reply.{Reply}
-use Rattle.portal_serve.specs.Run.{Begins, DrawsAll, standing, Outlet}
-use Rattle.portal_serve.specs.Stopped.{IsOfLine, begun_at}
+use Rattle.portal_calls.specs.declared.event.Reply.{Reply}
+use Rattle.portal_serve.specs.Run.{Begins, DrawsAll, script_state, StageTrace}
+use Rattle.portal_serve.specs.Stopped.{IsOfLine, begun_limit}
 use Rattle.portal_serve.specs.declared.play.Stop.{Stop}
 use Rattle.portal_serve.specs.declared.play.Stop.TheVariants as stop
 
-pub written_for-append : (s : Standing) (ls more : List (List ℕ))
-    → written_for s (ls ++ more) ≡ written_for s ls ++ written_for (standing_after s ls) more
+pub written_for-append : (s : ScriptState) (ls more : List (List ℕ))
+    → written_for s (ls ++ more) ≡ written_for s ls ++ written_for (script_state_after s ls) more
 written_for-append s [] more = refl
 written_for-append s (l ∷ ls) more = ap (λ w. (turn s l).written ++ w) (written_for-append (turn s l).after ls more)
     ∙ sym (append_assoc (turn s l).written _ _)
 
-pub standing_after-append : (s : Standing) (ls more : List (List ℕ))
-    → standing_after s (ls ++ more) ≡ standing_after (standing_after s ls) more
-standing_after-append s [] more = refl
-standing_after-append s (l ∷ ls) more = standing_after-append (turn s l).after ls more
+pub script_state_after-append : (s : ScriptState) (ls more : List (List ℕ))
+    → script_state_after s (ls ++ more) ≡ script_state_after (script_state_after s ls) more
+script_state_after-append s [] more = refl
+script_state_after-append s (l ∷ ls) more = script_state_after-append (turn s l).after ls more
 
 -- ---- what was drawn beyond what the lines draw
 
 -- What is drawn later changes nothing of what the lines write, and is left.
 pub record IsLeft (s : State) (ls : List (List ℕ)) (ms later : List ℤ) (ns others : List ℕ) : Type 0 where
-  pub output : written_for (standing s (ms ++ later) (ns ++ others)) ls ≡ written_for (standing s ms ns) ls
-  pub leaves : standing_after (standing s (ms ++ later) (ns ++ others)) ls
-      ≡ standing (standing_after (standing s ms ns) ls).state later others
+  pub output : written_for (script_state s (ms ++ later) (ns ++ others)) ls ≡ written_for (script_state s ms ns) ls
+  pub leaves : script_state_after (script_state s (ms ++ later) (ns ++ others)) ls
+      ≡ script_state (script_state_after (script_state s ms ns) ls).state later others
 
 -- the same of a line and more lines, by the call that the line asks for
-record IsLeftBy (said : Result ScriptCall Early) (size : ℕ) (s : State) (ls : List (List ℕ)) (ms later : List ℤ)
+record IsLeftBy (call : Result ScriptCall Early) (size : ℕ) (s : State) (ls : List (List ℕ)) (ms later : List ℤ)
     (ns others : List ℕ) : Type 0 where
-  output : (turn_of (standing s (ms ++ later) (ns ++ others)) said size).written
-      ++ written_for (turn_of (standing s (ms ++ later) (ns ++ others)) said size).after ls
-      ≡ (turn_of (standing s ms ns) said size).written ++ written_for (turn_of (standing s ms ns) said size).after ls
-  leaves : standing_after (turn_of (standing s (ms ++ later) (ns ++ others)) said size).after ls
-      ≡ standing (standing_after (turn_of (standing s ms ns) said size).after ls).state later others
+  output : (turn_of (script_state s (ms ++ later) (ns ++ others)) call size).written
+      ++ written_for (turn_of (script_state s (ms ++ later) (ns ++ others)) call size).after ls
+      ≡ (turn_of (script_state s ms ns) call size).written ++ written_for
+      (turn_of (script_state s ms ns) call size).after ls
+  leaves : script_state_after (turn_of (script_state s (ms ++ later) (ns ++ others)) call size).after ls
+      ≡ script_state (script_state_after (turn_of (script_state s ms ns) call size).after ls).state later others
 
 left_by : (line : List ℕ) (ls : List (List ℕ))
     → ((s : State) (ms later : List ℤ) (ns others : List ℕ) → AreDrawn ls ms → AreDrawn ls ns
     → IsLeft s ls ms later ns others)
-    → (said : Result ScriptCall Early) (size : ℕ) (s : State) (ms later : List ℤ) (ns others : List ℕ)
-    → length ms ≡ length (cond (asks said) (line ∷ filter draws ls) (filter draws ls))
-    → length ns ≡ length (cond (asks said) (line ∷ filter draws ls) (filter draws ls))
-    → IsLeftBy said size s ls ms later ns others
+    → (call : Result ScriptCall Early) (size : ℕ) (s : State) (ms later : List ℤ) (ns others : List ℕ)
+    → length ms ≡ length (cond (asks call) (line ∷ filter draws ls) (filter draws ls))
+    → length ns ≡ length (cond (asks call) (line ∷ filter draws ls) (filter draws ls))
+    → IsLeftBy call size s ls ms later ns others
 left_by line ls rest (Err early) size s ms later ns others m n =
     let r = rest s ms later ns others m n in
     record { output = ap (λ w. early_line early ++ w) r.output; leaves = r.leaves }
-left_by line ls rest (Ok said) size s [] later ns others m n = absurd (omega (arith, m))
-left_by line ls rest (Ok said) size s (a ∷ ms) later [] others m n = absurd (omega (arith, n))
-left_by line ls rest (Ok said) size s (a ∷ ms) later (b ∷ ns) others m n =
-    let t : Replied = replied_to s said size a b in
+left_by line ls rest (Ok call) size s [] later ns others m n = absurd (omega (arith, m))
+left_by line ls rest (Ok call) size s (a ∷ ms) later [] others m n = absurd (omega (arith, n))
+left_by line ls rest (Ok call) size s (a ∷ ms) later (b ∷ ns) others m n =
+    let t : RequestOutcome = outcome_of_call s call size a b in
     let r = rest t.state ms later ns others (omega (arith, m)) (omega (arith, n)) in
-    record { output = ap (λ w. reply_line (Some said.action) t.reply ++ w) r.output; leaves = r.leaves }
+    record { output = ap (λ w. reply_line (Some call.action) t.reply ++ w) r.output; leaves = r.leaves }
 
 pub is_left : (ls : List (List ℕ)) (s : State) (ms later : List ℤ) (ns others : List ℕ) → AreDrawn ls ms
     → AreDrawn ls ns → IsLeft s ls ms later ns others
@@ -84,7 +86,7 @@ is_left (l ∷ ls) s ms later ns others m n =
     let r = left_by l ls (is_left ls) (call_of_line l) (length l) s ms later ns others m n in
     record { output = r.output; leaves = r.leaves }
 
--- ---- lines that were worked, and more lines
+-- ---- lines that were processed, and more lines
 
 pub AreDrawn-append : {X : Type 0} (ls more : List (List ℕ)) (xs ys : List X) → AreDrawn ls xs → AreDrawn more ys
     → AreDrawn (ls ++ more) (xs ++ ys)
@@ -95,45 +97,48 @@ AreDrawn-append ls more xs ys first second =
     omega (arith, front, lines, first, second)
 
 -- no line writes nothing
-pub works_none : (s : State) → Works s [] [] [] [] s
-works_none s = record { moments_drawn = refl; nonces_drawn = refl; output = refl; leaves = refl }
+pub processes_none : (s : State) → Processes s [] [] [] [] s
+processes_none s = record { moments_drawn = refl; nonces_drawn = refl; output = refl; leaves = refl }
 
 -- what lines wrote, where more was drawn for more lines
-pub works_wrote : (s t : State) (ls : List (List ℕ)) (ms later : List ℤ) (ns others written : List ℕ)
-    → Works s ls ms ns written t
-    → written_for (standing s (ms ++ later) (ns ++ others)) ls ≡ written
-works_wrote s t ls ms later ns others written w =
+pub processes_wrote : (s t : State) (ls : List (List ℕ)) (ms later : List ℤ) (ns others written : List ℕ)
+    → Processes s ls ms ns written t
+    → written_for (script_state s (ms ++ later) (ns ++ others)) ls ≡ written
+processes_wrote s t ls ms later ns others written w =
     (is_left ls s ms later ns others w.moments_drawn w.nonces_drawn).output ∙ w.output
 
--- where they left the script
-pub works_left : (s t : State) (ls : List (List ℕ)) (ms later : List ℤ) (ns others written : List ℕ)
-    → Works s ls ms ns written t
-    → standing_after (standing s (ms ++ later) (ns ++ others)) ls ≡ standing t later others
-works_left s t ls ms later ns others written w =
-    (is_left ls s ms later ns others w.moments_drawn w.nonces_drawn).leaves ∙ ap (λ u. standing u later others) w.leaves
+-- the state of playing after them
+pub processes_left : (s t : State) (ls : List (List ℕ)) (ms later : List ℤ) (ns others written : List ℕ)
+    → Processes s ls ms ns written t
+    → script_state_after (script_state s (ms ++ later) (ns ++ others)) ls ≡ script_state t later others
+processes_left s t ls ms later ns others written w =
+    (is_left ls s ms later ns others w.moments_drawn w.nonces_drawn).leaves
+    ∙ ap (λ u. script_state u later others) w.leaves
 
 -- what they and more lines write
-pub works_then : (s t : State) (ls more : List (List ℕ)) (ms later : List ℤ) (ns others written : List ℕ)
-    → Works s ls ms ns written t
-    → written_for (standing s (ms ++ later) (ns ++ others)) (ls ++ more) ≡ written
-    ++ written_for (standing t later others) more
-works_then s t ls more ms later ns others written w =
-    written_for-append (standing s (ms ++ later) (ns ++ others)) ls more
-    ∙ ap (λ x. x ++ written_for (standing_after (standing s (ms ++ later) (ns ++ others)) ls) more)
-    (works_wrote s t ls ms later ns others written w)
-    ∙ ap (λ (z : Standing). written ++ written_for z more) (works_left s t ls ms later ns others written w)
+pub processes_then : (s t : State) (ls more : List (List ℕ)) (ms later : List ℤ) (ns others written : List ℕ)
+    → Processes s ls ms ns written t
+    → written_for (script_state s (ms ++ later) (ns ++ others)) (ls ++ more) ≡ written
+    ++ written_for (script_state t later others) more
+processes_then s t ls more ms later ns others written w =
+    written_for-append (script_state s (ms ++ later) (ns ++ others)) ls more
+    ∙ ap (λ x. x ++ written_for (script_state_after (script_state s (ms ++ later) (ns ++ others)) ls) more)
+    (processes_wrote s t ls ms later ns others written w)
+    ∙ ap (λ (z : ScriptState). written ++ written_for z more) (processes_left s t ls ms later ns others written w)
 
 -- one script after another
-pub works_more : (s t u : State) (ls more : List (List ℕ)) (ms more_ms : List ℤ) (ns more_ns out more_out : List ℕ)
-    → Works s ls ms ns out t → Works t more more_ms more_ns more_out u
-    → Works s (ls ++ more) (ms ++ more_ms) (ns ++ more_ns) (out ++ more_out) u
-works_more s t u ls more ms more_ms ns more_ns out more_out first second = record {
+pub processes_more : (s t u : State) (ls more : List (List ℕ)) (ms more_ms : List ℤ) (ns more_ns out more_out : List ℕ)
+    → Processes s ls ms ns out t → Processes t more more_ms more_ns more_out u
+    → Processes s (ls ++ more) (ms ++ more_ms) (ns ++ more_ns) (out ++ more_out) u
+processes_more s t u ls more ms more_ms ns more_ns out more_out first second = record {
   moments_drawn = AreDrawn-append ls more ms more_ms first.moments_drawn second.moments_drawn;
   nonces_drawn = AreDrawn-append ls more ns more_ns first.nonces_drawn second.nonces_drawn;
-  output = works_then s t ls more ms more_ms ns more_ns out first ∙ ap (λ w. out ++ w) second.output;
+  output = processes_then s t ls more ms more_ms ns more_ns out first ∙ ap (λ w. out ++ w) second.output;
   leaves =
-      ap (λ (z : Standing). z.state) (standing_after-append (standing s (ms ++ more_ms) (ns ++ more_ns)) ls more)
-      ∙ ap (λ (z : Standing). (standing_after z more).state) (works_left s t ls ms more_ms ns more_ns out first)
+      ap (λ (z : ScriptState). z.state) (script_state_after-append (script_state s (ms ++ more_ms) (ns ++ more_ns)) ls
+      more)
+      ∙ ap (λ (z : ScriptState). (script_state_after z more).state)
+      (processes_left s t ls ms more_ms ns more_ns out first)
       ∙ second.leaves;
 }
 
@@ -165,28 +170,29 @@ DrawsAll-once a b c x h e = subst (λ o. DrawsAll a (x ∷ []) o) (sym e) (Draws
 -- ---- one line
 
 -- a line that asks for no call
-pub works_early : (state : State) (line : List ℕ) (early : Early) → call_of_line line ≡ Err early
-    → Works state (line ∷ []) [] [] (early_line early) state
-works_early state line early is = record {
+pub processes_early : (state : State) (line : List ℕ) (early : Early) → call_of_line line ≡ Err early
+    → Processes state (line ∷ []) [] [] (early_line early) state
+processes_early state line early is = record {
   moments_drawn = draws_none;
   nonces_drawn = draws_none;
-  output = ap (λ o. (turn_of (standing state [] []) o (length line)).written ++ []) is ∙ append-nil (early_line early);
-  leaves = ap (λ o. (turn_of (standing state [] []) o (length line)).after.state) is;
+  output = ap (λ o. (turn_of (script_state state [] []) o (length line)).written ++ []) is
+      ∙ append-nil (early_line early);
+  leaves = ap (λ o. (turn_of (script_state state [] []) o (length line)).after.state) is;
 }
   where
     draws_none : 0 ≡ length (filter draws (line ∷ []))
     draws_none = sym (ap (λ o. length (cond (asks o) (line ∷ []) [])) is)
 
 -- a line that asks for a call
-pub works_call : (state : State) (line : List ℕ) (said : ScriptCall) (m : ℤ) (n : ℕ) → call_of_line line ≡ Ok said
-    → Works state (line ∷ []) (m ∷ []) (n ∷ [])
-    (reply_line (Some said.action) (replied_to state said (length line) m n).reply)
-    (replied_to state said (length line) m n).state
-works_call state line said m n is = record {
+pub processes_call : (state : State) (line : List ℕ) (call : ScriptCall) (m : ℤ) (n : ℕ) → call_of_line line ≡ Ok call
+    → Processes state (line ∷ []) (m ∷ []) (n ∷ [])
+    (reply_line (Some call.action) (outcome_of_call state call (length line) m n).reply)
+    (outcome_of_call state call (length line) m n).state
+processes_call state line call m n is = record {
   moments_drawn = draws_one;
   nonces_drawn = draws_one;
-  output = ap (λ o. (turn_of (standing state (m ∷ []) (n ∷ [])) o (length line)).written ++ []) is ∙ append-nil _;
-  leaves = ap (λ o. (turn_of (standing state (m ∷ []) (n ∷ [])) o (length line)).after.state) is;
+  output = ap (λ o. (turn_of (script_state state (m ∷ []) (n ∷ [])) o (length line)).written ++ []) is ∙ append-nil _;
+  leaves = ap (λ o. (turn_of (script_state state (m ∷ []) (n ∷ [])) o (length line)).after.state) is;
 }
   where
     draws_one : 1 ≡ length (filter draws (line ∷ []))
@@ -195,31 +201,31 @@ works_call state line said m n is = record {
 pub begins_nothing : (whole : List ℕ) → Begins [] whole
 begins_nothing whole = (whole, refl)
 
--- what was taken from the front of a piece begins it
+-- what was taken from the front of a piece is a prefix of it
 pub begins_take : (count : ℕ) (piece : List ℕ) → Begins (take count piece) piece
 begins_take count piece = (drop count piece, take-append-drop count piece)
 
--- what is replied to the call of a line, whose caller and request were made first
-pub replied_known : (state : State) (said : ScriptCall) (size : ℕ) (m : ℤ) (n : ℕ) (request : Result Request Early)
+-- the reply to the call of a line, whose caller and request were read first
+pub outcome_known : (state : State) (call : ScriptCall) (size : ℕ) (m : ℤ) (n : ℕ) (request : Result Request Early)
     (who : Caller) (reply : Result Reply Early)
-    → request ≡ request_for said.action said.body → who ≡ known_caller state.people said.caller
-    → reply ≡ (replied_for state who size m n request).reply
-    → reply ≡ (replied_to state said size m n).reply
-replied_known state said size m n request who reply is known replied =
-    replied ∙ ap (λ r. (replied_for state who size m n r).reply) is
-    ∙ ap (λ w. (replied_for state w size m n (request_for said.action said.body)).reply) known
+    → request ≡ request_for call.action call.body → who ≡ known_caller state.people call.caller
+    → reply ≡ (outcome_of_request state who size m n request).reply
+    → reply ≡ (outcome_of_call state call size m n).reply
+outcome_known state call size m n request who reply is known outcome =
+    outcome ∙ ap (λ r. (outcome_of_request state who size m n r).reply) is
+    ∙ ap (λ w. (outcome_of_request state w size m n (request_for call.action call.body)).reply) known
 
 -- the state after it
-pub left_known : (state after : State) (said : ScriptCall) (size : ℕ) (m : ℤ) (n : ℕ) (request : Result Request Early)
+pub left_known : (state after : State) (call : ScriptCall) (size : ℕ) (m : ℤ) (n : ℕ) (request : Result Request Early)
     (who : Caller)
-    → request ≡ request_for said.action said.body → who ≡ known_caller state.people said.caller
-    → after ≡ (replied_for state who size m n request).state
-    → after ≡ (replied_to state said size m n).state
-left_known state after said size m n request who is known left =
-    left ∙ ap (λ r. (replied_for state who size m n r).state) is
-    ∙ ap (λ w. (replied_for state w size m n (request_for said.action said.body)).state) known
+    → request ≡ request_for call.action call.body → who ≡ known_caller state.people call.caller
+    → after ≡ (outcome_of_request state who size m n request).state
+    → after ≡ (outcome_of_call state call size m n).state
+left_known state after call size m n request who is known left =
+    left ∙ ap (λ r. (outcome_of_request state who size m n r).state) is
+    ∙ ap (λ w. (outcome_of_request state w size m n (request_for call.action call.body)).state) known
 
--- a request that was made, or a fault other than want of memory, is that of the name and the body
+-- a request that was read, or a fault other than out of memory, is that of the name and the body
 pub request_made : (name : List ℕ) (body : Json) (request : Result Request Early)
     → IfOk request (λ r. request_for name body ≡ Ok r)
     → IfErr request (λ e. (e ≡ OutOfMemory) ⊎ (request_for name body ≡ Err e))
@@ -228,76 +234,86 @@ request_made name body (Ok r) value fault known = sym value
 request_made name body (Err e) value (inl wanting) known = absurd (known (ap (λ f. Err f) wanting))
 request_made name body (Err e) value (inr is) known = sym is
 
--- what is replied where a call didn't want memory
-pub replied_in : {E : Type 0} (state : State) (said : ScriptCall) (size : ℕ) (m : ℤ) (n : ℕ)
+-- the reply of a call where memory didn't run out
+pub outcome_in : {E : Type 0} (state : State) (call : ScriptCall) (size : ℕ) (m : ℤ) (n : ℕ)
     (request : Result Request Early) (who : Caller) (result : Result (Result Reply Early) E)
-    → IfOk request (λ r. request_for said.action said.body ≡ Ok r)
-    → IfErr request (λ e. (e ≡ OutOfMemory) ⊎ (request_for said.action said.body ≡ Err e))
-    → who ≡ known_caller state.people said.caller
-    → IfOk result (λ reply. reply ≡ (replied_for state who size m n request).reply)
+    → IfOk request (λ r. request_for call.action call.body ≡ Ok r)
+    → IfErr request (λ e. (e ≡ OutOfMemory) ⊎ (request_for call.action call.body ≡ Err e))
+    → who ≡ known_caller state.people call.caller
+    → IfOk result (λ reply. reply ≡ (outcome_of_request state who size m n request).reply)
     → OnOk result (request ≢ Err OutOfMemory)
-    → IfOk result (λ reply. reply ≡ (replied_to state said size m n).reply)
-replied_in state said size m n request who (Ok reply) value fault is replied known =
-    replied_known state said size m n request who reply
-    (request_made said.action said.body request value fault known) is replied
-replied_in state said size m n request who (Err e) value fault is replied known = tt
+    → IfOk result (λ reply. reply ≡ (outcome_of_call state call size m n).reply)
+outcome_in state call size m n request who (Ok reply) value fault is outcome known =
+    outcome_known state call size m n request who reply
+    (request_made call.action call.body request value fault known) is outcome
+outcome_in state call size m n request who (Err e) value fault is outcome known = tt
 
 -- the state after it
-pub left_in : {E : Type 0} (state after : State) (said : ScriptCall) (size : ℕ) (m : ℤ) (n : ℕ)
+pub left_in : {E : Type 0} (state after : State) (call : ScriptCall) (size : ℕ) (m : ℤ) (n : ℕ)
     (request : Result Request Early) (who : Caller) (result : Result (Result Reply Early) E)
-    → IfOk request (λ r. request_for said.action said.body ≡ Ok r)
-    → IfErr request (λ e. (e ≡ OutOfMemory) ⊎ (request_for said.action said.body ≡ Err e))
-    → who ≡ known_caller state.people said.caller
-    → OnOk result (after ≡ (replied_for state who size m n request).state)
+    → IfOk request (λ r. request_for call.action call.body ≡ Ok r)
+    → IfErr request (λ e. (e ≡ OutOfMemory) ⊎ (request_for call.action call.body ≡ Err e))
+    → who ≡ known_caller state.people call.caller
+    → OnOk result (after ≡ (outcome_of_request state who size m n request).state)
     → OnOk result (request ≢ Err OutOfMemory)
-    → OnOk result (after ≡ (replied_to state said size m n).state)
-left_in state after said size m n request who (Ok reply) value fault is left known =
-    left_known state after said size m n request who (request_made said.action said.body request value fault known) is
+    → OnOk result (after ≡ (outcome_of_call state call size m n).state)
+left_in state after call size m n request who (Ok reply) value fault is left known =
+    left_known state after call size m n request who (request_made call.action call.body request value fault known) is
     left
-left_in state after said size m n request who (Err e) value fault is left known = tt
+left_in state after call size m n request who (Err e) value fault is left known = tt
 
--- what is replied to a call whose action was read
-pub replied_as : (state : State) (said : ScriptCall) (size : ℕ) (m : ℤ) (n : ℕ) (action : List ℕ)
-    → action ≡ said.action
-    → replied_to state (record { caller = said.caller; action = action; body = said.body }) size m n
-    ≡ replied_to state said size m n
-replied_as state said size m n action is =
-    ap (λ a. replied_to state (record { caller = said.caller; action = a; body = said.body }) size m n) is
+-- the outcome of a call whose action was read
+pub outcome_as : (state : State) (call : ScriptCall) (size : ℕ) (m : ℤ) (n : ℕ) (action : List ℕ)
+    → action ≡ call.action
+    → outcome_of_call state (record { caller = call.caller; action = action; body = call.body }) size m n
+    ≡ outcome_of_call state call size m n
+outcome_as state call size m n action is =
+    ap (λ a. outcome_of_call state (record { caller = call.caller; action = a; body = call.body }) size m n) is
 
--- the line of what is replied to a call whose action was read twice
-pub line_written : (state : State) (said : ScriptCall) (size : ℕ) (m : ℤ) (n : ℕ) (first second : List ℕ)
+-- the line for a call whose action was read twice
+pub line_written : (state : State) (call : ScriptCall) (size : ℕ) (m : ℤ) (n : ℕ) (first second : List ℕ)
     (reply : Result Reply Early) (line : List ℕ)
-    → first ≡ said.action → second ≡ said.action
+    → first ≡ call.action → second ≡ call.action
     → reply ≡
-    (replied_to state (record { caller = said.caller; action = first; body = said.body }) size m n).reply
+    (outcome_of_call state (record { caller = call.caller; action = first; body = call.body }) size m n).reply
     → line ≡ reply_line (Some second) reply
-    → line ≡ reply_line (Some said.action) (replied_to state said size m n).reply
-line_written state said size m n first second reply line one two replied wrote =
+    → line ≡ reply_line (Some call.action) (outcome_of_call state call size m n).reply
+line_written state call size m n first second reply line one two outcome wrote =
     wrote ∙ ap (λ a. reply_line (Some a) reply) two
-    ∙ ap (λ r. reply_line (Some said.action) r)
-    (replied ∙ ap (λ (r : Replied). r.reply) (replied_as state said size m n first one))
+    ∙ ap (λ r. reply_line (Some call.action) r)
+    (outcome ∙ ap (λ (r : RequestOutcome). r.reply) (outcome_as state call size m n first one))
 
 -- what the call of a line writes and leaves
-pub call_written : (state after : State) (line : List ℕ) (said : ScriptCall) (m : ℤ) (n : ℕ) (text : List ℕ)
-    → call_of_line line ≡ Ok said
-    → text ≡ reply_line (Some said.action) (replied_to state said (length line) m n).reply
-    → after ≡ (replied_to state said (length line) m n).state
-    → Works state (line ∷ []) (m ∷ []) (n ∷ []) text after
-call_written state after line said m n text is wrote left = rw (wrote, left) (works_call state line said m n is)
+pub call_written : (state after : State) (line : List ℕ) (call : ScriptCall) (m : ℤ) (n : ℕ) (text : List ℕ)
+    → call_of_line line ≡ Ok call
+    → text ≡ reply_line (Some call.action) (outcome_of_call state call (length line) m n).reply
+    → after ≡ (outcome_of_call state call (length line) m n).state
+    → Processes state (line ∷ []) (m ∷ []) (n ∷ []) text after
+call_written state after line call m n text is wrote left = rw (wrote, left) (processes_call state line call m n is)
 
 -- ---- the lines of a part of a run
 
--- the lines were worked
-pub works_lines : (state after : State) (script : List (List ℕ)) (ms : List ℤ) (ns text : List ℕ) (old new : Outlet)
-    → Works state script ms ns text after → DrawsAll old.moments ms new.moments → DrawsAll old.nonces ns new.nonces
-    → Takes old.taken text new.taken → WorksLines state script after old new
-works_lines state after script ms ns text old new w clock numbers takes =
-    record { written = text; moments = ms; nonces = ns; works = w; output = takes; clock = clock; numbers = numbers }
+-- the lines were processed
+pub processes_lines : (state after : State) (script : List (List ℕ)) (ms : List ℤ) (ns text : List ℕ)
+    (old new : StageTrace)
+    → Processes state script ms ns text after → DrawsAll old.moments ms new.moments → DrawsAll old.nonces ns new.nonces
+    → Takes old.taken text new.taken → ProcessesLines state script after old new
+processes_lines state after script ms ns text old new w clock numbers takes =
+    record {
+      written = text;
+      moments = ms;
+      nonces = ns;
+      processes = w;
+      output = takes;
+      clock = clock;
+      numbers =
+          numbers;
+    }
 
--- work stopped while it wrote
+-- processing stopped while it wrote
 pub stops_in_writing : (state after : State) (script : List (List ℕ)) (ms : List ℤ) (ns text : List ℕ)
-    (old new : Outlet)
-    → Works state script ms ns text after → DrawsAll old.moments ms new.moments → DrawsAll old.nonces ns new.nonces
+    (old new : StageTrace)
+    → Processes state script ms ns text after → DrawsAll old.moments ms new.moments → DrawsAll old.nonces ns new.nonces
     → TakesPrefix old.taken text new.taken → StopsLines state script after old new
 stops_in_writing state after script ms ns text old new w clock numbers part = inr (record {
   written = take part.0 text;
@@ -313,7 +329,7 @@ stops_in_writing state after script ms ns text old new w clock numbers part = in
 })
 
 -- nothing was begun
-pub begins_no_line : (state : State) (old new : Outlet) → new ≡ old → BeginsLines state [] state old new
+pub begins_no_line : (state : State) (old new : StageTrace) → new ≡ old → BeginsLines state [] state old new
 begins_no_line state old new same = subst (λ o. BeginsLines state [] state old o) (sym same) (record {
   written = [];
   moments = [];
@@ -327,12 +343,12 @@ begins_no_line state old new same = subst (λ o. BeginsLines state [] state old 
   numbers = DrawsAll-none old.nonces;
 })
 
--- work stopped before the lines were begun
-pub stops_before : (state : State) (script : List (List ℕ)) (old : Outlet) → StopsLines state script state old old
+-- processing stopped before the lines were begun
+pub stops_before : (state : State) (script : List (List ℕ)) (old : StageTrace) → StopsLines state script state old old
 stops_before state script old = inl (begins_no_line state old old refl)
 
--- work on a line stops after the line was begun
-pub begun_in_line : (why : Stop) → IsOfLine why → 1 ≤ begun_at why
+-- processing a line stops after the line was begun
+pub begun_in_line : (why : Stop) → IsOfLine why → 1 ≤ begun_limit why
 begun_in_line stop.ReadFault of_line = absurd of_line
 begun_in_line stop.WriteFault of_line = omega arith
 begun_in_line stop.TooLong of_line = absurd of_line
@@ -341,10 +357,6 @@ begun_in_line stop.OutOfMemory of_line = omega arith
 pub on_err_always : {T E P : Type 0} (r : Result T E) → P → OnErr r P
 on_err_always (Ok x) p = tt
 on_err_always (Err e) p = p
-
-pub if_err_always : {T E : Type 0} {P : E → Type 0} (r : Result T E) → ((e : E) → P e) → IfErr r P
-if_err_always (Ok x) h = tt
-if_err_always (Err e) h = h e
 
 -- ---- lines that are empty or too long
 
@@ -358,29 +370,29 @@ unless_empty-nil line e =
 unless_empty-more : (line : List ℕ) → 0 < length line → unless_empty line ≡ line ∷ []
 unless_empty-more line some = ap (λ b. cond b (line ∷ []) []) (lt-ltb 0 (length line) some)
 
--- Nothing is worked where no line is.
-pub works_no_line : (state : State) (script : List (List ℕ)) (old : Outlet) → script ≡ []
-    → WorksLines state script state old old
-works_no_line state script old none =
-    subst (λ ls. WorksLines state ls state old old) (sym none)
-    (works_lines state state [] [] [] [] old old (works_none state) (DrawsAll-none old.moments)
+-- Nothing is processed where there is no line.
+pub processes_no_line : (state : State) (script : List (List ℕ)) (old : StageTrace) → script ≡ []
+    → ProcessesLines state script state old old
+processes_no_line state script old none =
+    subst (λ ls. ProcessesLines state ls state old old) (sym none)
+    (processes_lines state state [] [] [] [] old old (processes_none state) (DrawsAll-none old.moments)
     (DrawsAll-none old.nonces) (Takes-none old.taken))
 
 -- a line that is too long asks for no call
-pub works_too_long : (state : State) (line : List ℕ) → LONGEST_LINE < length line
-    → Works state (unless_empty line) [] [] (early_line TooLong) state
-works_too_long state line long =
+pub processes_too_long : (state : State) (line : List ℕ) → LONGEST_LINE < length line
+    → Processes state (unless_empty line) [] [] (early_line TooLong) state
+processes_too_long state line long =
     let is : call_of_line line ≡ Err TooLong =
     ap (λ b. cond b (Err TooLong) (call_of_reading (json_reading line))) (lt-ltb LONGEST_LINE (length line) long) in
-    subst (λ ls. Works state ls [] [] (early_line TooLong) state) (sym (unless_empty-more line (omega arith)))
-    (works_early state line TooLong is)
+    subst (λ ls. Processes state ls [] [] (early_line TooLong) state) (sym (unless_empty-more line (omega arith)))
+    (processes_early state line TooLong is)
 
--- what begins a piece, where nothing was taken
+-- the prefix of a piece that was taken, where nothing was
 pub takes_no_prefix : (taken : Option (List ℕ)) (piece : List ℕ) → TakesPrefix taken piece taken
 takes_no_prefix taken piece = (0, omega arith, Takes-none taken)
 
 -- the same line under another name
-pub stops_same_line : (state after : State) (l m : List ℕ) (old new : Outlet) → l ≡ m
+pub stops_same_line : (state after : State) (l m : List ℕ) (old new : StageTrace) → l ≡ m
     → StopsLines state (unless_empty l) after old new → StopsLines state (unless_empty m) after old new
 stops_same_line state after l m old new e s = subst (λ x. StopsLines state (unless_empty x) after old new) e s
 

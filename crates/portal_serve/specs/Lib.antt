@@ -1,13 +1,13 @@
 pub mod Calls
 pub mod Desk
 pub mod Played
-pub mod Replied
+pub mod RequestOutcome
 pub mod Run
 pub mod Script
-pub mod Seen
+pub mod Values
 pub mod Served
 pub mod Stage
-pub mod Stated
+pub mod Defaults
 pub mod Stopped
 pub mod Tokens
 pub mod Transcript

@@ -21,7 +21,7 @@ is_nonempty line = nat_lt 0 (length line)
 abbrev pub script_lines : List ℕ → List (List ℕ)
 script_lines bytes = filter is_nonempty (lines bytes)
 
--- The call that a line asks for, before it is known who the user is and whether an action has the name.
+-- The call that a line asks for, before its user and its action are looked up.
 pub record ScriptCall : Type 0 where
   pub caller : Caller
   pub action : List ℕ
@@ -31,7 +31,7 @@ pub record ScriptCall : Type 0 where
 abbrev pub action_in : Json → Option (List ℕ)
 action_in json = option_and_then text_in (member_of (codes "action") json)
 
--- nobody where the value is absent, the user of that name where it is a text
+-- the anonymous caller where the value is absent, the user of that name where it is a text
 abbrev pub caller_of : Option Json → Option Caller
 caller_of None = Some Anonymous
 caller_of (Some json) = option_map Named (text_in json)
@@ -42,23 +42,24 @@ body_in None = Ok (Map [])
 body_in (Some json) = if_dictionary json
 
 -- the call of a caller for an action with a body, where the body is one
-abbrev pub asked_with : List ℕ → Caller → Result Json Early → Result ScriptCall Early
-asked_with action caller (Ok body) = Ok (record { caller = caller; action = action; body = body })
-asked_with action caller (Err early) = Err early
+abbrev pub script_call_with_body : List ℕ → Caller → Result Json Early → Result ScriptCall Early
+script_call_with_body action caller (Ok body) = Ok (record { caller = caller; action = action; body = body })
+script_call_with_body action caller (Err early) = Err early
 
-abbrev pub asked_by : List ℕ → Option Caller → Result Json Early → Result ScriptCall Early
-asked_by action None body = Err NotJson
-asked_by action (Some caller) body = asked_with action caller body
+abbrev pub script_call_with_caller : List ℕ → Option Caller → Result Json Early → Result ScriptCall Early
+script_call_with_caller action None body = Err NotJson
+script_call_with_caller action (Some caller) body = script_call_with_body action caller body
 
-abbrev pub asked_to : Option (List ℕ) → Option Caller → Result Json Early → Result ScriptCall Early
-asked_to None caller body = Err NotJson
-asked_to (Some action) caller body = asked_by action caller body
+abbrev pub script_call_with_action : Option (List ℕ) → Option Caller → Result Json Early → Result ScriptCall Early
+script_call_with_action None caller body = Err NotJson
+script_call_with_action (Some action) caller body = script_call_with_caller action caller body
 
 -- The call of a dictionary with a text at `action`, and at `as`, if it is there, and a dictionary at `body`, if it is
 -- there. Its other keys say nothing.
 abbrev pub call_of_json : Json → Result ScriptCall Early
 call_of_json json =
-    asked_to (action_in json) (caller_of (member_of (codes "as") json)) (body_in (member_of (codes "body") json))
+    script_call_with_action (action_in json) (caller_of (member_of (codes "as") json))
+    (body_in (member_of (codes "body") json))
 
 abbrev pub call_of_reading : Result Json JsonFault → Result ScriptCall Early
 call_of_reading (Ok json) = call_of_json json

@@ -1,4 +1,4 @@
--- Who calls with a token: the first user whose digest is the token's SHA-256 (FIPS 180-4, section 6.2), written in 64
+-- The caller with a token: the first user whose digest is the token's SHA-256 (FIPS 180-4, section 6.2), written in 64
 -- lower-case hexadecimal digits.
 use Rattle.std.specs.Prelude.{ℕ, List, Option, Some, None, option_map}
 use Rattle.std.specs.List.{find}
@@ -19,12 +19,12 @@ digest_of token = encode_lower (sha256 token)
 abbrev pub user_of : List ℕ → Digests → Option (List ℕ)
 user_of digest digests = option_map (λ pair. pair.0) (find (λ pair. bytes_eq pair.1 digest) digests)
 
--- nobody, or the user of that name
+-- the user of that name, else the anonymous caller
 abbrev pub named : Option (List ℕ) → Caller
 named None = Anonymous
 named (Some user) = Named user
 
--- Who calls with the token. Nobody, where there is none or no user has its digest.
+-- The caller with the token: anonymous where there is none or no user has its digest.
 abbrev pub caller_of_token : Digests → Option (List ℕ) → Caller
 caller_of_token digests None = Anonymous
 caller_of_token digests (Some token) = named (user_of (digest_of token) digests)

@@ -1,21 +1,21 @@
--- The transcript of a script: what is written for its lines, worked in order from a state.
+-- The transcript of a script: what is written for its lines, processed in order from a state.
 use Rattle.std.specs.Prelude.{◌≡◌, ℕ, ℤ, List, [], ◌∷◌, ◌++◌, Bool, true, false, length, filter, Option, Some, None}
 use Rattle.std.specs.Prelude.{Result, Ok, Err, decimal}
 use Rattle.action_api.specs.Reply.{reply_text}
 use Rattle.action_api.specs.Request.{request_for}
 use Rattle.action_api.specs.declared.early.Early.{Early}
 use Rattle.portal_core.specs.Opened.{known_caller}
-use Rattle.portal_serve.specs.Replied.{Replied, replied_for}
+use Rattle.portal_serve.specs.RequestOutcome.{RequestOutcome, outcome_of_request}
 use Rattle.portal_serve.specs.Script.{ScriptCall, call_of_line}
 use Rattle.portal_core.specs.State.{State}
-use Rattle.portal_core.specs.declared.event.Reply.{Reply}
+use Rattle.portal_calls.specs.declared.event.Reply.{Reply}
 
 -- a line asks for a call
 abbrev pub asks : Result ScriptCall Early → Bool
-asks (Ok said) = true
+asks (Ok call) = true
 asks (Err early) = false
 
--- A line that asks for a call draws one moment and one number, whatever its reply, also where no action has the name.
+-- A line that asks for a call draws one moment and one nonce, whatever its reply, also where no action has the name.
 -- No other line draws.
 abbrev pub draws : List ℕ → Bool
 draws line = asks (call_of_line line)
@@ -24,15 +24,15 @@ draws line = asks (call_of_line line)
 abbrev pub AreDrawn : {X : Type 0} → List (List ℕ) → List X → Type 0
 AreDrawn script drawn = length drawn ≡ length (filter draws script)
 
--- Where a script stands: the state, and the moments and numbers that are still to be drawn.
-pub record Standing : Type 0 where
+-- The state of playing a script: the portal's state, and the moments and nonces that are still to be drawn.
+pub record ScriptState : Type 0 where
   pub state : State
   pub moments : List ℤ
   pub nonces : List ℕ
 
--- what one line leaves, and what is written for it
+-- the state of playing after one line, and what is written for the line
 pub record Turn : Type 0 where
-  pub after : Standing
+  pub after : ScriptState
   pub written : List ℕ
 
 -- a line of the transcript: the status, a space, the text, a line feed
@@ -47,47 +47,49 @@ reply_line action reply = line_of (reply_text action reply)
 abbrev pub early_line : Early → List ℕ
 early_line early = reply_line None (Err early)
 
--- what is replied to the call of a line, with the moment and the number that were drawn for it; its size is the line's
+-- the outcome of the call of a line, with the moment and the nonce that were drawn for it; its size is the line's
 -- length
-abbrev pub replied_to : State → ScriptCall → ℕ → ℤ → ℕ → Replied
-replied_to state said size moment nonce =
-    replied_for state (known_caller state.people said.caller) size moment nonce (request_for said.action said.body)
+abbrev pub outcome_of_call : State → ScriptCall → ℕ → ℤ → ℕ → RequestOutcome
+outcome_of_call state call size moment nonce =
+    outcome_of_request state (known_caller state.people call.caller) size moment nonce
+    (request_for call.action call.body)
 
-abbrev pub turn_of_reply : ScriptCall → Replied → List ℤ → List ℕ → Turn
-turn_of_reply said replied moments nonces =
+abbrev pub turn_of_reply : ScriptCall → RequestOutcome → List ℤ → List ℕ → Turn
+turn_of_reply call outcome moments nonces =
     record {
-      after = record { state = replied.state; moments = moments; nonces = nonces };
-      written = reply_line (Some said.action) replied.reply;
+      after = record { state = outcome.state; moments = moments; nonces = nonces };
+      written = reply_line (Some call.action) outcome.reply;
     }
 
--- A call takes the next moment and the next number. Without any left nothing is written, which doesn't come where as
+-- A call takes the next moment and the next nonce. Without any left nothing is written, which doesn't come where as
 -- many were drawn as the script has lines that draw.
 abbrev pub turn_of_call : State → ScriptCall → ℕ → List ℤ → List ℕ → Turn
-turn_of_call state said size [] nonces =
+turn_of_call state call size [] nonces =
     record { after = record { state = state; moments = []; nonces = nonces }; written = [] }
-turn_of_call state said size (m ∷ moments) [] =
+turn_of_call state call size (m ∷ moments) [] =
     record { after = record { state = state; moments = m ∷ moments; nonces = [] }; written = [] }
-turn_of_call state said size (m ∷ moments) (n ∷ nonces) =
-    turn_of_reply said (replied_to state said size m n) moments nonces
+turn_of_call state call size (m ∷ moments) (n ∷ nonces) =
+    turn_of_reply call (outcome_of_call state call size m n) moments nonces
 
 -- a line that asks for no call draws nothing and changes nothing
-abbrev pub turn_of : Standing → Result ScriptCall Early → ℕ → Turn
-turn_of standing (Err early) size = record { after = standing; written = early_line early }
-turn_of standing (Ok said) size = turn_of_call standing.state said size standing.moments standing.nonces
+abbrev pub turn_of : ScriptState → Result ScriptCall Early → ℕ → Turn
+turn_of script_state (Err early) size = record { after = script_state; written = early_line early }
+turn_of script_state (Ok call) size = turn_of_call script_state.state call size script_state.moments script_state.nonces
 
-abbrev pub turn : Standing → List ℕ → Turn
-turn standing line = turn_of standing (call_of_line line) (length line)
+abbrev pub turn : ScriptState → List ℕ → Turn
+turn script_state line = turn_of script_state (call_of_line line) (length line)
 
--- where the script stands after these lines
-abbrev pub standing_after : Standing → List (List ℕ) → Standing
-standing_after standing [] = standing
-standing_after standing (line ∷ lines) = standing_after (turn standing line).after lines
+-- the state of playing after these lines
+abbrev pub script_state_after : ScriptState → List (List ℕ) → ScriptState
+script_state_after script_state [] = script_state
+script_state_after script_state (line ∷ lines) = script_state_after (turn script_state line).after lines
 
 -- what is written for these lines
-abbrev pub written_for : Standing → List (List ℕ) → List ℕ
-written_for standing [] = []
-written_for standing (line ∷ lines) = (turn standing line).written ++ written_for (turn standing line).after lines
+abbrev pub written_for : ScriptState → List (List ℕ) → List ℕ
+written_for script_state [] = []
+written_for script_state (line ∷ lines) = (turn script_state line).written ++ written_for (turn script_state line).after
+    lines
 
--- the state in which these lines end
-abbrev pub state_after : Standing → List (List ℕ) → State
-state_after standing lines = (standing_after standing lines).state
+-- the portal's state after these lines
+abbrev pub state_after : ScriptState → List (List ℕ) → State
+state_after script_state lines = (script_state_after script_state lines).state

@@ -1,18 +1,18 @@
-//! One call of a portal, made with what was drawn for it.
+//! One call of a portal, with its size and the moment and nonce that were drawn for it.
 ghost use Rattle.std.specs.Prelude.{◌≡◌, ◌≢◌, Err, IfOk, OnOk, OnErr};
 ghost use Rattle.portal_core.specs.Step.{call_step};
-ghost use Rattle.portal_serve.specs.Replied.{replied_for};
+ghost use Rattle.portal_serve.specs.RequestOutcome.{outcome_of_request};
 
 use action_api::early::Early;
 use portal_base::caller::Caller;
 use portal_base::moment::Moment;
 use portal_base::nonce::Nonce;
 use portal_calls::call::{Call, Request};
-use portal_core::event::{Event, Refusal, Reply};
+use portal_calls::event::{Event, Refusal, Reply};
 use portal_core::portal::Portal;
 use std::alloc::AllocError;
 
-/// What comes with a call: its size in bytes, and the moment and the number that were drawn for it.
+/// The size of a call in bytes, and the moment and the nonce that were drawn for it.
 #[derive(Drop)]
 pub struct Drawn {
     pub size: u64,
@@ -20,8 +20,8 @@ pub struct Drawn {
     pub nonce: Nonce,
 }
 
-/// Works a call. It fails for want of memory alone, which changes nothing.
-fn act(portal: &mut Portal, call: Call) -> Result<Reply, AllocError>
+/// Makes a call of the portal. It fails only where memory runs out, and then nothing changes.
+fn try_act(portal: &mut Portal, call: Call) -> Result<Reply, AllocError>
     ensures reply { IfOk result (λ reply. reply ≡ (call_step portal.old call).reply) }
     ensures state { OnOk result (portal.new ≡ (call_step portal.old call).state) }
     ensures kept { OnErr result (portal.new ≡ portal.old) }
@@ -32,19 +32,19 @@ fn act(portal: &mut Portal, call: Call) -> Result<Reply, AllocError>
     }
 }
 
-/// What is replied to a caller's request, or to the fault in place of one. It fails for want of memory alone, which
-/// changes nothing.
-pub fn replied(
+/// The reply to a caller's request, or the early fault where there is no request. It fails only where memory runs out,
+/// and then nothing changes.
+pub fn reply_to_request(
     portal: &mut Portal,
     caller: Caller,
     request: Result<Request, Early>,
     drawn: Drawn,
 ) -> Result<Result<Reply, Early>, AllocError>
     ensures reply { IfOk result (λ reply. reply
-        ≡ (replied_for portal.old caller drawn.size drawn.moment drawn.nonce.0 request).reply) }
+        ≡ (outcome_of_request portal.old caller drawn.size drawn.moment drawn.nonce.0 request).reply) }
     ensures state { OnOk result (portal.new
-        ≡ (replied_for portal.old caller drawn.size drawn.moment drawn.nonce.0 request).state) }
-    ensures known { OnOk result (request ≢ Err Early.OutOfMemory) }
+        ≡ (outcome_of_request portal.old caller drawn.size drawn.moment drawn.nonce.0 request).state) }
+    ensures memory { OnOk result (request ≢ Err Early.OutOfMemory) }
     ensures kept { OnErr result (portal.new ≡ portal.old) }
 {
     let request = match request {
@@ -57,7 +57,7 @@ pub fn replied(
         moment,
         nonce,
     } = drawn;
-    let reply = act(
+    let reply = try_act(
         portal,
         Call {
             caller,

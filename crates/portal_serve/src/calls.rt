@@ -1,33 +1,33 @@
-//! Calls on a stage: each draws its moment and number, is worked on the portal, and writes its reply's line.
+//! Calls on a stage: each draws its moment and nonce, is made on the portal, and writes its reply's line.
 ghost use Rattle.std.specs.Prelude.{◌≡◌, ◌⊎◌, ◌≤◌, Some, Err, IfOk, OnOk, OnErr};
 ghost use Rattle.portal_base.specs.Outside.{Rose, Takes, TakesPrefix};
 ghost use Rattle.action_api.specs.Reply.{reply_status};
 ghost use Rattle.portal_serve.specs.Calls.{BeginsCall, MakesCall};
-ghost use Rattle.portal_serve.specs.Seen.{asked};
-ghost use Rattle.portal_serve.specs.Stage.{AreSameLoans, told_on};
-ghost use Rattle.portal_serve.specs.Transcript.{replied_to, reply_line};
+ghost use Rattle.portal_serve.specs.Values.{script_call};
+ghost use Rattle.portal_serve.specs.Stage.{AreSameLoans, trace_of};
+ghost use Rattle.portal_serve.specs.Transcript.{outcome_of_call, reply_line};
 
-use crate::calling::{Drawn, replied};
-use crate::line::line_of_reply;
+use crate::calling::{Drawn, reply_to_request};
+use crate::line::render_line;
 use crate::script::ScriptCall;
 use crate::stage::Stage;
 use action_api::early::Early;
 use action_api::reply::status_of;
-use action_api::request::request_on;
+use action_api::request::request_for;
 use portal_base::caller::Caller;
 use portal_base::json_value::Json;
 use portal_base::outside::{Clock, Nonces, Sink};
 use portal_base::seq::Seq;
-use portal_core::event::Reply;
+use portal_calls::event::Reply;
 use portal_core::portal::Portal;
 use std::alloc::{AllocError, Global};
 
-/// Why a line isn't written whole.
+/// Why a call's line isn't complete.
 #[derive(Clone, Copy, Debug, PartialEq, Eq)]
 pub enum CallStop {
     /// Output's count of faults rose.
     WriteFault,
-    /// Want of memory.
+    /// Memory ran out.
     OutOfMemory,
 }
 
@@ -42,9 +42,9 @@ impl From<AllocError> for CallStop {
     }
 }
 
-/// What came of a call: its reply's status, and the line that is written for it.
+/// A call that was made: its reply's HTTP status, and the line of the transcript for it.
 #[derive(Drop)]
-struct Worked {
+struct ProcessedCall {
     status: u16,
     line: Seq<u8>,
 }
@@ -69,8 +69,8 @@ pub(crate) fn write_line<O: Sink, C: Clock, N: Nonces>(
     }
 }
 
-/// What is replied to the call of a caller for an action with a body.
-fn replied_to(
+/// The reply to the call of a caller for an action with a body.
+fn reply_to_call(
     alloc: Global,
     portal: &mut Portal,
     caller: Caller,
@@ -78,57 +78,57 @@ fn replied_to(
     body: Json,
     drawn: Drawn,
 ) -> Result<Result<Reply, Early>, AllocError>
-    ensures reply { IfOk result (λ reply. reply ≡ (replied_to portal.old
+    ensures reply { IfOk result (λ reply. reply ≡ (outcome_of_call portal.old
         (record { caller = caller; action = action.now; body = body }) drawn.size drawn.moment drawn.nonce.0).reply) }
-    ensures state { OnOk result (portal.new ≡ (replied_to portal.old
+    ensures state { OnOk result (portal.new ≡ (outcome_of_call portal.old
         (record { caller = caller; action = action.now; body = body }) drawn.size drawn.moment drawn.nonce.0).state) }
     ensures kept { OnErr result (portal.new ≡ portal.old) }
 {
-    let caller = portal.known(caller);
-    let request = request_on(alloc, action, body);
-    replied(portal, caller, request, drawn)
+    let caller = portal.known_caller(caller);
+    let request = request_for(alloc, action, body);
+    reply_to_request(portal, caller, request, drawn)
 }
 
-/// Works a call, and makes the line that is written for it.
-fn work_call(
+/// Makes a call, and renders its line of the transcript.
+fn process_call(
     alloc: Global,
     portal: &mut Portal,
-    said: ScriptCall,
+    call: ScriptCall,
     drawn: Drawn,
-) -> Result<Worked, AllocError>
-    ensures status { IfOk result (λ worked. worked.status
-        ≡ reply_status (replied_to portal.old (asked said) drawn.size drawn.moment drawn.nonce.0).reply) }
-    ensures line { IfOk result (λ worked. worked.line ≡ reply_line (Some said.action)
-        (replied_to portal.old (asked said) drawn.size drawn.moment drawn.nonce.0).reply) }
+) -> Result<ProcessedCall, AllocError>
+    ensures status { IfOk result (λ processed. processed.status
+        ≡ reply_status (outcome_of_call portal.old (script_call call) drawn.size drawn.moment drawn.nonce.0).reply) }
+    ensures line { IfOk result (λ processed. processed.line ≡ reply_line (Some call.action)
+        (outcome_of_call portal.old (script_call call) drawn.size drawn.moment drawn.nonce.0).reply) }
     ensures state { OnOk result (portal.new
-        ≡ (replied_to portal.old (asked said) drawn.size drawn.moment drawn.nonce.0).state) }
+        ≡ (outcome_of_call portal.old (script_call call) drawn.size drawn.moment drawn.nonce.0).state) }
     ensures stopped { OnErr result ((portal.new ≡ portal.old) ⊎ (portal.new
-        ≡ (replied_to portal.old (asked said) drawn.size drawn.moment drawn.nonce.0).state)) }
+        ≡ (outcome_of_call portal.old (script_call call) drawn.size drawn.moment drawn.nonce.0).state)) }
 {
     let ScriptCall {
         caller,
         action,
         body,
-    } = said;
-    let reply = replied_to(alloc, portal, caller, action.as_str(), body, drawn)?;
+    } = call;
+    let reply = reply_to_call(alloc, portal, caller, action.as_str(), body, drawn)?;
     let status = status_of(&reply);
-    let line = line_of_reply(alloc, Some(action.as_str()), &reply)?;
-    Ok(Worked { status, line })
+    let line = render_line(alloc, Some(action.as_str()), &reply)?;
+    Ok(ProcessedCall { status, line })
 }
 
-/// Makes a call of this size on a stage, and gives its reply's status. Where it stops, output has taken a beginning of
-/// the reply's line, and the call may have been worked.
+/// Makes a call of this size on a stage, writes its line, and returns its reply's HTTP status. Where it stops, output
+/// has taken some prefix of the line, and the call may have been made.
 pub fn make_call<O: Sink, C: Clock, N: Nonces>(
     alloc: Global,
     portal: &mut Portal,
-    said: ScriptCall,
+    call: ScriptCall,
     size: u64,
     stage: &mut Stage<'_, '_, '_, O, C, N>,
 ) -> Result<u16, CallStop>
-    ensures made { IfOk result (λ status. MakesCall portal.old (asked said) size status portal.new
-        (told_on O.taken C.given N.given stage.old) (told_on O.taken C.given N.given stage.new)) }
-    ensures begun { OnErr result (BeginsCall portal.old (asked said) size portal.new
-        (told_on O.taken C.given N.given stage.old) (told_on O.taken C.given N.given stage.new)) }
+    ensures made { IfOk result (λ status. MakesCall portal.old (script_call call) size status portal.new
+        (trace_of O.taken C.given N.given stage.old) (trace_of O.taken C.given N.given stage.new)) }
+    ensures begun { OnErr result (BeginsCall portal.old (script_call call) size portal.new
+        (trace_of O.taken C.given N.given stage.old) (trace_of O.taken C.given N.given stage.new)) }
     ensures fault { result ≡ Err CallStop.WriteFault
         → Rose (O.faults stage.old.output.now) (O.faults stage.new.output.now) }
     ensures counts { O.faults stage.old.output.now ≤ O.faults stage.new.output.now }
@@ -140,7 +140,7 @@ pub fn make_call<O: Sink, C: Clock, N: Nonces>(
         moment,
         nonce,
     };
-    let worked = work_call(alloc, portal, said, drawn)?;
-    write_line(stage, worked.line.as_slice())?;
-    Ok(worked.status)
+    let processed = process_call(alloc, portal, call, drawn)?;
+    write_line(stage, processed.line.as_slice())?;
+    Ok(processed.status)
 }

@@ -1,7 +1,7 @@
-//! Serving a desk: one link after another, each given back before the next is accepted.
+//! Serving a desk: one link after another. Each goes back to the listener before the next is accepted.
 ghost use Rattle.std.specs.Prelude.{◌≡◌, ◌≤◌, false};
-ghost use Rattle.portal_serve.specs.Desk.{desk_sight, ServesDesk, ServesNext};
-ghost use Rattle.portal_serve.specs.Served.{link_sight};
+ghost use Rattle.portal_serve.specs.Desk.{desk_trace, ServesDesk, ServesNext};
+ghost use Rattle.portal_serve.specs.Served.{link_trace};
 
 use crate::serve::serve_link;
 use crate::tokens::Tokens;
@@ -9,7 +9,7 @@ use portal_base::outside::{Clock, Desk, Failed, Listener, Nonces};
 use portal_core::portal::Portal;
 use std::alloc::Global;
 
-/// Serves the next link, and says whether there was one.
+/// Serves the next link, and returns whether there was one.
 fn serve_next<L: Listener, C: Clock, N: Nonces>(
     alloc: Global,
     portal: &mut Portal,
@@ -18,11 +18,11 @@ fn serve_next<L: Listener, C: Clock, N: Nonces>(
 ) -> Result<bool, Failed>
     requires home { L.is_out desk.old.listener ≡ false }
     ensures home { L.is_out desk.new.listener ≡ false }
-    ensures next { ServesNext (λ peer. link_sight (L.Peer.to_come peer) (L.Peer.taken peer) (L.Peer.faults peer))
+    ensures next { ServesNext (λ peer. link_trace (L.Peer.to_come peer) (L.Peer.taken peer) (L.Peer.faults peer))
         tokens.now portal.old
-        (desk_sight (L.to_come desk.old.listener) (L.taken_back desk.old.listener) (L.count desk.old.listener)
+        (desk_trace (L.to_come desk.old.listener) (L.taken_back desk.old.listener) (L.count desk.old.listener)
         (L.is_at_end desk.old.listener) (L.faults desk.old.listener) (C.given desk.old.clock) (N.given desk.old.nonces))
-        (desk_sight (L.to_come desk.new.listener) (L.taken_back desk.new.listener) (L.count desk.new.listener)
+        (desk_trace (L.to_come desk.new.listener) (L.taken_back desk.new.listener) (L.count desk.new.listener)
         (L.is_at_end desk.new.listener) (L.faults desk.new.listener) (C.given desk.new.clock) (N.given desk.new.nonces))
         portal.new result }
     ensures counts { L.faults desk.old.listener ≤ L.faults desk.new.listener }
@@ -39,27 +39,27 @@ fn serve_next<L: Listener, C: Clock, N: Nonces>(
     Ok(true)
 }
 
-/// Serves the desk's links one after another, up to so many, and gives each back. It fails where the listener's count
-/// of faults rose.
+/// Serves the desk's links one after another, at most `limit` of them, and gives each back to the listener. It fails
+/// where the listener's count of faults rose.
 pub fn serve_desk<L: Listener, C: Clock, N: Nonces>(
     alloc: Global,
     portal: &mut Portal,
     tokens: &Tokens,
     desk: &mut Desk<L, C, N>,
-    most: u64,
+    limit: u64,
 ) -> Result<(), Failed>
     requires home { L.is_out desk.old.listener ≡ false }
     ensures home { L.is_out desk.new.listener ≡ false }
-    ensures served { ServesDesk (λ peer. link_sight (L.Peer.to_come peer) (L.Peer.taken peer) (L.Peer.faults peer))
-        tokens.now portal.old most
-        (desk_sight (L.to_come desk.old.listener) (L.taken_back desk.old.listener) (L.count desk.old.listener)
+    ensures served { ServesDesk (λ peer. link_trace (L.Peer.to_come peer) (L.Peer.taken peer) (L.Peer.faults peer))
+        tokens.now portal.old limit
+        (desk_trace (L.to_come desk.old.listener) (L.taken_back desk.old.listener) (L.count desk.old.listener)
         (L.is_at_end desk.old.listener) (L.faults desk.old.listener) (C.given desk.old.clock) (N.given desk.old.nonces))
-        (desk_sight (L.to_come desk.new.listener) (L.taken_back desk.new.listener) (L.count desk.new.listener)
+        (desk_trace (L.to_come desk.new.listener) (L.taken_back desk.new.listener) (L.count desk.new.listener)
         (L.is_at_end desk.new.listener) (L.faults desk.new.listener) (C.given desk.new.clock) (N.given desk.new.nonces))
         portal.new result }
     ensures counts { L.faults desk.old.listener ≤ L.faults desk.new.listener }
 {
-    for _ in 0..most {
+    for _ in 0..limit {
         match serve_next(alloc, portal, tokens, desk) {
             Ok(true) => {}
             Ok(false) => return Ok(()),

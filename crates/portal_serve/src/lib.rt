@@ -1,8 +1,9 @@
-//! Scripts: the calls that they ask a portal for, and the transcripts of what it replies.
+//! Serving a portal: scripts of calls with the transcripts of their replies, and HTTP connections.
 #![tactic(auto)]
 
 mod calling;
 pub mod calls;
+pub mod defaults;
 pub mod desk;
 pub mod laws;
 mod line;
@@ -10,5 +11,4 @@ pub mod play;
 pub mod script;
 pub mod serve;
 pub mod stage;
-pub mod stated;
 pub mod tokens;

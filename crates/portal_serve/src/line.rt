@@ -5,12 +5,12 @@ ghost use Rattle.portal_serve.specs.Transcript.{reply_line};
 use action_api::early::Early;
 use action_api::reply::reply_text;
 use portal_base::seq::Seq;
-use portal_core::event::Reply;
+use portal_calls::event::Reply;
 use std::alloc::{AllocError, Global};
 
-/// The line for a reply, or an early fault, to a call of the action of that name: its status, a space, its text and a
-/// line feed.
-pub fn line_of_reply(
+/// Renders the line for a reply, or an early fault, to a call of the action of that name: the HTTP status, a space, the
+/// text and a line feed.
+pub fn render_line(
     alloc: Global,
     action: Option<&str>,
     reply: &Result<Reply, Early>,

@@ -2,19 +2,19 @@
 ghost use Rattle.std.specs.Prelude.{◌≡◌, ◌≢◌, ◌⊎◌, ◌↔◌, ◌<◌, ◌≤◌, ℕ, List, [], ◌∷◌, true, false, Some, Ok, Err};
 ghost use Rattle.std.specs.Prelude.{length, IfOk, IfErr, OnOk, OnErr};
 ghost use Rattle.portal_base.specs.Outside.{Rose, Takes, TakesPrefix};
-ghost use Rattle.portal_serve.specs.Played.{WorksLines, StopsLines, TakesTurn, EndsTurn, StopsTurn, FailsTurn};
+ghost use Rattle.portal_serve.specs.Played.{ProcessesLines, StopsLines, TakesTurn, EndsTurn, StopsTurn, FailsTurn};
 ghost use Rattle.portal_serve.specs.Played.{unless_empty};
-ghost use Rattle.portal_serve.specs.Stopped.{IsOfLine, end_of, stop_for, begun_at, most_begun};
-ghost use Rattle.portal_serve.specs.Run.{devices, with_input};
-ghost use Rattle.portal_serve.specs.Stage.{AreSameLoans, told_on};
+ghost use Rattle.portal_serve.specs.Stopped.{IsOfLine, end_of, stop_for, begun_limit, begun_limit_at_end};
+ghost use Rattle.portal_serve.specs.Run.{device_trace, with_input};
+ghost use Rattle.portal_serve.specs.Stage.{AreSameLoans, trace_of};
 ghost use Rattle.portal_lines.specs.Lines.{bytes_left};
 ghost use Rattle.portal_serve.specs.Transcript.{early_line};
 ghost use Rattle.portal_serve.specs.Run.{PlaysAll, PlaysPart, PlaysRead, GaveTooMuch};
 ghost use Rattle.portal_serve.specs.Script.{call_of_line};
-ghost use Rattle.portal_serve.specs.Seen.{asked};
+ghost use Rattle.portal_serve.specs.Values.{script_call};
 
 use crate::calls::{CallStop, make_call, write_line};
-use crate::line::line_of_reply;
+use crate::line::render_line;
 use crate::script::{LONGEST_LINE, ScriptCall, read_call};
 use crate::stage::Stage;
 use action_api::early::Early;
@@ -23,8 +23,8 @@ use portal_core::portal::Portal;
 use portal_lines::lines::{LineFault, LineReader, NextLine};
 use std::alloc::{AllocError, Global};
 
-/// The most bytes that input may give: 2^40.
-const MOST_INPUT: u64 = 1 << 40;
+/// The limit of bytes that input may give: 2^40.
+const INPUT_LIMIT: u64 = 1 << 40;
 
 /// How playing a script ended.
 #[derive(Clone, Copy, Debug, PartialEq, Eq)]
@@ -37,7 +37,7 @@ pub enum PlayEnd {
     WriteFault,
     /// Input gave more than 2^40 bytes.
     TooLong,
-    /// Want of memory.
+    /// Memory ran out.
     OutOfMemory,
 }
 
@@ -79,22 +79,22 @@ impl From<CallStop> for Stop {
 fn play_call<O: Sink, C: Clock, N: Nonces>(
     alloc: Global,
     portal: &mut Portal,
-    said: ScriptCall,
+    call: ScriptCall,
     line: &[u8],
     stage: &mut Stage<'_, '_, '_, O, C, N>,
 ) -> Result<(), Stop>
-    requires { call_of_line line.now ≡ Ok (asked said) }
-    ensures ok { OnOk result (WorksLines portal.old (line.now ∷ []) portal.new
-        (told_on O.taken C.given N.given stage.old) (told_on O.taken C.given N.given stage.new)) }
+    requires { call_of_line line.now ≡ Ok (script_call call) }
+    ensures ok { OnOk result (ProcessesLines portal.old (line.now ∷ []) portal.new
+        (trace_of O.taken C.given N.given stage.old) (trace_of O.taken C.given N.given stage.new)) }
     ensures cut { OnErr result (StopsLines portal.old (line.now ∷ []) portal.new
-        (told_on O.taken C.given N.given stage.old) (told_on O.taken C.given N.given stage.new)) }
+        (trace_of O.taken C.given N.given stage.old) (trace_of O.taken C.given N.given stage.new)) }
     ensures fault { result ≡ Err Stop.WriteFault
         → Rose (O.faults stage.old.output.now) (O.faults stage.new.output.now) }
     ensures stop { IfErr result IsOfLine }
     ensures counts { O.faults stage.old.output.now ≤ O.faults stage.new.output.now }
     ensures loans { AreSameLoans stage.old stage.new }
 {
-    let _status = make_call(alloc, portal, said, line.len() as u64, stage)?;
+    let _status = make_call(alloc, portal, call, line.len() as u64, stage)?;
     Ok(())
 }
 
@@ -115,22 +115,22 @@ fn write_early<O: Sink, C: Clock, N: Nonces>(
     ensures nonces { stage.new.nonces.now ≡ stage.old.nonces.now }
     ensures loans { AreSameLoans stage.old stage.new }
 {
-    let text = line_of_reply(alloc, None, &Err(early))?;
+    let text = render_line(alloc, None, &Err(early))?;
     Ok(write_line(stage, text.as_slice())?)
 }
 
-/// Works a line that isn't empty.
-fn play_full_line<O: Sink, C: Clock, N: Nonces>(
+/// Processes a line that isn't empty.
+fn play_nonempty_line<O: Sink, C: Clock, N: Nonces>(
     alloc: Global,
     portal: &mut Portal,
     line: &[u8],
     stage: &mut Stage<'_, '_, '_, O, C, N>,
 ) -> Result<(), Stop>
     requires { length line.now ≤ LONGEST_LINE }
-    ensures ok { OnOk result (WorksLines portal.old (line.now ∷ []) portal.new
-        (told_on O.taken C.given N.given stage.old) (told_on O.taken C.given N.given stage.new)) }
+    ensures ok { OnOk result (ProcessesLines portal.old (line.now ∷ []) portal.new
+        (trace_of O.taken C.given N.given stage.old) (trace_of O.taken C.given N.given stage.new)) }
     ensures cut { OnErr result (StopsLines portal.old (line.now ∷ []) portal.new
-        (told_on O.taken C.given N.given stage.old) (told_on O.taken C.given N.given stage.new)) }
+        (trace_of O.taken C.given N.given stage.old) (trace_of O.taken C.given N.given stage.new)) }
     ensures fault { result ≡ Err Stop.WriteFault
         → Rose (O.faults stage.old.output.now) (O.faults stage.new.output.now) }
     ensures stop { IfErr result IsOfLine }
@@ -138,13 +138,13 @@ fn play_full_line<O: Sink, C: Clock, N: Nonces>(
     ensures loans { AreSameLoans stage.old stage.new }
 {
     match read_call(alloc, line) {
-        Ok(said) => play_call(alloc, portal, said, line, stage),
+        Ok(call) => play_call(alloc, portal, call, line, stage),
         Err(Early::OutOfMemory) => Err(Stop::OutOfMemory),
         Err(early) => write_early(alloc, early, stage),
     }
 }
 
-/// Works a line. An empty one is skipped.
+/// Processes a line, and skips an empty one.
 fn play_line<O: Sink, C: Clock, N: Nonces>(
     alloc: Global,
     portal: &mut Portal,
@@ -152,10 +152,10 @@ fn play_line<O: Sink, C: Clock, N: Nonces>(
     stage: &mut Stage<'_, '_, '_, O, C, N>,
 ) -> Result<(), Stop>
     requires { length line.now ≤ LONGEST_LINE }
-    ensures ok { OnOk result (WorksLines portal.old (unless_empty line.now) portal.new
-        (told_on O.taken C.given N.given stage.old) (told_on O.taken C.given N.given stage.new)) }
+    ensures ok { OnOk result (ProcessesLines portal.old (unless_empty line.now) portal.new
+        (trace_of O.taken C.given N.given stage.old) (trace_of O.taken C.given N.given stage.new)) }
     ensures cut { OnErr result (StopsLines portal.old (unless_empty line.now) portal.new
-        (told_on O.taken C.given N.given stage.old) (told_on O.taken C.given N.given stage.new)) }
+        (trace_of O.taken C.given N.given stage.old) (trace_of O.taken C.given N.given stage.new)) }
     ensures fault { result ≡ Err Stop.WriteFault
         → Rose (O.faults stage.old.output.now) (O.faults stage.new.output.now) }
     ensures stop { IfErr result IsOfLine }
@@ -165,7 +165,7 @@ fn play_line<O: Sink, C: Clock, N: Nonces>(
     if line.is_empty() {
         Ok(())
     } else {
-        play_full_line(alloc, portal, line, stage)
+        play_nonempty_line(alloc, portal, line, stage)
     }
 }
 
@@ -179,7 +179,7 @@ fn stop_of(fault: LineFault) -> Stop
     }
 }
 
-/// Works the next line of input, and says whether there was one.
+/// Processes the next line of input, and returns whether there was one.
 fn play_next<S: Source, O: Sink, C: Clock, N: Nonces>(
     alloc: Global,
     portal: &mut Portal,
@@ -189,28 +189,28 @@ fn play_next<S: Source, O: Sink, C: Clock, N: Nonces>(
 ) -> Result<bool, Stop>
     requires { reader.old.longest ≡ LONGEST_LINE }
     ensures longest { reader.new.longest ≡ reader.old.longest }
-    ensures most { reader.new.most ≡ reader.old.most }
+    ensures limit { reader.new.limit ≡ reader.old.limit }
 
     ensures more { result ≡ Ok true → TakesTurn portal.old portal.new reader.old reader.new
-        (with_input (S.to_come input.old) (told_on O.taken C.given N.given stage.old))
-        (with_input (S.to_come input.new) (told_on O.taken C.given N.given stage.new)) }
+        (with_input (S.to_come input.old) (trace_of O.taken C.given N.given stage.old))
+        (with_input (S.to_come input.new) (trace_of O.taken C.given N.given stage.new)) }
     ensures falls { result ≡ Ok true → bytes_left reader.new < bytes_left reader.old }
     ensures end { result ≡ Ok false → EndsTurn portal.old portal.new reader.old reader.new
-        (with_input (S.to_come input.old) (told_on O.taken C.given N.given stage.old))
-        (with_input (S.to_come input.new) (told_on O.taken C.given N.given stage.new)) }
-    ensures within { OnOk result (reader.new.given ≤ reader.new.most) }
+        (with_input (S.to_come input.old) (trace_of O.taken C.given N.given stage.old))
+        (with_input (S.to_come input.new) (trace_of O.taken C.given N.given stage.new)) }
+    ensures within { OnOk result (reader.new.received ≤ reader.new.limit) }
 
-    ensures cut { IfErr result (λ stop. StopsTurn (begun_at stop) portal.old portal.new
+    ensures cut { IfErr result (λ stop. StopsTurn (begun_limit stop) portal.old portal.new
         reader.old reader.new
-        (with_input (S.to_come input.old) (told_on O.taken C.given N.given stage.old))
-        (with_input (S.to_come input.new) (told_on O.taken C.given N.given stage.new))) }
+        (with_input (S.to_come input.old) (trace_of O.taken C.given N.given stage.old))
+        (with_input (S.to_come input.new) (trace_of O.taken C.given N.given stage.new))) }
     ensures unended { result ≡ Err Stop.ReadFault → FailsTurn portal.old portal.new reader.old reader.new
-        (with_input (S.to_come input.old) (told_on O.taken C.given N.given stage.old))
-        (with_input (S.to_come input.new) (told_on O.taken C.given N.given stage.new)) }
+        (with_input (S.to_come input.old) (trace_of O.taken C.given N.given stage.old))
+        (with_input (S.to_come input.new) (trace_of O.taken C.given N.given stage.new)) }
     ensures read_fault { result ≡ Err Stop.ReadFault → Rose (S.faults input.old) (S.faults input.new) }
     ensures write_fault { result ≡ Err Stop.WriteFault
         → Rose (O.faults stage.old.output.now) (O.faults stage.new.output.now) }
-    ensures too_long { (result ≡ Err Stop.TooLong) ↔ (reader.new.most < reader.new.given) }
+    ensures too_long { (result ≡ Err Stop.TooLong) ↔ (reader.new.limit < reader.new.received) }
     ensures reads { S.faults input.old ≤ S.faults input.new }
     ensures writes { O.faults stage.old.output.now ≤ O.faults stage.new.output.now }
     ensures loans { AreSameLoans stage.old stage.new }
@@ -229,7 +229,7 @@ fn play_next<S: Source, O: Sink, C: Clock, N: Nonces>(
     }
 }
 
-/// Works the lines of input in order.
+/// Processes the lines of input in order.
 fn play_lines<S: Source, O: Sink, C: Clock, N: Nonces>(
     alloc: Global,
     portal: &mut Portal,
@@ -238,17 +238,17 @@ fn play_lines<S: Source, O: Sink, C: Clock, N: Nonces>(
 ) -> Result<(), Stop>
     ensures done { OnOk result ((whole : List ℕ) → S.to_come input.old ≡ Some whole
         → PlaysAll portal.old whole portal.new
-        (with_input (S.to_come input.old) (told_on O.taken C.given N.given stage.old))
-        (with_input (S.to_come input.new) (told_on O.taken C.given N.given stage.new))) }
+        (with_input (S.to_come input.old) (trace_of O.taken C.given N.given stage.old))
+        (with_input (S.to_come input.new) (trace_of O.taken C.given N.given stage.new))) }
     ensures cut { IfErr result (λ stop. (whole : List ℕ) → S.to_come input.old ≡ Some whole
-        → PlaysPart (begun_at stop) portal.old whole portal.new
-        (with_input (S.to_come input.old) (told_on O.taken C.given N.given stage.old))
-        (with_input (S.to_come input.new) (told_on O.taken C.given N.given stage.new))) }
+        → PlaysPart (begun_limit stop) portal.old whole portal.new
+        (with_input (S.to_come input.old) (trace_of O.taken C.given N.given stage.old))
+        (with_input (S.to_come input.new) (trace_of O.taken C.given N.given stage.new))) }
 
     ensures unended { result ≡ Err Stop.ReadFault → (whole : List ℕ) → S.to_come input.old ≡ Some whole
         → PlaysRead portal.old whole portal.new
-        (with_input (S.to_come input.old) (told_on O.taken C.given N.given stage.old))
-        (with_input (S.to_come input.new) (told_on O.taken C.given N.given stage.new)) }
+        (with_input (S.to_come input.old) (trace_of O.taken C.given N.given stage.old))
+        (with_input (S.to_come input.new) (trace_of O.taken C.given N.given stage.new)) }
     ensures read_fault { result ≡ Err Stop.ReadFault → Rose (S.faults input.old) (S.faults input.new) }
     ensures write_fault { result ≡ Err Stop.WriteFault
         → Rose (O.faults stage.old.output.now) (O.faults stage.new.output.now) }
@@ -256,7 +256,7 @@ fn play_lines<S: Source, O: Sink, C: Clock, N: Nonces>(
         ((result ≡ Err Stop.TooLong) ↔ GaveTooMuch whole (S.to_come input.new)) }
     ensures loans { AreSameLoans stage.old stage.new }
 {
-    let mut reader = match LineReader::new(alloc, LONGEST_LINE, MOST_INPUT) {
+    let mut reader = match LineReader::new(alloc, LONGEST_LINE, INPUT_LIMIT) {
         Ok(reader) => reader,
         Err(_refused) => return Err(Stop::OutOfMemory),
     };
@@ -282,7 +282,7 @@ fn end_of(ended: Result<(), Stop>) -> PlayEnd
 }
 
 /// Plays the script on input on a stage.
-fn play_on<S: Source, O: Sink, C: Clock, N: Nonces>(
+fn play_on_stage<S: Source, O: Sink, C: Clock, N: Nonces>(
     alloc: Global,
     portal: &mut Portal,
     input: &mut S,
@@ -290,17 +290,17 @@ fn play_on<S: Source, O: Sink, C: Clock, N: Nonces>(
 ) -> PlayEnd
     ensures done { result ≡ PlayEnd.Done → (whole : List ℕ) → S.to_come input.old ≡ Some whole
         → PlaysAll portal.old whole portal.new
-        (with_input (S.to_come input.old) (told_on O.taken C.given N.given stage.old))
-        (with_input (S.to_come input.new) (told_on O.taken C.given N.given stage.new)) }
+        (with_input (S.to_come input.old) (trace_of O.taken C.given N.given stage.old))
+        (with_input (S.to_come input.new) (trace_of O.taken C.given N.given stage.new)) }
     ensures cut { result ≢ PlayEnd.Done → (whole : List ℕ) → S.to_come input.old ≡ Some whole
-        → PlaysPart (most_begun result) portal.old whole portal.new
-        (with_input (S.to_come input.old) (told_on O.taken C.given N.given stage.old))
-        (with_input (S.to_come input.new) (told_on O.taken C.given N.given stage.new)) }
+        → PlaysPart (begun_limit_at_end result) portal.old whole portal.new
+        (with_input (S.to_come input.old) (trace_of O.taken C.given N.given stage.old))
+        (with_input (S.to_come input.new) (trace_of O.taken C.given N.given stage.new)) }
 
     ensures unended { result ≡ PlayEnd.ReadFault → (whole : List ℕ) → S.to_come input.old ≡ Some whole
         → PlaysRead portal.old whole portal.new
-        (with_input (S.to_come input.old) (told_on O.taken C.given N.given stage.old))
-        (with_input (S.to_come input.new) (told_on O.taken C.given N.given stage.new)) }
+        (with_input (S.to_come input.old) (trace_of O.taken C.given N.given stage.old))
+        (with_input (S.to_come input.new) (trace_of O.taken C.given N.given stage.new)) }
     ensures read_fault { result ≡ PlayEnd.ReadFault → Rose (S.faults input.old) (S.faults input.new) }
     ensures write_fault { result ≡ PlayEnd.WriteFault
         → Rose (O.faults stage.old.output.now) (O.faults stage.new.output.now) }
@@ -311,8 +311,8 @@ fn play_on<S: Source, O: Sink, C: Clock, N: Nonces>(
     end_of(play_lines(alloc, portal, input, stage))
 }
 
-/// Plays the script on input, and writes its transcript to output. Of the input it holds one line and what was read at
-/// once.
+/// Plays the script on input, and writes its transcript to output. It holds one line of the input, and the bytes of one
+/// read.
 pub fn play<S: Source, O: Sink, C: Clock, N: Nonces>(
     alloc: Global,
     portal: &mut Portal,
@@ -321,23 +321,26 @@ pub fn play<S: Source, O: Sink, C: Clock, N: Nonces>(
     clock: &mut C,
     nonces: &mut N,
 ) -> PlayEnd
-    // Where input tells, all of it was read, output took its transcript, and the portal is in the state in which the
-    // script ends.
+    // Where input is observable, all of it was read, output took its transcript, and the portal is in the state in
+    // which
+    // the script ends.
     ensures done { result ≡ PlayEnd.Done → (whole : List ℕ) → S.to_come input.old ≡ Some whole
         → PlaysAll portal.old whole portal.new
-        (devices (S.to_come input.old) (O.taken output.old) (C.given clock.old) (N.given nonces.old))
-        (devices (S.to_come input.new) (O.taken output.new) (C.given clock.new) (N.given nonces.new)) }
-    // Else what was drawn, what output took and the portal's state belong to one place in the script.
+        (device_trace (S.to_come input.old) (O.taken output.old) (C.given clock.old) (N.given nonces.old))
+        (device_trace (S.to_come input.new) (O.taken output.new) (C.given clock.new) (N.given nonces.new)) }
+    // Otherwise the moments and nonces drawn, the bytes that output took and the portal's state belong to one position
+    // in
+    // the script.
     ensures cut { result ≢ PlayEnd.Done → (whole : List ℕ) → S.to_come input.old ≡ Some whole
-        → PlaysPart (most_begun result) portal.old whole portal.new
-        (devices (S.to_come input.old) (O.taken output.old) (C.given clock.old) (N.given nonces.old))
-        (devices (S.to_come input.new) (O.taken output.new) (C.given clock.new) (N.given nonces.new)) }
+        → PlaysPart (begun_limit_at_end result) portal.old whole portal.new
+        (device_trace (S.to_come input.old) (O.taken output.old) (C.given clock.old) (N.given nonces.old))
+        (device_trace (S.to_come input.new) (O.taken output.new) (C.given clock.new) (N.given nonces.new)) }
 
-    // Where input failed, no line that came whole was left.
+    // Where input failed, each complete line was processed.
     ensures unended { result ≡ PlayEnd.ReadFault → (whole : List ℕ) → S.to_come input.old ≡ Some whole
         → PlaysRead portal.old whole portal.new
-        (devices (S.to_come input.old) (O.taken output.old) (C.given clock.old) (N.given nonces.old))
-        (devices (S.to_come input.new) (O.taken output.new) (C.given clock.new) (N.given nonces.new)) }
+        (device_trace (S.to_come input.old) (O.taken output.old) (C.given clock.old) (N.given nonces.old))
+        (device_trace (S.to_come input.new) (O.taken output.new) (C.given clock.new) (N.given nonces.new)) }
     ensures read_fault { result ≡ PlayEnd.ReadFault → Rose (S.faults input.old) (S.faults input.new) }
     ensures write_fault { result ≡ PlayEnd.WriteFault → Rose (O.faults output.old) (O.faults output.new) }
     ensures too_long { (whole : List ℕ) → S.to_come input.old ≡ Some whole →
@@ -348,5 +351,5 @@ pub fn play<S: Source, O: Sink, C: Clock, N: Nonces>(
         clock,
         nonces,
     };
-    play_on(alloc, portal, input, &mut stage)
+    play_on_stage(alloc, portal, input, &mut stage)
 }

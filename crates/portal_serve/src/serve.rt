@@ -1,14 +1,15 @@
-//! Serving one connection: a request is read off a link, worked, and answered by one response.
+//! Serving one connection: it reads one request off a link, makes its call, and writes one response.
 ghost use Rattle.std.specs.Prelude.{◌≡◌, ◌≢◌, ◌⊎◌, ◌≤◌, Ok, Err, IfOk, IfErr, OnOk, OnErr, IsSome, option_map};
 ghost use Rattle.std.specs.Option.{option_copied};
 ghost use Rattle.http.specs.StatusCode.{reason_phrase};
 ghost use Rattle.portal_base.specs.Outside.{Rose};
-ghost use Rattle.portal_serve.specs.Served.{answered, answer_text, body_or_empty, fault_text, link_sight, memory_text};
+ghost use Rattle.portal_serve.specs.Served.{outcome_of_incoming, answer_text, body_or_empty, fault_text, link_trace};
+ghost use Rattle.portal_serve.specs.Served.{memory_text};
 ghost use Rattle.portal_serve.specs.Served.{name_in, request_in, size_in, token_in};
 ghost use Rattle.portal_serve.specs.Served.{Answers, Serves, Writes, WritesFault};
-ghost use Rattle.portal_serve.specs.Seen.{fixed_text};
+ghost use Rattle.portal_serve.specs.Values.{fixed_text};
 
-use crate::calling::{Drawn, replied};
+use crate::calling::{Drawn, reply_to_request};
 use crate::tokens::Tokens;
 use action_api::early::Early;
 use action_api::query::{is_reading, request_of_query};
@@ -29,22 +30,22 @@ use std::alloc::{AllocError, Global};
 /// How serving a link ended.
 #[derive(Clone, Copy, Debug, PartialEq, Eq)]
 pub enum Served {
-    /// A whole response of this status was written.
-    Replied(u16),
+    /// A complete response of this status was written.
+    RequestOutcome(u16),
     /// The input ended before the request did, and nothing was written.
     EndedEarly,
     /// The link's count of faults rose.
     LinkFault,
 }
 
-/// A status with the text of a reply that stands in the program.
+/// An HTTP status with the text of a reply, as a constant of the program.
 #[derive(Clone, Copy)]
 struct FixedReply {
     status: u16,
     text: &'static str,
 }
 
-/// The reply for want of memory.
+/// The reply where memory runs out.
 fn memory_reply() -> FixedReply
     ensures { fixed_text result ≡ memory_text }
 {
@@ -85,7 +86,7 @@ fn fault_reply(fault: FrontFault) -> Option<FixedReply>
     }
 }
 
-/// The name of the action that is asked for.
+/// The name of the requested action.
 fn name_in(incoming: &Incoming) -> &str
     ensures { result.now ≡ name_in incoming.now }
 {
@@ -108,7 +109,7 @@ fn token_in(incoming: &Incoming) -> Option<&str>
     }
 }
 
-/// How many bytes the body has, or the query.
+/// The size of the body in bytes, or that of the query.
 fn size_in(incoming: &Incoming) -> u64
     ensures { result ≡ size_in incoming.now }
 {
@@ -125,9 +126,9 @@ fn body_or_empty(body: &[u8]) -> &[u8]
     if body.is_empty() { b"{}" } else { body }
 }
 
-/// The request that is asked for, or why there is none.
-fn request_in(alloc: Global, incoming: &Incoming) -> Result<Request, Early>
-    ensures value { IfOk result (λ asked. request_in incoming.now ≡ Ok asked) }
+/// Reads the request, or why there is none.
+fn read_request(alloc: Global, incoming: &Incoming) -> Result<Request, Early>
+    ensures value { IfOk result (λ request. request_in incoming.now ≡ Ok request) }
     ensures fault { IfErr result
         (λ early. (early ≡ Early.OutOfMemory) ⊎ (request_in incoming.now ≡ Err early)) }
 {
@@ -139,8 +140,8 @@ fn request_in(alloc: Global, incoming: &Incoming) -> Result<Request, Early>
     }
 }
 
-/// Works what was received, and gives the status and the text of the reply.
-fn work(
+/// Makes the call of a received request, and returns the status and the text of its reply.
+fn process(
     alloc: Global,
     portal: &mut Portal,
     tokens: &Tokens,
@@ -149,19 +150,20 @@ fn work(
     nonce: Nonce,
 ) -> Result<(u16, Seq<u8>), AllocError>
     ensures text { IfOk result (λ text. text
-        ≡ answer_text incoming.now (answered tokens.now portal.old moment nonce.0 incoming.now)) }
-    ensures state { OnOk result (portal.new ≡ (answered tokens.now portal.old moment nonce.0 incoming.now).state) }
+        ≡ answer_text incoming.now (outcome_of_incoming tokens.now portal.old moment nonce.0 incoming.now)) }
+    ensures state { OnOk result
+        (portal.new ≡ (outcome_of_incoming tokens.now portal.old moment nonce.0 incoming.now).state) }
     ensures stopped { OnErr result ((portal.new ≡ portal.old)
-        ⊎ (portal.new ≡ (answered tokens.now portal.old moment nonce.0 incoming.now).state)) }
+        ⊎ (portal.new ≡ (outcome_of_incoming tokens.now portal.old moment nonce.0 incoming.now).state)) }
 {
     let caller = tokens.caller(alloc, token_in(incoming))?;
-    let request = request_in(alloc, incoming);
+    let request = read_request(alloc, incoming);
     let drawn = Drawn {
         size: size_in(incoming),
         moment,
         nonce,
     };
-    let reply = replied(portal, caller, request, drawn)?;
+    let reply = reply_to_request(portal, caller, request, drawn)?;
     reply_text(alloc, Some(name_in(incoming)), &reply)
 }
 
@@ -169,17 +171,17 @@ fn work(
 fn write<K: Link>(link: &mut K, status: u16, text: &[u8]) -> Served
     requires phrase { IsSome (reason_phrase status) }
     ensures writes { Writes (status, text.now)
-        (link_sight (K.to_come link.old) (K.taken link.old) (K.faults link.old))
-        (link_sight (K.to_come link.new) (K.taken link.new) (K.faults link.new)) result }
+        (link_trace (K.to_come link.old) (K.taken link.old) (K.faults link.old))
+        (link_trace (K.to_come link.new) (K.taken link.new) (K.faults link.new)) result }
     ensures counts { K.faults link.old ≤ K.faults link.new }
 {
     match send(link, status, text) {
-        Ok(()) => Served::Replied(status),
+        Ok(()) => Served::RequestOutcome(status),
         Err(_failed) => Served::LinkFault,
     }
 }
 
-/// Works what was received, and writes the reply.
+/// Makes the call of a received request, and writes its reply.
 fn answer<K: Link>(
     alloc: Global,
     portal: &mut Portal,
@@ -189,12 +191,13 @@ fn answer<K: Link>(
     moment: Moment,
     nonce: Nonce,
 ) -> Served
-    ensures answers { Answers incoming.now (answered tokens.now portal.old moment nonce.0 incoming.now) portal.old
-        (link_sight (K.to_come link.old) (K.taken link.old) (K.faults link.old))
-        (link_sight (K.to_come link.new) (K.taken link.new) (K.faults link.new)) result portal.new }
+    ensures answers { Answers incoming.now
+        (outcome_of_incoming tokens.now portal.old moment nonce.0 incoming.now) portal.old
+        (link_trace (K.to_come link.old) (K.taken link.old) (K.faults link.old))
+        (link_trace (K.to_come link.new) (K.taken link.new) (K.faults link.new)) result portal.new }
     ensures counts { K.faults link.old ≤ K.faults link.new }
 {
-    match work(alloc, portal, tokens, incoming, moment, nonce) {
+    match process(alloc, portal, tokens, incoming, moment, nonce) {
         Ok((status, text)) => write(link, status, text.as_slice()),
         Err(_refused) => {
             let reply = memory_reply();
@@ -206,8 +209,8 @@ fn answer<K: Link>(
 /// Writes the reply to a fault, if it has one.
 fn answer_fault<K: Link>(link: &mut K, fault: FrontFault) -> Served
     ensures writes { fault ≢ FrontFault.LinkFault → WritesFault fault (fault_text fault)
-        (link_sight (K.to_come link.old) (K.taken link.old) (K.faults link.old))
-        (link_sight (K.to_come link.new) (K.taken link.new) (K.faults link.new)) result }
+        (link_trace (K.to_come link.old) (K.taken link.old) (K.faults link.old))
+        (link_trace (K.to_come link.new) (K.taken link.new) (K.faults link.new)) result }
     ensures failed { fault ≡ FrontFault.LinkFault → (result ≡ Served.LinkFault) × (link.new ≡ link.old) }
     ensures counts { K.faults link.old ≤ K.faults link.new }
 {
@@ -218,8 +221,8 @@ fn answer_fault<K: Link>(link: &mut K, fault: FrontFault) -> Served
     }
 }
 
-/// Reads one request off the link, works it as a call of its token's user with this moment and number, and writes the
-/// reply. Want of memory is told by the reply 507, whose bytes take none.
+/// Reads one request off the link, makes its call for the token's user with this moment and nonce, and writes the
+/// reply. Where memory runs out, the reply is 507, and its bytes take no memory.
 pub fn serve_link<K: Link>(
     alloc: Global,
     portal: &mut Portal,
@@ -229,8 +232,8 @@ pub fn serve_link<K: Link>(
     nonce: Nonce,
 ) -> Served
     ensures served { Serves tokens.now portal.old moment nonce.0
-        (link_sight (K.to_come link.old) (K.taken link.old) (K.faults link.old))
-        (link_sight (K.to_come link.new) (K.taken link.new) (K.faults link.new)) result portal.new }
+        (link_trace (K.to_come link.old) (K.taken link.old) (K.faults link.old))
+        (link_trace (K.to_come link.new) (K.taken link.new) (K.faults link.new)) result portal.new }
     ensures counts { K.faults link.old ≤ K.faults link.new }
 {
     match receive(alloc, link, is_reading) {

@@ -1,5 +1,5 @@
-//! What a script is played on: output, the clock and the numbers, as one value. A further device that lines pass
-//! through is a further field here.
+//! The devices of a script but its input, as one value: output, the clock and the nonces. A further device of the lines
+//! is a further field here.
 ghost use Rattle.std.specs.Prelude.{◌≡◌, ◌≤◌, OnOk, OnErr};
 ghost use Rattle.portal_base.specs.Outside.{Draws, Rose, Takes, TakesPrefix};
 ghost use Rattle.portal_serve.specs.Stage.{AreSameLoans};
@@ -9,8 +9,8 @@ use portal_base::nonce::Nonce;
 use portal_base::outside::{Clock, Failed, Nonces, Sink};
 use portal_lines::write::write_whole;
 
-/// The devices of a script but its input, as they were lent. Calls keep the loans, so that the lender's devices are as
-/// they left them.
+/// The devices of a script but its input, borrowed from their owner. Calls keep the loans, so that the owner finds the
+/// devices as the calls left them.
 #[derive(Drop)]
 pub struct Stage<'o, 'c, 'n, O: Sink, C: Clock, N: Nonces> {
     pub output: &'o mut O,
@@ -19,7 +19,7 @@ pub struct Stage<'o, 'c, 'n, O: Sink, C: Clock, N: Nonces> {
 }
 
 impl<O: Sink, C: Clock, N: Nonces> Stage<'_, '_, '_, O, C, N> {
-    /// Draws the moment and the number of a call.
+    /// Draws the moment and the nonce of a call.
     pub fn draw(&mut self) -> (Moment, Nonce)
         ensures moment { Draws (C.given self.old.clock.now) result.0 (C.given self.new.clock.now) }
         ensures nonce { Draws (N.given self.old.nonces.now) result.1.0 (N.given self.new.nonces.now) }
@@ -31,7 +31,7 @@ impl<O: Sink, C: Clock, N: Nonces> Stage<'_, '_, '_, O, C, N> {
         (moment, nonce)
     }
 
-    /// Writes all of the piece. After a fault output has taken some bytes from its front.
+    /// Writes all of the piece. After a fault output has taken some prefix of it.
     pub fn write(&mut self, piece: &[u8]) -> Result<(), Failed>
         ensures ok { OnOk result (Takes (O.taken self.old.output.now) piece.now (O.taken self.new.output.now)) }
         ensures failed { OnErr result (TakesPrefix (O.taken self.old.output.now) piece.now

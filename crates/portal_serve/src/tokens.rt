@@ -1,4 +1,4 @@
-//! Tokens, by which callers over HTTP are known. Only their digests are kept.
+//! Tokens, which identify callers over HTTP. Only their digests are kept.
 ghost use Rattle.std.specs.Prelude.{◌≡◌, IfOk, string_bytes};
 ghost use Rattle.std.specs.Option.{option_copied};
 ghost use Rattle.portal_serve.specs.Tokens.{caller_of_token, digest_of, user_of};
@@ -11,7 +11,7 @@ use sha2::{Digest, Sha256};
 use std::alloc::{AllocError, Global};
 use std::marker::Model;
 
-/// Users, each with the SHA-256 of a token in 64 lower-case hexadecimal digits. A contract sees it as the list of
+/// Users, each with the SHA-256 of a token in 64 lower-case hexadecimal digits. Its value in contracts is the list of
 /// these pairs.
 #[derive(Drop)]
 pub struct Tokens {
@@ -34,8 +34,8 @@ impl Tokens {
         Tokens { pairs }
     }
 
-    /// Who calls with the token: the first user whose digest is the SHA-256 of its bytes, and else nobody. `AllocError`
-    /// comes for want of memory alone.
+    /// The caller with the token: the first user whose digest is the SHA-256 of its bytes, else the anonymous caller.
+    /// `AllocError` comes only where memory runs out.
     pub fn caller(&self, alloc: Global, token: Option<&str>) -> Result<Caller, AllocError>
         ensures { IfOk result (λ caller. caller ≡ caller_of_token self.now (option_copied token.entry)) }
     {

@@ -8,7 +8,7 @@ use Rattle.org_roles.specs.declared.entry.User.{User}
 use Rattle.org_roles.specs.declared.entry.Membership.{Membership}
 use Rattle.org_roles.specs.declared.role.Role.{Role}
 use Rattle.org_roles.specs.declared.role.Role.TheVariants.{Member, Editor, Admin}
-use Rattle.org_roles.specs.Peopled.{Peopled}
+use Rattle.org_roles.specs.PeopleLists.{PeopleLists}
 use Rattle.packages.specs.declared.package.Package.{Package}
 use Rattle.packages.specs.declared.package.State.{State}
 use Rattle.packages.specs.declared.package.State.TheVariants.{Draft, Active, Deleted}
@@ -22,7 +22,7 @@ user name sysadmin = record { name = name; sysadmin = sysadmin }
 abbrev member : List ℕ → List ℕ → Role → Membership
 member org name role = record { org = org; user = name; role = role }
 
-abbrev people : Peopled
+abbrev people : PeopleLists
 people = record {
   users = user (codes "ann") false ∷ user (codes "bob") false ∷ user (codes "cyn") false ∷ user (codes "dan") false
       ∷ user (codes "eve") false ∷ user (codes "root") true ∷ [];
@@ -31,18 +31,18 @@ people = record {
       ∷ member (codes "city") (codes "cyn") Admin ∷ member (codes "lake") (codes "eve") Editor ∷ [];
 }
 
--- ann, bob, cyn, dan, eve, root and nobody
+-- ann, bob, cyn, dan, eve, root and an anonymous caller
 abbrev callers : List Caller
 callers =
     Named (codes "ann") ∷ Named (codes "bob") ∷ Named (codes "cyn") ∷ Named (codes "dan") ∷ Named (codes "eve")
     ∷ Named (codes "root")
     ∷ Anonymous ∷ []
 
--- who of them sees it
-abbrev sight : Package → List Bool
-sight dataset = map (λ caller. sees_in people caller dataset) callers
+-- for each of the callers, whether it sees the dataset
+abbrev viewers : Package → List Bool
+viewers dataset = map (λ caller. sees_in people caller dataset) callers
 
--- who of them edits it
+-- for each of the callers, whether it may edit the dataset
 abbrev editors : Package → List Bool
 editors dataset = map (λ caller. may_edit_in people caller dataset) callers
 
@@ -54,26 +54,26 @@ trees creator state private =
 abbrev harvested : State → Package
 harvested state = record (trees (codes "ann") state true) { source = codes "lake-catalogue" }
 
-public_seen : sight (trees (codes "ann") Active false) ≡ true ∷ true ∷ true ∷ true ∷ true ∷ true ∷ true ∷ []
+public_seen : viewers (trees (codes "ann") Active false) ≡ true ∷ true ∷ true ∷ true ∷ true ∷ true ∷ true ∷ []
 public_seen = refl
 
-private_seen : sight (trees (codes "ann") Active true) ≡ true ∷ true ∷ true ∷ false ∷ false ∷ true ∷ false ∷ []
+private_seen : viewers (trees (codes "ann") Active true) ≡ true ∷ true ∷ true ∷ false ∷ false ∷ true ∷ false ∷ []
 private_seen = refl
 
 -- Neither bob, a member, nor dan sees a draft of ann's.
-draft_seen : sight (trees (codes "ann") Draft false) ≡ true ∷ false ∷ true ∷ false ∷ false ∷ true ∷ false ∷ []
+draft_seen : viewers (trees (codes "ann") Draft false) ≡ true ∷ false ∷ true ∷ false ∷ false ∷ true ∷ false ∷ []
 draft_seen = refl
 
--- Its maker sees a draft, a mere member too.
-own_draft_seen : sight (trees (codes "bob") Draft true) ≡ true ∷ true ∷ true ∷ false ∷ false ∷ true ∷ false ∷ []
+-- The creator sees a draft, even if it is only a member.
+own_draft_seen : viewers (trees (codes "bob") Draft true) ≡ true ∷ true ∷ true ∷ false ∷ false ∷ true ∷ false ∷ []
 own_draft_seen = refl
 
--- Where nobody's name stands as its maker's, nobody sees a draft.
-draft_of_nobody_seen : sight (trees [] Draft false) ≡ true ∷ false ∷ true ∷ false ∷ false ∷ true ∷ false ∷ []
+-- If a draft's creator is the empty name, an anonymous caller doesn't see the draft.
+draft_of_nobody_seen : viewers (trees [] Draft false) ≡ true ∷ false ∷ true ∷ false ∷ false ∷ true ∷ false ∷ []
 draft_of_nobody_seen = refl
 
--- Its maker doesn't see a deleted dataset without the right to edit it.
-deleted_seen : sight (trees (codes "bob") Deleted false) ≡ true ∷ false ∷ true ∷ false ∷ false ∷ true ∷ false ∷ []
+-- The creator of a deleted dataset doesn't see it without the right to edit it.
+deleted_seen : viewers (trees (codes "bob") Deleted false) ≡ true ∷ false ∷ true ∷ false ∷ false ∷ true ∷ false ∷ []
 deleted_seen = refl
 
 edited : editors (trees (codes "bob") Active false) ≡ true ∷ false ∷ true ∷ false ∷ false ∷ true ∷ false ∷ []
@@ -82,8 +82,8 @@ edited = refl
 harvested_edited : editors (harvested Active) ≡ false ∷ false ∷ false ∷ false ∷ false ∷ false ∷ false ∷ []
 harvested_edited = refl
 
--- A harvested dataset that is deleted is seen by root alone.
-harvested_deleted_seen : sight (harvested Deleted) ≡ false ∷ false ∷ false ∷ false ∷ false ∷ true ∷ false ∷ []
+-- Only root sees a harvested dataset that is deleted.
+harvested_deleted_seen : viewers (harvested Deleted) ≡ false ∷ false ∷ false ∷ false ∷ false ∷ true ∷ false ∷ []
 harvested_deleted_seen = refl
 
 public_class : class_for (trees [] Active false) ≡ Public

@@ -1,5 +1,5 @@
-pub mod HeldLemmas
-pub mod Opening
-pub mod Viewing
+pub mod TableSummaryLemmas
+pub mod PublicLemmas
+pub mod ViewLemmas
 mod Examples
 pub mod VisibilityLemmas

@@ -1,4 +1,4 @@
-pub mod Held
-pub mod Seen
+pub mod TableSummary
+pub mod CallView
 pub mod View
 pub mod Visibility

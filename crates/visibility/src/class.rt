@@ -1,4 +1,4 @@
-//! The class of a dataset, by which it is counted and found for those it is open to.
+//! The class of a dataset: who, apart from sysadmins, sees it. Counts and searches go by classes.
 ghost use Rattle.std.specs.Prelude.{◌≡◌, IfOk};
 ghost use Rattle.visibility.specs.Visibility.{class_for};
 
@@ -7,19 +7,19 @@ use portal_base::copy::TryClone;
 use portal_base::text::Text;
 use std::alloc::{AllocError, Global};
 
-/// Whom a dataset is open to, beside the sysadmins.
+/// Who sees a dataset, apart from sysadmins.
 #[derive(Drop)]
 pub enum Class {
-    /// Everybody: the dataset is active and public.
+    /// Everybody: the dataset is active and not private.
     Public,
-    /// Those who have a role in the organization of that name: the dataset is active and private.
+    /// Whoever has a role in the organization with this name: the dataset is active and private.
     Inside(Text),
-    /// Those who edit in the organization of that name, and its maker, as `sees` has it: the dataset is a draft or
-    /// deleted.
+    /// Editors and admins of the organization with this name, by the rules of `sees`: the dataset is a draft or
+    /// deleted. The creator of a draft sees it too.
     Editing(Text),
 }
 
-/// The class of the dataset.
+/// The dataset's class. Fails only if no memory is left.
 pub fn class_of(alloc: Global, package: &Package) -> Result<Class, AllocError>
     ensures { IfOk result (λ class. class ≡ class_for «package».now) }
 {

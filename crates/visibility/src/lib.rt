@@ -1,9 +1,9 @@
 //! Who sees a dataset, who may edit it, and the class of a dataset.
 #![tactic(auto)]
 
-pub mod asked;
 pub mod class;
-pub mod held;
+pub mod context;
 pub mod laws;
-mod questions;
-pub mod sight;
+pub mod permissions;
+mod predicates;
+pub mod table_lookup;

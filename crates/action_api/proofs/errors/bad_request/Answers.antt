@@ -1,4 +1,4 @@
--- The message is the text that stands in the program.
+-- The message is a constant of the program.
 use Rattle.action_api.proofs.errors.bad_request.Goals as goal
 
 pub returns : goal.returns

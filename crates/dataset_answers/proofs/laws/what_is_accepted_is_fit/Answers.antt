@@ -20,10 +20,10 @@ pub returns-clause-dataset_purge : goal.returns-clause-dataset_purge
 returns-clause-dataset_purge c = purge_fit
 
 pub returns-clause-package_show : goal.returns-clause-package_show
-returns-clause-package_show c = λ seen held. show_only (IsFitDataset seen held) seen held
+returns-clause-package_show c = λ view summaries. show_only (IsFitDataset view summaries) view summaries
 
 pub returns-clause-package_list : goal.returns-clause-package_list
-returns-clause-package_list c = λ seen held. list_only (IsFitDataset seen held) seen
+returns-clause-package_list c = λ view summaries. list_only (IsFitDataset view summaries) view
 
 pub returns-clause-resource_create : goal.returns-clause-resource_create
 returns-clause-resource_create c = resource_create_fit
@@ -35,4 +35,4 @@ pub returns-clause-resource_delete : goal.returns-clause-resource_delete
 returns-clause-resource_delete c = resource_delete_fit
 
 pub returns-clause-resource_show : goal.returns-clause-resource_show
-returns-clause-resource_show c = λ seen held. resource_show_only (IsFitDataset seen held) seen held
+returns-clause-resource_show c = λ view summaries. resource_show_only (IsFitDataset view summaries) view summaries

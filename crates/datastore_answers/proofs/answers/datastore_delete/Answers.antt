@@ -1,21 +1,21 @@
 use Rattle.std.proofs.Common.{sym}
 use Rattle.std.specs.Prelude.{codes}
-use Rattle.packages.specs.Placing.{placed_now}
-use Rattle.visibility.specs.Seen.{seen_by}
-use Rattle.datastore_answers.specs.Answers.{deleting}
-use Rattle.datastore_answers.specs.Tables.{bare, tables_of}
+use Rattle.packages.specs.LocatedResource.{located_now}
+use Rattle.visibility.specs.CallView.{context_view}
+use Rattle.datastore_answers.specs.Answers.{delete_answer}
+use Rattle.datastore_answers.specs.Tables.{without_room, tables_of}
 use Rattle.datastore_answers.proofs.AnswerLemmas.{on-none, on-there}
 use Rattle.datastore_answers.proofs.answers.datastore_delete.Goals as goal
 
 pub returns-in_ok-answer-in-Some-clause-answer : goal.returns-in_ok-answer-in-Some-clause-answer
 returns-in_ok-answer-in-Some-clause-answer c =
-    let seen = seen_by c.args.asked.now in
-    on-there (codes "resource_id") seen (tables_of c.args.tables.now) (deleting seen) (placed_now c.in-Ok.placed)
-    (bare c.in-Some._table.now) _ (rw c.in-Ok.is at c.in_ok-placed.ensures) (sym c.in-Some.ensures.table)
+    let view = context_view c.args.context.now in
+    on-there (codes "resource_id") view (tables_of c.args.tables.now) (delete_answer view) (located_now c.in-Ok.placed)
+    (without_room c.in-Some._table.now) _ (rw c.in-Ok.is at c.in_ok-placed.ensures) (sym c.in-Some.ensures.table)
     c.in_ok-answer-in-Some.ensures.answer
 
 pub returns-in-None-clause-answer : goal.returns-in-None-clause-answer
 returns-in-None-clause-answer c =
-    let seen = seen_by c.args.asked.now in
-    on-none (codes "resource_id") seen (tables_of c.args.tables.now) (deleting seen) (placed_now c.in-Ok.placed)
+    let view = context_view c.args.context.now in
+    on-none (codes "resource_id") view (tables_of c.args.tables.now) (delete_answer view) (located_now c.in-Ok.placed)
     (rw c.in-Ok.is at c.in_ok-placed.ensures) (sym c.in-None.ensures.table)

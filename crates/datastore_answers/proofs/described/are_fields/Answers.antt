@@ -1,6 +1,6 @@
 use Rattle.std.proofs.Common.{sym, arith}
 use Rattle.std.proofs.lemmas.Bool.{false_from_ne_true}
-use Rattle.datastore_answers.proofs.MeantLemmas.{are_fields-length}
+use Rattle.datastore_answers.proofs.LengthLemmas.{are_fields-length}
 use Rattle.datastore_answers.proofs.described.are_fields.Goals as goal
 
 pub returns-then-fields-items : goal.returns-then-fields-items

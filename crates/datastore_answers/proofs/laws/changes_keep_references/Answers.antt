@@ -1,7 +1,7 @@
 use Rattle.std.proofs.Common.{[]}
 use Rattle.datastore_answers.proofs.DropLemmas.{drops-kept}
 use Rattle.datastore_answers.proofs.ChangeLemmas.{fit-kept}
-use Rattle.datastore_answers.proofs.HoldLemmas.{each-kept}
+use Rattle.datastore_answers.proofs.ReferenceLemmas.{each-kept}
 use Rattle.datastore_answers.proofs.laws.changes_keep_references.Goals as goal
 
 pub returns-clause-kept : goal.returns-clause-kept

@@ -15,4 +15,4 @@ pub returns-clause-datastore_delete_rows : goal.returns-clause-datastore_delete_
 returns-clause-datastore_delete_rows c = delete_rows_fit
 
 pub returns-clause-datastore_info : goal.returns-clause-datastore_info
-returns-clause-datastore_info c = λ seen tables. info_only (IsFitTable seen tables) seen tables
+returns-clause-datastore_info c = λ view tables. info_only (IsFitTable view tables) view tables

@@ -8,10 +8,10 @@ pub returns-clause-organization_list : goal.returns-clause-organization_list
 returns-clause-organization_list c = list-only (λ change. ⊥)
 
 pub returns-clause-organization_list_for_user : goal.returns-clause-organization_list_for_user
-returns-clause-organization_list_for_user c = λ seen. tt
+returns-clause-organization_list_for_user c = λ view. tt
 
 pub returns-clause-member_list : goal.returns-clause-member_list
 returns-clause-member_list c = members-only (λ change. ⊥)
 
 pub returns-clause-user_list : goal.returns-clause-user_list
-returns-clause-user_list c = λ seen. tt
+returns-clause-user_list c = λ view. tt

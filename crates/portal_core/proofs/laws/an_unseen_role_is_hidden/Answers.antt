@@ -1,4 +1,4 @@
--- So is the role, and the caller stands as before.
+-- So is the role, and the caller's own roles are as before.
 use Rattle.portal_core.proofs.Hiding.{role-hidden, former-role-hidden}
 use Rattle.portal_core.proofs.laws.an_unseen_role_is_hidden.Goals as goal
 

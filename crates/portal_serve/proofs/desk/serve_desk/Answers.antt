@@ -10,14 +10,14 @@ loop-init g c =
 
 pub returns-in-Ok-false-clause-served : goal.returns-in-Ok-false-clause-served
 returns-in-Ok-false-clause-served g c =
-    let more : suc c.loop.counter ≤ c.args.most = grind (arith, nat_tests, c.loop-test.true) in
+    let more : suc c.loop.counter ≤ c.args.limit = grind (arith, nat_tests, c.loop-test.true) in
     desk_ends _ _ _ _ _ _ _ _ _ _ c.serve_next.result
     (c.in-Ok-false.is ∙ ap (λ b. Ok b) c.in-Ok-false.field-0-test) more c.loop.invariant.served
     c.serve_next.ensures.next
 
 pub returns-in-Err-clause-served : goal.returns-in-Err-clause-served
 returns-in-Err-clause-served g c =
-    let more : suc c.loop.counter ≤ c.args.most = grind (arith, nat_tests, c.loop-test.true) in
+    let more : suc c.loop.counter ≤ c.args.limit = grind (arith, nat_tests, c.loop-test.true) in
     desk_fails _ _ _ _ _ _ _ _ _ _ _ more c.loop.invariant.counts c.loop.invariant.served c.in-Err.ensures.next
 
 pub loop-preserved : goal.loop-preserved
@@ -30,5 +30,5 @@ loop-preserved g c = record {
 
 pub returns-clause-served : goal.returns-clause-served
 returns-clause-served g c =
-    let full : c.loop.counter ≡ c.args.most = grind (arith, nat_tests, c.loop-test.false, c.loop.auto.counter-end) in
+    let full : c.loop.counter ≡ c.args.limit = grind (arith, nat_tests, c.loop-test.false, c.loop.auto.counter-end) in
     desk_is_full _ _ _ _ _ _ _ _ full c.loop.invariant.served

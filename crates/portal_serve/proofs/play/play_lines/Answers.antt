@@ -21,7 +21,7 @@ lines-preserved g c =
     let one_more = c.in-Ok-true.is ∙ ap Ok c.in-Ok-true.field-0-test in
     record {
       kept = keeps_turn _ _ _ _ _ _ _ _ c.lines.invariant.kept (c.play_next.ensures.more one_more)
-          c.play_next.ensures.longest c.play_next.ensures.most;
+          c.play_next.ensures.longest c.play_next.ensures.limit;
       reads = omega (arith, c.lines.invariant.reads, c.play_next.ensures.reads);
       writes = omega (arith, c.lines.invariant.writes, c.play_next.ensures.writes);
       loans = same_loans_on _ _ _ c.lines.invariant.loans c.play_next.ensures.loans;
@@ -30,7 +30,7 @@ lines-preserved g c =
 pub returns-in-Ok-false-clause-done : goal.returns-in-Ok-false-clause-done
 returns-in-Ok-false-clause-done g c =
     keeps_all _ _ _ _ _ _ _ _ c.lines.invariant.kept
-    (c.play_next.ensures.end (c.in-Ok-false.is ∙ ap Ok c.in-Ok-false.field-0-test)) c.play_next.ensures.most
+    (c.play_next.ensures.end (c.in-Ok-false.is ∙ ap Ok c.in-Ok-false.field-0-test)) c.play_next.ensures.limit
     c.in-Ok-false.ensures.within
 
 pub returns-in-Err-play_next-clause-cut : goal.returns-in-Err-play_next-clause-cut
@@ -43,18 +43,18 @@ returns-in-Err-play_next-clause-unended g c =
 
 pub returns-in-Ok-false-clause-too_long : goal.returns-in-Ok-false-clause-too_long
 returns-in-Ok-false-clause-too_long g c =
-    λ whole told.
+    λ whole observed.
     let all =
     keeps_all _ _ _ _ _ _ _ _ c.lines.invariant.kept
-    (c.play_next.ensures.end (c.in-Ok-false.is ∙ ap Ok c.in-Ok-false.field-0-test)) c.play_next.ensures.most
-    c.in-Ok-false.ensures.within whole told in
+    (c.play_next.ensures.end (c.in-Ok-false.is ∙ ap Ok c.in-Ok-false.field-0-test)) c.play_next.ensures.limit
+    c.in-Ok-false.ensures.within whole observed in
     (λ is. absurd (cc), λ gave. absurd (gave_within _ _ _ _ _ all gave))
 
 pub returns-in-Err-play_next-clause-too_long : goal.returns-in-Err-play_next-clause-too_long
 returns-in-Err-play_next-clause-too_long g c =
-    λ whole told.
+    λ whole observed.
     let much = gave_too_much _ _ _ _ _ _ _ _ _ c.lines.invariant.kept c.in-Err-play_next.ensures.cut
-    c.play_next.ensures.most whole told in (
+    c.play_next.ensures.limit whole observed in (
       λ is. much.0 (c.in-Err-play_next.ensures.too_long.0 (same_err _ _ is)),
       λ gave. same_err _ _
           (c.in-Err-play_next.ensures.too_long.1 (much.1 gave)),

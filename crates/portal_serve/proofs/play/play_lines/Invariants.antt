@@ -2,17 +2,17 @@ use Rattle.std.proofs.Common.{◌≤◌}
 use Rattle.portal_lines.specs.Lines.{bytes_left}
 use Rattle.portal_serve.proofs.Playing.{Keeps}
 use Rattle.portal_serve.specs.Run.{with_input}
-use Rattle.portal_serve.specs.Stage.{AreSameLoans, told_on}
+use Rattle.portal_serve.specs.Stage.{AreSameLoans, trace_of}
 use Rattle.portal_serve.proofs.play.play_lines.Given as goal
 
--- what the lines so far did, that no count of faults fell, and that the devices are those that were lent
+-- what the lines so far did, that no count of faults fell, and that the devices are those that were borrowed
 abbrev pub invariant-lines : goal.invariant-lines
 invariant-lines g l = record {
   kept : Keeps l.fn.portal
       (with_input (g.S.Source.to_come l.fn.input)
-      (told_on g.O.Sink.taken g.C.Clock.given g.N.Nonces.given l.fn.stage))
+      (trace_of g.O.Sink.taken g.C.Clock.given g.N.Nonces.given l.fn.stage))
       (with_input (g.S.Source.to_come l.input)
-      (told_on g.O.Sink.taken g.C.Clock.given g.N.Nonces.given l.stage)) l.portal l.reader;
+      (trace_of g.O.Sink.taken g.C.Clock.given g.N.Nonces.given l.stage)) l.portal l.reader;
   reads : g.S.Source.faults l.fn.input ≤ g.S.Source.faults l.input;
   writes : g.O.Sink.faults l.fn.stage.output.now ≤ g.O.Sink.faults l.stage.output.now;
   loans : AreSameLoans l.fn.stage l.stage;

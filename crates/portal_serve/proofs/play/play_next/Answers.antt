@@ -1,6 +1,7 @@
--- The line that was taken is the one that was worked; what stopped work on it stopped the turn.
+-- The line that was taken is the one that was processed. What stopped processing it stopped the turn.
 use Rattle.std.proofs.Common.{◌<◌, refl, ap, subst, Ok, Err, ◌∙◌, length}
-use Rattle.portal_serve.proofs.Working.{works_too_long, works_lines, stops_in_writing, begins_no_line, begun_in_line}
+use Rattle.portal_serve.proofs.Working.{processes_too_long, processes_lines, stops_in_writing, begins_no_line}
+use Rattle.portal_serve.proofs.Working.{begun_in_line}
 use Rattle.portal_serve.proofs.Working.{stops_same_line, DrawsAll-same}
 use Rattle.portal_serve.proofs.Playing.{stops_turn, stops_between, fails_between, read_failed}
 use Rattle.portal_serve.specs.declared.script.TheConstants.{LONGEST_LINE}
@@ -19,7 +20,7 @@ returns-in-Ok-write_early-clause-more g c =
     λ more. record {
       line = skips.0;
       takes = skips.1;
-      works = works_lines _ _ _ _ _ _ _ _ (works_too_long _ skips.0 long)
+      processes = processes_lines _ _ _ _ _ _ _ _ (processes_too_long _ skips.0 long)
           (DrawsAll-same _ _ (ap g.C.Clock.given c.in-Ok-write_early.ensures.clock))
           (DrawsAll-same _ _ (ap g.N.Nonces.given c.in-Ok-write_early.ensures.nonces)) c.in-Ok-write_early.ensures.ok;
     }
@@ -29,7 +30,7 @@ returns-in-Err-write_early-clause-cut g c =
     let skips = c.next.ensures.long (c.in-Ok-TooLong.is ∙ ap Ok c.in-Ok-TooLong.field-0-is) in
     let long : LONGEST_LINE < length skips.0 = subst (λ n. n < length skips.0) c.requires skips.2 in
     stops_turn _ _ _ _ _ _ _ skips.0 skips.1 (begun_in_line _ c.in-Err-write_early.ensures.stop)
-    (stops_in_writing _ _ _ _ _ _ _ _ (works_too_long _ skips.0 long)
+    (stops_in_writing _ _ _ _ _ _ _ _ (processes_too_long _ skips.0 long)
     (DrawsAll-same _ _ (ap g.C.Clock.given c.in-Err-write_early.ensures.clock))
     (DrawsAll-same _ _ (ap g.N.Nonces.given c.in-Err-write_early.ensures.nonces)) c.in-Err-write_early.ensures.failed)
 

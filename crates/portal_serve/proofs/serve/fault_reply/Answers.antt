@@ -1,4 +1,4 @@
--- Each text stands in the program as it is written.
+-- Each text is a constant of the program.
 use Rattle.std.proofs.Common.{ap, sym, ◌∙◌}
 use Rattle.portal_serve.proofs.Serving.{head_text_is, length_text_is, body_text_is, page_text_is, method_text_is}
 use Rattle.portal_serve.proofs.Serving.{reply_with}

@@ -1,4 +1,4 @@
--- The text stands in the program as it is written.
+-- The text is a constant of the program.
 use Rattle.std.proofs.Common.{ap}
 use Rattle.portal_serve.proofs.Serving.{memory_text_is}
 use Rattle.portal_serve.proofs.serve.memory_reply.Goals as goal

@@ -4,9 +4,9 @@ use Rattle.datastore_answers.specs.Linked.{alone, link_checked}
 use Rattle.datastore_answers.specs.Tables.{tables_in, tables_of}
 use Rattle.datastore_answers.proofs.tables.Tables.check_links.Given as goal
 
-abbrev pub invariant-loop-place : goal.invariant-loop-place
-invariant-loop-place l =
+abbrev pub invariant-loop-index : goal.invariant-loop-index
+invariant-loop-index l =
     in_turn (link_checked (tables_in l.table.address.dataset (tables_of l.self)) l.table (alone l.batch.work)) 0
     l.table.table.schema.foreign tt
     ≡ in_turn (link_checked (tables_in l.table.address.dataset (tables_of l.self)) l.table (alone l.batch.work))
-    l.place (drop l.place l.table.table.schema.foreign) tt
+    l.index (drop l.index l.table.table.schema.foreign) tt

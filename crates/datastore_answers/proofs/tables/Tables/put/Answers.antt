@@ -6,17 +6,18 @@ use Rattle.datastore_table.specs.Put.{put_records}
 use Rattle.datastore_answers.specs.Changed.{put_into, with_table_at}
 use Rattle.datastore_answers.specs.Tables.{Stored, tables_of}
 use Rattle.datastore_answers.specs.declared.resource_table.ResourceTable.{ResourceTable}
-use Rattle.datastore_answers.proofs.TableLemmas.{IsAscending-set, bare-put, read-there, there-at, with_table_at-set}
+use Rattle.datastore_answers.proofs.TableLemmas.{IsAscending-set, without_room-put, read-there, there-at}
+use Rattle.datastore_answers.proofs.TableLemmas.{with_table_at-set}
 use Rattle.datastore_answers.proofs.tables.Tables.put.Goals as goal
 
 pub commit-requires : goal.commit-requires
 commit-requires c =
     let ts = c.self.inside.tables.items in
-    let stands = rw (← c.self.view_is) at c.requires.ready.stands in
-    let there = rw c.as_slice.ensures.value at c.in-Some.ensures.place in
+    let exists = rw (← c.self.view_is) at c.requires.ready.exists in
+    let there = rw c.as_slice.ensures.value at c.in-Some.ensures.index in
     let within = rw c.as_slice.ensures.value at c.in-Some.ensures.within in
     let same : c.index_mut-table.result.now ≡ c.requires.ready.table =
-    read-there c.args.address.now ts c.in-Some.place c.requires.ready.table c.index_mut-table.result.now stands there
+    read-there c.args.address.now ts c.in-Some.index c.requires.ready.table c.index_mut-table.result.now exists there
     within c.index_mut-table.ensures.value in
     subst (λ (t : ResourceTable). IsReady c.args.batch t.table) (sym same) c.requires.ready.ready
 
@@ -25,29 +26,29 @@ invariant_of-self c =
     let ts = c.self.inside.tables.items in
     let t = c.index_mut-table.result.now in
     let within = rw c.as_slice.ensures.value at c.in-Some.ensures.within in
-    let got : slice_get ts c.in-Some.place ≡ Some t =
-    slice_get-get_or ts c.in-Some.place t within ∙ ap Some (sym c.index_mut-table.ensures.value) in
-    IsAscending-set t (record t { table = c.commit.new.self }) ts c.in-Some.place c.self.invariant got refl
+    let got : slice_get ts c.in-Some.index ≡ Some t =
+    slice_get-get_or ts c.in-Some.index t within ∙ ap Some (sym c.index_mut-table.ensures.value) in
+    IsAscending-set t (record t { table = c.commit.new.self }) ts c.in-Some.index c.self.invariant got refl
 
 pub returns : goal.returns
 returns c =
     let ts = c.self.inside.tables.items in
     let t = c.index_mut-table.result.now in
-    let stands = rw (← c.self.view_is) at c.requires.ready.stands in
-    let there = rw c.as_slice.ensures.value at c.in-Some.ensures.place in
+    let exists = rw (← c.self.view_is) at c.requires.ready.exists in
+    let there = rw c.as_slice.ensures.value at c.in-Some.ensures.index in
     let within = rw c.as_slice.ensures.value at c.in-Some.ensures.within in
     let same : t ≡ c.requires.ready.table =
-    read-there c.args.address.now ts c.in-Some.place c.requires.ready.table t stands there within
+    read-there c.args.address.now ts c.in-Some.index c.requires.ready.table t exists there within
     c.index_mut-table.ensures.value in
-    let got : slice_get ts c.in-Some.place ≡ Some t =
-    slice_get-get_or ts c.in-Some.place t within ∙ ap Some (sym c.index_mut-table.ensures.value) in
+    let got : slice_get ts c.in-Some.index ≡ Some t =
+    slice_get-get_or ts c.in-Some.index t within ∙ ap Some (sym c.index_mut-table.ensures.value) in
     let made : put_records c.args._method c.args._records.now t.table ≡ Ok (worked_on t.table.rows c.args.batch.work) =
     subst (λ (u : ResourceTable). put_records c.args._method c.args._records.now u.table
     ≡ Ok (worked_on u.table.rows c.args.batch.work)) (sym same) c.requires.ready.made in
     with_table_at-set c.args.address.now (put_into c.args._method c.args._records.now) t
-    (record t { table = c.commit.new.self }) ts c.in-Some.place c.self.invariant got
-    (there-at c.args.address.now ts t (stands ∙ ap Some (sym same)))
-    (bare-put t c.args._method c.args._records.now c.args.batch.work c.commit.new.self c.commit.ensures.rows
+    (record t { table = c.commit.new.self }) ts c.in-Some.index c.self.invariant got
+    (there-at c.args.address.now ts t (exists ∙ ap Some (sym same)))
+    (without_room-put t c.args._method c.args._records.now c.args.batch.work c.commit.new.self c.commit.ensures.rows
     c.commit.ensures.next_id c.commit.ensures.schema made)
     ∙ ap (λ (s : Stored). with_table_at c.args.address.now (put_into c.args._method c.args._records.now) (tables_of s))
     c.self.view_is

@@ -2,16 +2,16 @@ use Rattle.std.proofs.Common.{◌≡◌, ◌∙◌, ap, sym, Some, Err, subst, R
 use Rattle.std.specs.Prelude.{IfErr, slice_get}
 use Rattle.std.proofs.lemmas.Option.{slice_get-get_or}
 use Rattle.portal_base.specs.Ordered.{found}
-use Rattle.datastore_table.specs.Batch.{cut_checked}
+use Rattle.datastore_table.specs.Batch.{delete_checked}
 use Rattle.datastore_table.specs.declared.fault.TableFault.{TableFault}
 use Rattle.datastore_table.specs.declared.fault.TableFault.TheVariants.{OutOfMemory}
 use Rattle.datastore_answers.specs.Order.{at_address, is_at}
-use Rattle.datastore_answers.specs.Spared.{cut_own}
+use Rattle.datastore_answers.specs.Restrict.{delete_own}
 use Rattle.datastore_answers.specs.Tables.{Stored, tables_of}
 use Rattle.datastore_answers.specs.declared.address.Address.{Address}
 use Rattle.datastore_answers.specs.declared.resource_table.ResourceTable.{ResourceTable}
-use Rattle.datastore_answers.proofs.SpareLemmas.{removal-at}
-use Rattle.datastore_answers.proofs.TableLemmas.{IsAscending-set, bare-set, found-set, there-at}
+use Rattle.datastore_answers.proofs.RestrictLemmas.{removal-at}
+use Rattle.datastore_answers.proofs.TableLemmas.{IsAscending-set, without_room-set, found-set, there-at}
 use Rattle.datastore_answers.proofs.tables.Tables.removal_at.Goals as goal
 
 pub invariant_of-self : goal.invariant_of-self
@@ -19,9 +19,9 @@ invariant_of-self c =
     let ts = c.self.inside.tables.items in
     let t = c.index_mut.result.now in
     let within = rw c.as_slice.ensures.value at c.in-Some.ensures.within in
-    let got : slice_get ts c.in-Some.place ≡ Some t =
-    slice_get-get_or ts c.in-Some.place t within ∙ ap Some (sym c.index_mut.ensures.value) in
-    IsAscending-set t c.prepared_removal.new.table ts c.in-Some.place c.self.invariant got
+    let got : slice_get ts c.in-Some.index ≡ Some t =
+    slice_get-get_or ts c.in-Some.index t within ∙ ap Some (sym c.index_mut.ensures.value) in
+    IsAscending-set t c.prepared_removal.new.table ts c.in-Some.index c.self.invariant got
     (ap (λ (u : ResourceTable). u.address) c.prepared_removal.ensures.same)
 
 pub returns-clause-same : goal.returns-clause-same
@@ -29,9 +29,9 @@ returns-clause-same c =
     let ts = c.self.inside.tables.items in
     let t = c.index_mut.result.now in
     let within = rw c.as_slice.ensures.value at c.in-Some.ensures.within in
-    let got : slice_get ts c.in-Some.place ≡ Some t =
-    slice_get-get_or ts c.in-Some.place t within ∙ ap Some (sym c.index_mut.ensures.value) in
-    bare-set t c.prepared_removal.new.table ts c.in-Some.place got c.prepared_removal.ensures.same
+    let got : slice_get ts c.in-Some.index ≡ Some t =
+    slice_get-get_or ts c.in-Some.index t within ∙ ap Some (sym c.index_mut.ensures.value) in
+    without_room-set t c.prepared_removal.new.table ts c.in-Some.index got c.prepared_removal.ensures.same
     ∙ ap tables_of c.self.view_is
 
 pub returns-clause-removal : goal.returns-clause-removal
@@ -41,14 +41,14 @@ returns-clause-removal c =
     let u = c.prepared_removal.new.table in
     let address : Address = record { dataset = c.args.dataset.now; number = c.args.number } in
     let within = rw c.as_slice.ensures.value at c.in-Some.ensures.within in
-    let there = rw c.as_slice.ensures.value at c.in-Some.ensures.place in
-    let got : slice_get ts c.in-Some.place ≡ Some t =
-    slice_get-get_or ts c.in-Some.place t within ∙ ap Some (sym c.index_mut.ensures.value) in
+    let there = rw c.as_slice.ensures.value at c.in-Some.ensures.index in
+    let got : slice_get ts c.in-Some.index ≡ Some t =
+    slice_get-get_or ts c.in-Some.index t within ∙ ap Some (sym c.index_mut.ensures.value) in
     let here : is_at address t ≡ _ = there-at address ts t (there ∙ got) in
-    let stands = found-set address t u ts c.in-Some.place c.self.invariant got here
+    let exists = found-set address t u ts c.in-Some.index c.self.invariant got here
     (ap (λ (w : ResourceTable). is_at address w) c.prepared_removal.ensures.same ∙ here) in
-    removal-at c.prepared_removal.result address c.args.ids.now u _ stands c.prepared_removal.ensures.ids
-    c.prepared_removal.ensures.keys c.prepared_removal.ensures.spared
+    removal-at c.prepared_removal.result address c.args.ids.now u _ exists c.prepared_removal.ensures.ids
+    c.prepared_removal.ensures.keys c.prepared_removal.ensures.keeps_references
 
 pub returns-clause-fault : goal.returns-clause-fault
 returns-clause-fault c =
@@ -57,13 +57,13 @@ returns-clause-fault c =
     let u = c.prepared_removal.new.table in
     let address : Address = record { dataset = c.args.dataset.now; number = c.args.number } in
     let within = rw c.as_slice.ensures.value at c.in-Some.ensures.within in
-    let there = rw c.as_slice.ensures.value at c.in-Some.ensures.place in
-    let got : slice_get ts c.in-Some.place ≡ Some t =
-    slice_get-get_or ts c.in-Some.place t within ∙ ap Some (sym c.index_mut.ensures.value) in
-    let own : cut_checked c.args.ids.now u.table
-    ≡ cut_own c.args.ids.now (found (at_address address) c.args.self.now.tables) =
-    ap (λ (w : ResourceTable). cut_checked c.args.ids.now w.table) c.prepared_removal.ensures.same
-    ∙ ap (cut_own c.args.ids.now) (sym (there ∙ got))
-    ∙ ap (λ (s : Stored). cut_own c.args.ids.now (found (at_address address) s.tables)) c.self.view_is in
+    let there = rw c.as_slice.ensures.value at c.in-Some.ensures.index in
+    let got : slice_get ts c.in-Some.index ≡ Some t =
+    slice_get-get_or ts c.in-Some.index t within ∙ ap Some (sym c.index_mut.ensures.value) in
+    let own : delete_checked c.args.ids.now u.table
+    ≡ delete_own c.args.ids.now (found (at_address address) c.args.self.now.tables) =
+    ap (λ (w : ResourceTable). delete_checked c.args.ids.now w.table) c.prepared_removal.ensures.same
+    ∙ ap (delete_own c.args.ids.now) (sym (there ∙ got))
+    ∙ ap (λ (s : Stored). delete_own c.args.ids.now (found (at_address address) s.tables)) c.self.view_is in
     subst (λ (r : Result (Unit {0}) TableFault). IfErr c.prepared_removal.result
     (λ why. (why ≡ OutOfMemory) ⊎ (r ≡ Err why))) own c.prepared_removal.ensures.fault

@@ -1,5 +1,0 @@
--- The message is the text that stands in the program.
-use Rattle.action_api.proofs.errors.want_of_memory.Goals as goal
-
-pub returns : goal.returns
-returns c = rw c.from_static.ensures at c.error_json.ensures

@@ -1,0 +1,11 @@
+-- The pieces are those of the dictionary's text.
+use Rattle.std.proofs.Common.{◌≡◌, ◌∙◌, subst, IfOk, string_bytes}
+use Rattle.action_api.proofs.Texts.{failure_texts}
+use Rattle.action_api.proofs.reply.render_failure.Goals as goal
+
+pub returns : goal.returns
+returns c =
+    subst (λ pieces. IfOk c.format.result (λ text. string_bytes text ≡ pieces))
+    (failure_texts c.args.help c.args.error c.as_str-help.result.now c.as_str-error.result.now
+    (c.as_str-help.ensures ∙ c.in_ok-help.ensures.text) (c.as_str-error.ensures ∙ c.in_ok-error.ensures.text))
+    c.format.ensures.ok

@@ -1,0 +1,263 @@
+//! The bodies of calls on datasets and resources: their errors, and the datasets that they describe. Each key is read
+//! once for its error and once for its value.
+ghost use Rattle.std.specs.Prelude.{◌≡◌, ◌<◌, IfOk, OnOk, [], codes, length};
+ghost use Rattle.std.specs.Option.{option_copied};
+ghost use Rattle.portal_base.specs.KeyErrors.{found_value, kind_message, error_if};
+ghost use Rattle.portal_base.specs.Kinds.{count_at};
+ghost use Rattle.visibility.specs.CallView.{context_view};
+ghost use Rattle.dataset_answers.specs.Bodies.{organization_given, organization_error, dataset_errors, caller_name};
+ghost use Rattle.dataset_answers.specs.Bodies.{lost_table_error, change_errors};
+ghost use Rattle.dataset_answers.specs.Bodies.{created_dataset, changed_dataset, deleted_dataset, new_resource_errors};
+ghost use Rattle.dataset_answers.specs.Bodies.{with_new_resource, with_resource_at, without_resource_at};
+
+use org_roles::entry::Org;
+use packages::build;
+use packages::errors::{add_error, message_unless};
+use packages::package::{Package, Resource, State};
+use packages::resources::resource_errors;
+use packages::texts::text_given;
+use portal_base::caller::Caller;
+use portal_base::copy::TryClone;
+use portal_base::json_value::Json;
+use portal_base::key_errors::KeyErrors;
+use portal_base::kinds::count_at;
+use portal_base::nonce::id_of;
+use portal_base::seq::Seq;
+use portal_base::text::Text;
+use portal_calls::call::Call;
+use std::alloc::{AllocError, Global};
+use std::mem;
+use visibility::context::CallContext;
+use visibility::table_lookup::TableLookup;
+
+/// The most resources of a dataset.
+const MAX_RESOURCES: usize = 200;
+
+// ---- numbers
+
+/// Reads the number at a key, and adds its error.
+pub fn read_count(
+    alloc: Global,
+    faults: &mut KeyErrors,
+    body: &Json,
+    key: &'static str,
+) -> Result<Option<u128>, AllocError>
+    ensures count { IfOk result (λ count. count ≡ found_value (count_at key.now body.now)) }
+    ensures errors { OnOk result
+        (faults.new ≡ error_if key.now (kind_message (count_at key.now body.now)) faults.old) }
+{
+    match count_at(body, key) {
+        Ok(count) => Ok(count),
+        Err(fault) => {
+            faults.add_error(Text::from_static(key), fault.message(alloc)?)?;
+            Ok(None)
+        }
+    }
+}
+
+// ---- the errors of a dataset's body
+
+/// The organization that the body gives for a dataset, if it exists.
+pub fn organization_given<'a>(context: &CallContext<'a>) -> Option<&'a Org>
+    ensures { option_copied result
+        ≡ organization_given (context_view context.now).people context.now.call.now.request.body }
+{
+    match text_given(&context.call.request.body, "owner_org") {
+        Some(name) => context.org(name),
+        None => None,
+    }
+}
+
+/// The error of an organization that doesn't exist.
+fn organization_error(context: &CallContext<'_>) -> Option<Text>
+    ensures { result ≡ organization_error (context_view context.now).people context.now.call.now.request.body }
+{
+    let Some(name) = text_given(&context.call.request.body, "owner_org") else {
+        return None;
+    };
+    if context.org(name).is_some() {
+        None
+    } else {
+        Some(Text::from_static("Organization does not exist"))
+    }
+}
+
+/// The errors of a dataset's body: for a new dataset, or for a change of `old`. An organization that doesn't exist
+/// precedes the other errors of its key.
+pub fn dataset_errors(
+    alloc: Global,
+    context: &CallContext<'_>,
+    old: Option<&Package>,
+) -> Result<KeyErrors, AllocError>
+    ensures { IfOk result (λ faults. faults
+        ≡ dataset_errors (context_view context.now).people context.now.call.now.request.body (option_copied old.entry)) }
+{
+    let mut faults = KeyErrors::new(alloc);
+    if let Some(message) = organization_error(context) {
+        faults.add_error(Text::from_static("owner_org"), message)?;
+    }
+    let others = build::body_errors(alloc, &context.call.request.body, old)?;
+    faults.add_errors(others.into_list())?;
+    Ok(faults)
+}
+
+/// The error if a table that stays refers to one that is removed.
+pub fn lost_table_error<H: TableLookup>(tables: &H, changed: &Package) -> Option<Text>
+    ensures { result ≡ lost_table_error (H.summaries tables.now) changed.now }
+{
+    let is_lost = tables.breaks_references(&changed.id, changed.resources.as_slice());
+    message_unless(!is_lost, "A table of another resource refers to it")
+}
+
+/// The errors of a body that changes `dataset` to `changed`. The other errors of the key `resources` precede that of a
+/// removed table.
+pub fn change_errors<H: TableLookup>(
+    alloc: Global,
+    context: &CallContext<'_>,
+    tables: &H,
+    dataset: &Package,
+    changed: &Package,
+) -> Result<KeyErrors, AllocError>
+    ensures { IfOk result (λ faults. faults ≡ change_errors (context_view context.now).people (H.summaries tables.now)
+        context.now.call.now.request.body dataset.now changed.now) }
+{
+    let mut faults = dataset_errors(alloc, context, Some(dataset))?;
+    add_error(&mut faults, "resources", lost_table_error(tables, changed))?;
+    Ok(faults)
+}
+
+/// The errors of the deletion of a resource, which changes its dataset to `changed`.
+pub fn deletion_errors<H: TableLookup>(
+    alloc: Global,
+    tables: &H,
+    changed: &Package,
+) -> Result<KeyErrors, AllocError>
+    ensures { IfOk result (λ faults. faults
+        ≡ error_if (codes "id") (lost_table_error (H.summaries tables.now) changed.now) []) }
+{
+    let mut faults = KeyErrors::new(alloc);
+    add_error(&mut faults, "id", lost_table_error(tables, changed))?;
+    Ok(faults)
+}
+
+// ---- the datasets of calls
+
+fn name_of_caller(alloc: Global, caller: &Caller) -> Result<Text, AllocError>
+    ensures { IfOk result (λ name. name ≡ caller_name caller.now) }
+{
+    match caller {
+        Caller::Anonymous => Ok(Text::new(alloc)),
+        Caller::Named(user) => user.try_clone(alloc),
+    }
+}
+
+/// The new dataset that a call describes.
+pub fn created_dataset(alloc: Global, call: &Call) -> Result<Package, AllocError>
+    ensures { IfOk result (λ dataset. dataset ≡ created_dataset call.now) }
+{
+    let mut dataset = build::built_dataset(alloc, &call.request.body, None, true)?;
+    dataset.id = id_of(alloc, call.nonce)?;
+    dataset.creator = name_of_caller(alloc, &call.caller)?;
+    dataset.created = call.moment;
+    dataset.modified = call.moment;
+    Ok(dataset)
+}
+
+/// The dataset with the changes of a call. With `whole` absent keys take their defaults, and without it they keep their
+/// values.
+pub fn changed_dataset(
+    alloc: Global,
+    call: &Call,
+    whole: bool,
+    dataset: &Package,
+) -> Result<Package, AllocError>
+    ensures { IfOk result (λ changed. changed ≡ changed_dataset call.now whole dataset.now) }
+{
+    let mut changed = build::built_dataset(alloc, &call.request.body, Some(dataset), whole)?;
+    changed.modified = call.moment;
+    Ok(changed)
+}
+
+/// The dataset after its deletion.
+pub fn deleted_dataset(alloc: Global, call: &Call, dataset: &Package) -> Result<Package, AllocError>
+    ensures { IfOk result (λ deleted. deleted ≡ deleted_dataset call.now dataset.now) }
+{
+    let mut deleted = dataset.try_clone(alloc)?;
+    deleted.state = State::Deleted;
+    deleted.modified = call.moment;
+    Ok(deleted)
+}
+
+// ---- the resources of calls
+
+/// The errors of the body of one more resource of the dataset.
+pub fn new_resource_errors(
+    alloc: Global,
+    dataset: &Package,
+    body: &Json,
+) -> Result<KeyErrors, AllocError>
+    ensures { IfOk result (λ faults. faults ≡ new_resource_errors dataset.now body.now) }
+{
+    let mut faults = resource_errors(alloc, body)?;
+    if dataset.resources.len() >= MAX_RESOURCES {
+        let message = Text::from_static("More than 200 resources");
+        faults.add_error(Text::from_static("package_id"), message)?;
+    }
+    Ok(faults)
+}
+
+/// The dataset with one more resource, which has the next number. If the next number exceeds its type's range, that
+/// counts as out of memory.
+pub fn with_new_resource(
+    alloc: Global,
+    call: &Call,
+    dataset: &Package,
+    resource: Resource,
+) -> Result<Package, AllocError>
+    ensures { IfOk result (λ changed. changed ≡ with_new_resource call.now dataset.now resource) }
+{
+    let mut changed = dataset.try_clone(alloc)?;
+    changed.next_resource = dataset.next_resource.checked_add(1).ok_or(AllocError)?;
+    changed.modified = call.moment;
+    match changed.resources.push(resource) {
+        Ok(()) => Ok(changed),
+        Err(_) => Err(AllocError),
+    }
+}
+
+/// The dataset with this resource at the position.
+pub fn with_resource_at(
+    alloc: Global,
+    call: &Call,
+    dataset: &Package,
+    position: usize,
+    resource: Resource,
+) -> Result<Package, AllocError>
+    requires { position < length dataset.now.resources }
+    ensures { IfOk result (λ changed. changed ≡ with_resource_at call.now dataset.now position resource) }
+{
+    let mut changed = dataset.try_clone(alloc)?;
+    let mut resources = mem::replace(&mut changed.resources, Seq::new(alloc)).into_vec();
+    resources[position] = resource;
+    changed.resources = Seq::from(resources);
+    changed.modified = call.moment;
+    Ok(changed)
+}
+
+/// The dataset without the resource at the position.
+pub fn without_resource_at(
+    alloc: Global,
+    call: &Call,
+    dataset: &Package,
+    position: usize,
+) -> Result<Package, AllocError>
+    requires { position < length dataset.now.resources }
+    ensures { IfOk result (λ changed. changed ≡ without_resource_at call.now dataset.now position) }
+{
+    let mut changed = dataset.try_clone(alloc)?;
+    let mut resources = mem::replace(&mut changed.resources, Seq::new(alloc)).into_vec();
+    let _gone = resources.remove(position);
+    changed.resources = Seq::from(resources);
+    changed.modified = call.moment;
+    Ok(changed)
+}

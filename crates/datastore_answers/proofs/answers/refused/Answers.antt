@@ -1,7 +1,0 @@
-use Rattle.std.proofs.Common.{◌∙◌, sym}
-use Rattle.datastore_answers.proofs.ToldLemmas.{undenied}
-use Rattle.datastore_answers.proofs.answers.refused.Goals as goal
-
-pub unreachable-requires : goal.unreachable-requires
-unreachable-requires c =
-    c.requires (undenied c.args.quota c.args.faults (sym c.in_ok-denial.ensures ∙ c.in-None.is))

@@ -1,0 +1,51 @@
+//! Events of a portal and the replies to them.
+ghost use Rattle.std.specs.Prelude.{◌≡◌};
+ghost use Rattle.portal_calls.specs.Reply.{refusal_of};
+
+use crate::answer::{Denial, Kind, Right};
+use crate::call::Call;
+use portal_base::json_value::Json;
+use portal_base::seq::Seq;
+use portal_base::text::Text;
+
+/// An event of a portal.
+#[derive(Drop)]
+pub enum Event {
+    Call(Call),
+}
+
+/// Why a call was refused.
+#[derive(Drop)]
+pub enum Refusal {
+    /// No such thing is among what the caller sees.
+    NotFound(Kind),
+    /// The caller sees the thing, and lacks the right.
+    NotAuthorized(Right),
+    /// The body breaks rules: each key with its message, ascending by key.
+    Validation(Seq<(Text, Text)>),
+    /// The value at this key, `name` or `id`, is in use. Everything else accepts the call.
+    NameInUse(Text),
+    /// Memory ran out, and the portal is as before.
+    OutOfMemory,
+}
+
+/// The reply to a call.
+#[derive(Drop)]
+pub enum Reply {
+    /// The change was made. The value shows what it made.
+    Accepted(Json),
+    /// The value that a reading call asks for.
+    Shown(Json),
+    Refused(Refusal),
+}
+
+/// A denial as the refusal of a reply.
+pub fn refusal_of(denial: Denial) -> Refusal
+    ensures { result ≡ refusal_of denial }
+{
+    match denial {
+        Denial::NotFound(kind) => Refusal::NotFound(kind),
+        Denial::NotAuthorized(right) => Refusal::NotAuthorized(right),
+        Denial::Validation(faults) => Refusal::Validation(faults),
+    }
+}

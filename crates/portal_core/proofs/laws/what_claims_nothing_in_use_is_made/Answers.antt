@@ -1,6 +1,0 @@
--- By what the answer is.
-use Rattle.portal_core.proofs.Settling.{unused-made}
-use Rattle.portal_core.proofs.laws.what_claims_nothing_in_use_is_made.Goals as goal
-
-pub returns : goal.returns
-returns c = unused-made

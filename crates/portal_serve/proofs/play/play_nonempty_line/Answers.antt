@@ -1,0 +1,29 @@
+-- A line that asks for no call writes its fault's line. Whatever stops this, output took some prefix of it.
+use Rattle.std.proofs.Common.{◌≡◌, Err, ap, arith}
+use Rattle.std.proofs.lemmas.Result.{on_ok_weaker, on_err_weaker}
+use Rattle.portal_serve.proofs.Working.{processes_early, processes_lines, stops_in_writing, stops_before, DrawsAll-same}
+use Rattle.portal_serve.specs.Script.{call_of_line}
+use Rattle.portal_serve.proofs.play.play_nonempty_line.Goals as goal
+
+pub returns-in-Err-OutOfMemory-clause-cut : goal.returns-in-Err-OutOfMemory-clause-cut
+returns-in-Err-OutOfMemory-clause-cut g c = stops_before _ _ _
+
+pub returns-in-Err-clause-ok : goal.returns-in-Err-clause-ok
+returns-in-Err-clause-ok g c =
+    let is : call_of_line c.args.line.now ≡ Err c.in-Err.early
+    = grind (arith, c.in-Err.ensures.fault, c.in-Err.early-is) in
+    on_ok_weaker c.write_early.result
+    (processes_lines _ _ _ _ _ _ _ _ (processes_early _ _ _ is)
+    (DrawsAll-same _ _ (ap g.C.Clock.given c.write_early.ensures.clock))
+    (DrawsAll-same _ _ (ap g.N.Nonces.given c.write_early.ensures.nonces)))
+    c.write_early.ensures.ok
+
+pub returns-in-Err-clause-cut : goal.returns-in-Err-clause-cut
+returns-in-Err-clause-cut g c =
+    let is : call_of_line c.args.line.now ≡ Err c.in-Err.early
+    = grind (arith, c.in-Err.ensures.fault, c.in-Err.early-is) in
+    on_err_weaker c.write_early.result
+    (stops_in_writing _ _ _ _ _ _ _ _ (processes_early _ _ _ is)
+    (DrawsAll-same _ _ (ap g.C.Clock.given c.write_early.ensures.clock))
+    (DrawsAll-same _ _ (ap g.N.Nonces.given c.write_early.ensures.nonces)))
+    c.write_early.ensures.failed

@@ -1,0 +1,173 @@
+//! A call and the state that it reads. Each look-up returns what the caller's view contains, and builds no view.
+ghost use Rattle.std.specs.Prelude.{◌≡◌, ◌<◌, IfOk, IfSome, IsTrue, find, length, option_map};
+ghost use Rattle.std.specs.Option.{option_copied};
+ghost use Rattle.org_roles.specs.PeopleLists.{is_sysadmin_in, is_user_in, org_in, role_in};
+ghost use Rattle.visibility.specs.CallView.{context_view};
+ghost use Rattle.std.specs.List.{list_all};
+ghost use Rattle.visibility.specs.View.{administers, public_count, datasets_seen, edits_somewhere, has_datasets};
+ghost use Rattle.visibility.specs.View.{public_names};
+ghost use Rattle.visibility.specs.Visibility.{caller_role, is_public_if_harvested, may_edit_in};
+ghost use Rattle.packages.specs.Named.{is_named, resource_named};
+ghost use Rattle.packages.specs.LocatedResource.{located_now};
+ghost use Rattle.packages.specs.Shelf.{IsValidShelf, datasets_of};
+
+use crate::permissions;
+use crate::permissions::sees;
+use crate::predicates::{IsOwnedBy, IsPublic, IsPublicIn};
+use org_roles::entry::Org;
+use org_roles::people::People;
+use org_roles::role::Role;
+use packages::named::{LocatedResource, dataset_part, resource_in};
+use packages::package::Package;
+use packages::shelf::Shelf;
+use portal_base::caller::Caller;
+use portal_base::seq::Seq;
+use portal_base::text::Text;
+use portal_calls::answer::Quota;
+use portal_calls::call::Call;
+use std::alloc::{AllocError, Global};
+
+/// A call, whether its quota is used up, and the people and datasets that it reads.
+#[derive(Drop)]
+pub struct CallContext<'a> {
+    pub call: &'a Call,
+    pub quota: Quota,
+    pub people: &'a People,
+    pub shelf: &'a Shelf,
+}
+
+impl<'a> CallContext<'a> {
+    /// Whether the caller is a sysadmin.
+    #[tactic(auto, using(crate::proofs::ViewLemmas::is_sysadmin_in_seen))]
+    pub fn is_sysadmin(&self) -> bool
+        ensures { result ≡ is_sysadmin_in (context_view self.now).people self.now.call.now.caller }
+    {
+        self.people.is_sysadmin(&self.call.caller)
+    }
+
+    /// Whether the caller administers the organization.
+    #[tactic(auto, using(crate::proofs::ViewLemmas::administers_seen))]
+    pub fn administers(&self, org: &Text) -> bool
+        ensures { result ≡ administers (context_view self.now).people self.now.call.now.caller org.now }
+    {
+        permissions::administers(self.people, &self.call.caller, org)
+    }
+
+    /// Whether the caller is editor or admin of some organization.
+    #[tactic(auto, using(crate::proofs::ViewLemmas::edits_somewhere_seen))]
+    pub fn edits_somewhere(&self) -> bool
+        ensures { result ≡ edits_somewhere (context_view self.now).people self.now.call.now.caller }
+    {
+        permissions::edits_somewhere(self.people, &self.call.caller)
+    }
+
+    /// Whether the caller may edit the dataset.
+    #[tactic(auto, using(crate::proofs::ViewLemmas::may_edit_in_seen))]
+    pub fn may_edit(&self, dataset: &Package) -> bool
+        ensures { result ≡ may_edit_in (context_view self.now).people self.now.call.now.caller dataset.now }
+    {
+        permissions::may_edit(self.people, &self.call.caller, dataset)
+    }
+
+    /// The caller's role in the organization, if it has one.
+    #[tactic(auto, using(crate::proofs::ViewLemmas::caller_role_seen))]
+    pub fn role(&self, org: &Text) -> Option<Role>
+        ensures { result ≡ caller_role (context_view self.now).people self.now.call.now.caller org.now }
+    {
+        permissions::role_of_caller(self.people, &self.call.caller, org)
+    }
+
+    /// The organization with this name.
+    pub fn org(&self, name: &Text) -> Option<&'a Org>
+        ensures { option_copied result ≡ org_in (context_view self.now).people name.now }
+    {
+        self.people.org(name)
+    }
+
+    /// The role of a user in an organization that the caller administers.
+    #[tactic(auto, using(crate::proofs::ViewLemmas::role_in_seen))]
+    pub fn role_of_member(&self, org: &Text, user: &Text) -> Option<Role>
+        requires { IsTrue (administers (context_view self.now).people self.now.call.now.caller org.now) }
+        ensures { result ≡ role_in (context_view self.now).people org.now user.now }
+    {
+        self.people.role_of(org, user)
+    }
+
+    /// Whether a user with this name exists.
+    #[tactic(auto, using(crate::proofs::ViewLemmas::is_user_in_seen))]
+    pub fn has_user(&self, name: &Text) -> bool
+        ensures { result ≡ is_user_in (context_view self.now).people name.now }
+    {
+        self.people.has_user(name.as_str())
+    }
+
+    /// The dataset with this id or name, if the caller sees it. The visibility of this one dataset is checked, and of
+    /// no other.
+    pub fn dataset(&self, key: &str) -> Option<&'a Package>
+        ensures { option_copied result ≡ find (is_named key.now) (context_view self.now).datasets }
+    {
+        find_visible_dataset(self.people, &self.call.caller, self.shelf, key)
+    }
+
+    /// The resource at this address, which starts with its dataset's id or name, if the caller sees the dataset. The
+    /// visibility of this one dataset is checked, and of no other.
+    pub fn resource(&self, address: &str) -> Option<LocatedResource<'a>>
+        ensures placed { option_map located_now result ≡ resource_named (context_view self.now).datasets address.now }
+        ensures within { IfSome result (λ placed. placed.position < length placed.dataset.now.resources) }
+    {
+        let Some(key) = dataset_part(address) else {
+            return None;
+        };
+        match find_visible_dataset(self.people, &self.call.caller, self.shelf, key) {
+            Some(dataset) => resource_in(address, dataset),
+            None => None,
+        }
+    }
+
+    /// The names of the public datasets, each once, ascending.
+    #[tactic(auto, using(crate::proofs::PublicLemmas::public_names_seen))]
+    pub fn public_names(&self, alloc: Global) -> Result<Seq<Text>, AllocError>
+        ensures { IfOk result (λ names. names ≡ public_names (context_view self.now).datasets) }
+    {
+        Ok(Seq::from(self.shelf.names_of(alloc, &IsPublic)?))
+    }
+
+    /// The number of the organization's public datasets.
+    #[tactic(auto, using(crate::proofs::PublicLemmas::public_count_seen))]
+    pub fn public_count(&self, org: &Text) -> usize
+        ensures { result ≡ public_count org.now (context_view self.now).datasets }
+    {
+        self.shelf.count_of(&IsPublicIn { org })
+    }
+
+    /// Whether an organization that the caller administers has a dataset, in any state.
+    #[tactic(auto, using(crate::proofs::PublicLemmas::has_datasets_seen))]
+    pub fn has_datasets(&self, org: &Text) -> bool
+        requires own { IsTrue (administers (context_view self.now).people self.now.call.now.caller org.now) }
+        requires harvested { IsTrue (list_all is_public_if_harvested (datasets_of self.now.shelf.now)) }
+        ensures { result ≡ has_datasets org.now (context_view self.now).datasets }
+    {
+        self.shelf.has(&IsOwnedBy { org })
+    }
+}
+
+/// The dataset with this id or name, if the caller sees it.
+#[tactic(auto, using(packages::proofs::ShelfLemmas::find_named_kept))]
+fn find_visible_dataset<'a>(
+    people: &People,
+    caller: &Caller,
+    shelf: &'a Shelf,
+    key: &str,
+) -> Option<&'a Package>
+    ensures dataset { option_copied result
+        ≡ find (is_named key.now) (datasets_seen caller.now people.now.people (datasets_of shelf.now)) }
+    ensures shelved { IsValidShelf shelf.now }
+{
+    let number = shelf.number_of(key)?;
+    let dataset = shelf.package_at(number)?;
+    if sees(people, caller, dataset) {
+        Some(dataset)
+    } else {
+        None
+    }
+}
