@@ -1,9 +1,2 @@
-pub mod Door
-pub mod Host
-pub mod Load
-pub mod Location
-pub mod Progress
 pub mod Run
-pub mod Start
-pub mod Status
-pub mod Stream
+pub mod Words

@@ -1,168 +1,35 @@
-//! The portal's program: `portal play` plays the script on standard input and writes its transcript to standard
-//! output, `portal load` loads the CSV on standard input, and `portal serve` serves HTTP on this machine. On every
-//! status but 0 it tells why by a line on standard error.
+//! The portal's program: `portal play` plays the script on standard input and writes its transcript to standard output,
+//! `portal load` loads the CSV on standard input, and `portal serve` serves HTTP on this machine. On every status but 0
+//! it writes a line on standard error.
 #![tactic(auto)]
 
-ghost use Rattle.std.specs.Prelude.{◌≡◌, ◌≢◌, ◌⊎◌, [], ◌∷◌, false, map, string_bytes, All, Ok, None};
+ghost use Rattle.std.specs.Prelude.{◌≡◌, ◌≢◌, [], ◌∷◌, false, map, string_bytes, All, Ok};
 ghost use Rattle.std.specs.Prelude.{IfOk, IfErr, OnErr};
-ghost use Rattle.std.specs.Char.{is_ascii_digit};
-ghost use Rattle.std.specs.List.{list_all};
 ghost use Rattle.portal_words.specs.Commands.{command_of};
-ghost use Rattle.portal_cli.specs.Host.{is_port_number, is_serve, is_timed, port_in, port_number, TellsWords};
-ghost use Rattle.portal_cli.specs.Status.{status_line, TakesOrFails};
+ghost use Rattle.portal_cli.specs.Words.{ReportsWords};
+ghost use Rattle.portal_status.specs.Status.{status_line, TakesOrFails};
 
-pub mod files;
-pub mod load;
-pub mod net;
-pub mod real;
 pub mod run;
-mod start;
-pub mod status;
-#[cfg(test)]
-mod tests;
-mod work;
 
-use files::HostFetcher;
-use net::TcpDoor;
 use portal_base::counted::{CountNonces, ScriptClock};
 use portal_base::outside::{Clock, Desk, Listener, Nonces, Sink};
 use portal_base::std_adapters::{StdSink, StdSource};
+pub use portal_devices::clock::HostClock;
+use portal_devices::environment::{is_real_time, listener, random_seed, words};
+pub use portal_devices::files::HostFetcher;
+pub use portal_devices::net::{TcpDoor, TcpLink};
+pub use portal_devices::nonces::ChaChaNonces;
+pub use portal_load::load::load;
+pub use portal_status::status::Status;
+use portal_status::status::report;
+use portal_words::first_word::is_timed;
 use portal_words::{Command, WordsFault};
-use real::{ChaChaNonces, HostClock};
 use run::run;
-use status::{Status, told};
 use std::alloc::{AllocError, Global};
-use std::net::TcpListener;
+use std::io;
 use std::process::ExitCode;
-use std::random::RandomSource;
-use std::{env, io};
 
-/// The port where the environment names none.
-const DEFAULT_PORT: u16 = 5_000;
-
-/// The words after the program's name. One that isn't UTF-8 is no word of the program.
-fn words(rt: &(impl env::Env + Alloc<A = Global>)) -> Result<Vec<String>, Status>
-    ensures fault { IfErr result (λ status. (status ≡ Status.Words) ⊎ (status ≡ Status.OutOfMemory)) }
-{
-    let mut words = Vec::new(rt.alloc());
-    match env::args(rt) {
-        Ok(args) => for word in args.skip(1) {
-            if words.push(word).is_err() {
-                return Err(Status::OutOfMemory);
-            }
-        },
-        Err(error) if error.kind() == io::ErrorKind::OutOfMemory => return Err(Status::OutOfMemory),
-        Err(_) => return Err(Status::Words),
-    }
-    Ok(words)
-}
-
-/// The text of a variable of the environment, if there is one.
-fn variable(rt: &(impl env::Env + Alloc<A = Global>), name: &str) -> Result<Option<String>, Status>
-    ensures fault { IfErr result (λ status. status ≡ Status.OutOfMemory) }
-{
-    match env::var(rt, name) {
-        Ok(value) => Ok(Some(value)),
-        Err(env::VarError::OutOfMemory) => Err(Status::OutOfMemory),
-        Err(_) => Ok(None),
-    }
-}
-
-/// Whether the environment asks for real time: `PORTAL_TIME` is there and is `real`.
-fn is_real(rt: &(impl env::Env + Alloc<A = Global>)) -> Result<bool, Status>
-    ensures fault { IfErr result (λ status. status ≡ Status.OutOfMemory) }
-{
-    match variable(rt, "PORTAL_TIME")? {
-        Some(value) => Ok(value.as_str() == "real"),
-        None => Ok(false),
-    }
-}
-
-fn has_digits_alone(bytes: &[u8]) -> bool
-    ensures { result ≡ list_all is_ascii_digit bytes.now }
-{
-    bytes.iter().all(|byte| byte.is_ascii_digit())
-}
-
-/// Whether the text is 1 to 5 digits.
-fn is_port_number(text: &str) -> bool
-    ensures { result ≡ is_port_number text.now }
-{
-    !text.is_empty() && text.len() <= 5 && has_digits_alone(text.as_bytes())
-}
-
-/// The number that 1 to 5 digits spell.
-fn port_number(text: &str) -> Option<u64>
-    ensures { result ≡ port_number text.now }
-{
-    if !is_port_number(text) {
-        return None;
-    }
-    text.parse::<u64>().ok()
-}
-
-/// The port that a text of 1 to 5 decimal digits names, but for 0.
-fn port_in(text: &str) -> Option<u16>
-    ensures { result ≡ port_in text.now }
-{
-    let number = port_number(text)?;
-    if 0 < number && number <= 65_535 {
-        Some(number as u16)
-    } else {
-        None
-    }
-}
-
-/// The port that `PORTAL_PORT` names, and 5000 where it names none.
-fn port(rt: &(impl env::Env + Alloc<A = Global>)) -> Result<u16, Status>
-    ensures fault { IfErr result (λ status. status ≡ Status.OutOfMemory) }
-{
-    match variable(rt, "PORTAL_PORT")? {
-        Some(value) => Ok(port_in(value.as_str()).unwrap_or(DEFAULT_PORT)),
-        None => Ok(DEFAULT_PORT),
-    }
-}
-
-/// Whether the first word is that of a command that works in real time alone.
-fn is_timed(words: &[String]) -> bool
-    ensures { result ≡ is_timed (map string_bytes words.now) }
-{
-    match words.first() {
-        Some(word) => word.as_str() == "load" || word.as_str() == "serve",
-        None => false,
-    }
-}
-
-/// Whether the first word is `serve`, which listens.
-fn is_serve(words: &[String]) -> bool
-    ensures { result ≡ is_serve (map string_bytes words.now) }
-{
-    match words.first() {
-        Some(word) => word.as_str() == "serve",
-        None => false,
-    }
-}
-
-/// A listener on this machine alone, where the words ask for one and the host has the port free.
-fn listener(rt: &HostRuntime, words: &[String]) -> Result<Option<TcpListener>, Status>
-    ensures unasked { is_serve (map string_bytes words.now) ≡ false → result ≡ Ok None }
-    ensures fault { IfErr result (λ status. status ≡ Status.OutOfMemory) }
-{
-    if !is_serve(words) {
-        return Ok(None);
-    }
-    let port = port(rt)?;
-    Ok(TcpListener::bind(rt, ("127.0.0.1", port)).ok())
-}
-
-/// A seed from the host's random source, if that doesn't fail.
-fn random_seed(rt: &impl RandomSource) -> Option<[u8; 32]> {
-    let mut seed = [0; 32];
-    rt.fill_bytes(&mut seed).ok()?;
-    Some(seed)
-}
-
-/// The desk alone.
+/// A list of this desk alone.
 fn one_desk<L: Listener + Drop, C: Drop, N: Drop>(
     alloc: Global,
     desk: Desk<L, C, N>,
@@ -176,7 +43,7 @@ fn one_desk<L: Listener + Drop, C: Drop, N: Drop>(
     Ok(desks)
 }
 
-/// Runs over the host's devices, with this clock and these numbers for the script and this desk for links.
+/// Runs the words over the host's devices, with this clock and these numbers for scripts, and this desk for links.
 fn run_over<E: Sink, C: Clock + Drop, N: Nonces + Drop>(
     rt: &HostRuntime,
     words: &[String],
@@ -186,17 +53,17 @@ fn run_over<E: Sink, C: Clock + Drop, N: Nonces + Drop>(
     nonces: &mut N,
 ) -> Status
     requires { desk.listener.is_out ≡ false }
-    ensures words { TellsWords (command_of (map string_bytes words.now)) result }
+    ensures words { ReportsWords (command_of (map string_bytes words.now)) result }
     ensures line { TakesOrFails (E.taken faults.old) (E.faults faults.old) (status_line result)
         (E.taken faults.new) (E.faults faults.new) }
     ensures silent { result ≡ Status.Done → faults.new ≡ faults.old }
 {
     let alloc = rt.alloc();
     let Ok(mut desks) = one_desk(alloc, desk) else {
-        return told(faults, Status::OutOfMemory);
+        return report(faults, Status::OutOfMemory);
     };
     let Ok(mut fetchers) = Vec::from_array(alloc, [HostFetcher::new(rt)]) else {
-        return told(faults, Status::OutOfMemory);
+        return report(faults, Status::OutOfMemory);
     };
     run(
         alloc,
@@ -211,9 +78,9 @@ fn run_over<E: Sink, C: Clock + Drop, N: Nonces + Drop>(
     )
 }
 
-/// The status where the host gives no random numbers. Faulty words come first among the causes.
-fn without_numbers(alloc: Global, words: &[String]) -> Status
-    ensures words { TellsWords (command_of (map string_bytes words.now)) result }
+/// The status if the host gives no random numbers. Words that name no command take precedence.
+fn status_without_numbers(alloc: Global, words: &[String]) -> Status
+    ensures words { ReportsWords (command_of (map string_bytes words.now)) result }
     ensures fault { result ≢ Status.Done }
 {
     match Command::read(alloc, words) {
@@ -223,18 +90,18 @@ fn without_numbers(alloc: Global, words: &[String]) -> Status
     }
 }
 
-/// Runs with the host's clock and random numbers. An `Err` hasn't been told.
+/// Runs with the host's clock and random numbers. The status of an `Err` was not printed yet.
 fn run_real<E: Sink>(rt: &HostRuntime, words: &[String], faults: &mut E) -> Result<Status, Status>
-    ensures words { IfOk result (TellsWords (command_of (map string_bytes words.now))) }
-    ensures untold_words { IfErr result (TellsWords (command_of (map string_bytes words.now))) }
+    ensures words { IfOk result (ReportsWords (command_of (map string_bytes words.now))) }
+    ensures unprinted_words { IfErr result (ReportsWords (command_of (map string_bytes words.now))) }
     ensures fault { IfErr result (λ status. status ≢ Status.Done) }
     ensures line { IfOk result (λ status. TakesOrFails (E.taken faults.old) (E.faults faults.old)
         (status_line status) (E.taken faults.new) (E.faults faults.new)) }
     ensures silent { result ≡ Ok Status.Done → faults.new ≡ faults.old }
-    ensures untold { OnErr result (faults.new ≡ faults.old) }
+    ensures unprinted { OnErr result (faults.new ≡ faults.old) }
 {
     let (Some(seed), Some(desk_seed)) = (random_seed(rt), random_seed(rt)) else {
-        return Err(without_numbers(rt.alloc(), words));
+        return Err(status_without_numbers(rt.alloc(), words));
     };
     let desk = Desk {
         listener: TcpDoor::new(rt, listener(rt, words)?),
@@ -251,9 +118,9 @@ fn run_real<E: Sink>(rt: &HostRuntime, words: &[String], faults: &mut E) -> Resu
     ))
 }
 
-/// Runs with a clock and numbers that count.
+/// Runs with a clock and numbers that count up.
 fn run_counted<E: Sink>(rt: &HostRuntime, words: &[String], faults: &mut E) -> Status
-    ensures words { TellsWords (command_of (map string_bytes words.now)) result }
+    ensures words { ReportsWords (command_of (map string_bytes words.now)) result }
     ensures line { TakesOrFails (E.taken faults.old) (E.faults faults.old) (status_line result)
         (E.taken faults.new) (E.faults faults.new) }
     ensures silent { result ≡ Status.Done → faults.new ≡ faults.old }
@@ -273,16 +140,17 @@ fn run_counted<E: Sink>(rt: &HostRuntime, words: &[String], faults: &mut E) -> S
     )
 }
 
-/// Runs the words of the command line, in the time that they and the environment ask for. An `Err` hasn't been told.
+/// Runs the words of the command line, in real time if the command or the environment asks for it. The status of an
+/// `Err` was not printed yet.
 fn run_words<E: Sink>(rt: &HostRuntime, faults: &mut E) -> Result<Status, Status>
     ensures fault { IfErr result (λ status. status ≢ Status.Done) }
     ensures line { IfOk result (λ status. TakesOrFails (E.taken faults.old) (E.faults faults.old)
         (status_line status) (E.taken faults.new) (E.faults faults.new)) }
     ensures silent { result ≡ Ok Status.Done → faults.new ≡ faults.old }
-    ensures untold { OnErr result (faults.new ≡ faults.old) }
+    ensures unprinted { OnErr result (faults.new ≡ faults.old) }
 {
     let words = words(rt)?;
-    if is_timed(words.as_slice()) || is_real(rt)? {
+    if is_timed(words.as_slice()) || is_real_time(rt)? {
         return run_real(rt, words.as_slice(), faults);
     }
     Ok(run_counted(rt, words.as_slice(), faults))
@@ -292,7 +160,7 @@ fn main(rt: HostRuntime) -> ExitCode {
     let mut faults = StdSink::new(rt.stderr());
     let status = match run_words(&rt, &mut faults) {
         Ok(status) => status,
-        Err(status) => told(&mut faults, status),
+        Err(status) => report(&mut faults, status),
     };
     ExitCode::from(status.code())
 }

@@ -1,0 +1,268 @@
+//! Commands over devices in memory. Each device passes one byte at a time, and fails at a given call.
+ghost use Rattle.std.specs.Prelude.{◌≡◌, false, IfOk};
+
+use portal_base::counted::{CountNonces, ScriptClock};
+use portal_base::memory::{MemoryFetcher, MemoryLink, MemoryListener, MemorySink, MemorySource};
+use portal_base::outside::{Desk, Failed, Sink, Source};
+use portal_base::seq::Seq;
+use portal_base::text::Text;
+use portal_load::schema_file::load_csv;
+use portal_start::commands::{play_from, serve_from};
+use portal_start::start::start_of;
+use portal_status::status::{Status, report};
+use portal_words::{Command, LoadOptions, WordsFault};
+use std::alloc::{AllocError, Global};
+
+/// A change, and a call that shows it.
+pub const SCRIPT: &str =
+    r#"{"action":"organization_member_delete","as":"cyn","body":{"id":"city","username":"bob"}}
+{"action":"organization_list_for_user","as":"bob"}
+"#;
+
+pub const TRANSCRIPT: &str =
+    r#"200 {"help":"/api/3/action/help_show?name=organization_member_delete","result":null,"success":true}
+200 {"help":"/api/3/action/help_show?name=organization_list_for_user","result":[],"success":true}
+"#;
+
+/// A portal file with the default portal's organization.
+const PORTAL: &str = r#"user = [{ name = "bob" }, { name = "cyn" }]
+organization = [{ name = "city", roles = { bob = "member", cyn = "admin" } }]
+"#;
+
+const REQUEST: &str = "GET /api/3/action/user_list HTTP/1.1\r\n\r\n";
+
+/// A device that passes one byte at a time.
+#[derive(Drop)]
+struct Narrow<D> {
+    inner: D,
+}
+
+impl<S: Source> Source for Narrow<S> {
+    ghost use Rattle.std.specs.Prelude.{None};
+
+    ghost to_come = { λ _. None };
+
+    ghost faults = { λ s. S.faults s.inner };
+
+    fn read(&mut self, into: &mut [u8]) -> Result<usize, Failed> {
+        if into.is_empty() {
+            return Ok(0);
+        }
+        self.inner.read(&mut into[..1])
+    }
+}
+
+impl<O: Sink> Sink for Narrow<O> {
+    ghost use Rattle.std.specs.Prelude.{None};
+
+    ghost taken = { λ _. None };
+
+    ghost faults = { λ s. O.faults s.inner };
+
+    fn write(&mut self, piece: &[u8]) -> Result<usize, Failed> {
+        if piece.is_empty() {
+            return Ok(0);
+        }
+        self.inner.write(&piece[..1])
+    }
+}
+
+/// The numbers of the calls at which devices fail, from 1, or 0 if a device doesn't fail; the count of bytes that
+/// output takes; and the file at `p.toml`.
+#[derive(Clone, Copy)]
+pub struct Ends {
+    pub read: usize,
+    pub write: usize,
+    pub room: usize,
+    pub line: usize,
+    pub fetch: usize,
+    pub accept: usize,
+    pub file: &'static str,
+}
+
+/// No device fails.
+pub const NEVER: Ends = Ends {
+    read: 0,
+    write: 0,
+    room: TRANSCRIPT.len(),
+    line: 0,
+    fetch: 0,
+    accept: 0,
+    file: PORTAL,
+};
+
+/// A desk in memory.
+type MemoryDesk = Desk<MemoryListener, ScriptClock, CountNonces>;
+
+/// The devices of a run.
+#[derive(Drop)]
+struct Devices {
+    input: Narrow<MemorySource>,
+    output: Narrow<MemorySink>,
+    faults: Narrow<MemorySink>,
+    fetcher: MemoryFetcher,
+    desk: MemoryDesk,
+}
+
+/// The number of the call that fails.
+fn failing(alloc: Global, call: usize) -> Result<Seq<u64>, AllocError> {
+    Ok(Seq::from([call as u64].to_vec(alloc)?))
+}
+
+fn source(alloc: Global, read: usize) -> Result<Narrow<MemorySource>, AllocError> {
+    let bytes = Seq::from(SCRIPT.as_bytes().to_vec(alloc)?);
+    let failing = failing(alloc, read)?;
+    Ok(Narrow {
+        inner: MemorySource::new(bytes, failing),
+    })
+}
+
+fn sink(alloc: Global, room: usize, write: usize) -> Result<Narrow<MemorySink>, AllocError> {
+    let failing = failing(alloc, write)?;
+    Ok(Narrow {
+        inner: MemorySink::new(alloc, room, failing)?,
+    })
+}
+
+/// A fetcher that holds the file at `p.toml`.
+fn fetcher(alloc: Global, ends: Ends) -> Result<MemoryFetcher, AllocError> {
+    let failing = failing(alloc, ends.fetch)?;
+    let bytes = Seq::from(ends.file.as_bytes().to_vec(alloc)?);
+    let held = Vec::from_array(alloc, [(Text::from_static("p.toml"), bytes)])?;
+    Ok(MemoryFetcher::new(Seq::from(held), failing))
+}
+
+/// A link over which the request comes, whose call of that number fails.
+fn link(alloc: Global, request: &str, failing: u64) -> Result<MemoryLink, AllocError> {
+    let bytes = Seq::from(request.as_bytes().to_vec(alloc)?);
+    let failing = Seq::from([failing].to_vec(alloc)?);
+    MemoryLink::new(alloc, bytes, 1_000, failing)
+}
+
+/// A link with a request, one whose first read fails, and one whose input ends early.
+fn links(alloc: Global) -> Result<Seq<MemoryLink>, AllocError> {
+    let links = [
+        link(alloc, REQUEST, 0)?,
+        link(alloc, REQUEST, 1)?,
+        link(alloc, "GET /", 0)?,
+    ];
+    Ok(Seq::from(Vec::from_array(alloc, links)?))
+}
+
+fn desk(alloc: Global, accept: usize) -> Result<MemoryDesk, AllocError>
+    ensures { IfOk result (λ desk. desk.listener.is_out ≡ false) }
+{
+    let links = links(alloc)?;
+    let failing = failing(alloc, accept)?;
+    Ok(Desk {
+        listener: MemoryListener::new(alloc, links, failing)?,
+        clock: ScriptClock::new(),
+        nonces: CountNonces::new(),
+    })
+}
+
+fn devices_with(alloc: Global, ends: Ends) -> Result<Devices, AllocError>
+    ensures { IfOk result (λ devices. devices.desk.listener.is_out ≡ false) }
+{
+    Ok(Devices {
+        input: source(alloc, ends.read)?,
+        output: sink(alloc, ends.room, ends.write)?,
+        faults: sink(alloc, 100, ends.line)?,
+        fetcher: fetcher(alloc, ends)?,
+        desk: desk(alloc, ends.accept)?,
+    })
+}
+
+/// The end of a run.
+#[derive(Drop)]
+pub struct Outcome {
+    code: u8,
+    devices: Devices,
+}
+
+impl Outcome {
+    pub fn code(&self) -> u8 {
+        self.code
+    }
+
+    /// The bytes that output took.
+    pub fn output(&self) -> &[u8] {
+        self.devices.output.inner.taken()
+    }
+
+    /// The bytes that the sink for faults took.
+    pub fn faults(&self) -> &[u8] {
+        self.devices.faults.inner.taken()
+    }
+
+    /// The links that were taken back.
+    pub fn links(&self) -> &[MemoryLink] {
+        self.devices.desk.listener.taken_back()
+    }
+}
+
+/// Loads the CSV on input into a table of the portal that the options name.
+fn load_from(alloc: Global, options: LoadOptions, devices: &mut Devices) -> Status {
+    match start_of(alloc, &mut devices.fetcher, &options.portal) {
+        Ok(start) => load_csv(
+            alloc,
+            &start.opening,
+            options,
+            &mut devices.input,
+            &mut devices.output,
+            &mut devices.fetcher,
+            &mut ScriptClock::new(),
+            &mut CountNonces::new(),
+        ),
+        Err(status) => status,
+    }
+}
+
+/// Carries out the command of the words, as the program does.
+fn carry_out(alloc: Global, words: &[String], devices: &mut Devices) -> Status
+    requires { devices.old.desk.listener.is_out ≡ false }
+{
+    match Command::read(alloc, words) {
+        Ok(Command::Play(options)) => play_from(
+            alloc,
+            &options,
+            &mut devices.input,
+            &mut devices.output,
+            &mut devices.fetcher,
+            &mut ScriptClock::new(),
+            &mut CountNonces::new(),
+        ),
+        Ok(Command::Load(options)) => load_from(alloc, options, devices),
+        Ok(Command::Serve(options)) => serve_from(
+            alloc,
+            &options,
+            &mut devices.fetcher,
+            &mut devices.desk,
+        ),
+        Err(WordsFault::BadWords) => Status::Words,
+        Err(WordsFault::OutOfMemory) => Status::OutOfMemory,
+    }
+}
+
+/// The end of the command of these words over such devices.
+fn ran_words(alloc: Global, words: &[String], ends: Ends) -> Result<Outcome, AllocError> {
+    let mut devices = devices_with(alloc, ends)?;
+    let status = carry_out(alloc, words, &mut devices);
+    let code = report(&mut devices.faults, status).code();
+    Ok(Outcome { code, devices })
+}
+
+/// The words of a line, between spaces.
+fn words_of(alloc: Global, line: &str) -> Result<Vec<String>, AllocError> {
+    let mut words = Vec::new(alloc);
+    for word in line.split(' ') {
+        words.push(String::from_str(alloc, word)?)?;
+    }
+    Ok(words)
+}
+
+/// The end of the command of the words of a line.
+pub fn ran(alloc: Global, line: &str, ends: Ends) -> Result<Outcome, AllocError> {
+    let words = words_of(alloc, line)?;
+    ran_words(alloc, words.as_slice(), ends)
+}

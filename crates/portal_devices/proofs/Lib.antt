@@ -1,0 +1,4 @@
+mod Examples
+mod PortLemmas
+mod StreamExamples
+pub mod Streaming

@@ -1,0 +1,4 @@
+pub mod Door
+pub mod Location
+pub mod Port
+pub mod Stream

@@ -1,0 +1,5 @@
+//! Tests of the real devices.
+mod clock;
+mod files;
+mod net;
+mod nonces;

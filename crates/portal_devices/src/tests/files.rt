@@ -1,0 +1,39 @@
+//! The host's files.
+use crate::files::HostFetcher;
+use portal_base::outside::{FetchFault, Fetcher};
+use std::test::Fail;
+
+/// The result of a fetch.
+#[derive(Clone, Copy, Debug, PartialEq, Eq)]
+enum Came {
+    Bytes(usize),
+    Failed,
+    Missing,
+    TooLong,
+    OutOfMemory,
+}
+
+#[test]
+fn files_are_fetched(rt: HostRuntime) -> Result<(), Fail> {
+    let alloc = rt.alloc();
+    let mut fetcher = HostFetcher::new(&rt);
+    for (location, expected) in [
+        ("/dev/null", Came::Bytes(0)),
+        ("/dev/zero", Came::TooLong),
+        ("/dev/nothing", Came::Missing),
+        ("/dev/null/file", Came::Missing),
+        ("/dev", Came::Failed),
+        ("http://127.0.0.1/", Came::Missing),
+        ("file:/dev/null", Came::Missing),
+    ] {
+        let came = match fetcher.fetch(alloc, location, 100) {
+            Ok(bytes) => Came::Bytes(bytes.len()),
+            Err(FetchFault::Failed) => Came::Failed,
+            Err(FetchFault::Missing) => Came::Missing,
+            Err(FetchFault::TooLong) => Came::TooLong,
+            Err(FetchFault::OutOfMemory) => Came::OutOfMemory,
+        };
+        assert_eq!(rt; came, expected, "at {location}");
+    }
+    Ok(())
+}

@@ -1,0 +1,5 @@
+mod Calling
+mod Fetched
+mod Inserting
+mod Loading
+mod Passing

@@ -1,0 +1,3 @@
+pub mod Load
+pub mod Progress
+pub mod SchemaFile

@@ -1,0 +1,2 @@
+pub mod Beginning
+mod Examples

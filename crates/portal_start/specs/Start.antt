@@ -1,0 +1,97 @@
+-- What a run begins with: the default portal, or that of a portal file. And why a run begins with none.
+use Rattle.std.specs.Prelude.{◌≡◌, ◌⊎◌, ◌≤◌, ℕ, List, ◌++◌, length, codes, Option, Some, None, IsSomeAnd, Ok}
+use Rattle.std.specs.Prelude.{Err}
+use Rattle.portal_base.specs.Outside.{Rose}
+use Rattle.portal_core.specs.Opened.{opened}
+use Rattle.portal_core.specs.State.{State}
+use Rattle.portal_core.specs.declared.portal.Opening.{Opening}
+use Rattle.portal_file.specs.File.{file_of}
+use Rattle.portal_file.specs.Rules.{rule_name}
+use Rattle.portal_file.specs.declared.file.PortalFile.{PortalFile}
+use Rattle.portal_file.specs.declared.rule.FileRule.{FileRule}
+use Rattle.portal_serve.specs.Defaults.{default_state, default_digests}
+use Rattle.portal_serve.specs.Tokens.{Digests}
+use Rattle.portal_status.specs.declared.fetch.TheConstants.{LONGEST_FILE}
+use Rattle.portal_status.specs.declared.status.Status.{Status}
+use Rattle.portal_status.specs.declared.status.Status.TheVariants as status
+use Rattle.portal_status.specs.Fetch.{FetchTrace, HoldsFile, CannotFetch}
+
+-- the state of a portal, and the digests of its users' tokens
+pub record Beginning : Type 0 where
+  pub state : State
+  pub digests : Digests
+
+-- the portal that is opened with these
+abbrev pub beginning_with : Opening → Digests → Beginning
+beginning_with opening digests = record { state = opened opening; digests = digests }
+
+-- the default portal
+abbrev pub default_beginning : Beginning
+default_beginning = record { state = default_state; digests = default_digests }
+
+-- the portal of a portal file
+abbrev pub opening_of : PortalFile → Opening
+opening_of file = record { users = file.users; orgs = file.orgs; roles = file.roles }
+
+abbrev pub beginning_of_file : PortalFile → Beginning
+beginning_of_file file = beginning_with (opening_of file) file.tokens
+
+-- The bytes are a portal file, and this is its portal.
+abbrev pub IsFileOf : List ℕ → Beginning → Type 0
+IsFileOf bytes beginning = (file : PortalFile) × (file_of bytes ≡ Ok file) × (beginning ≡ beginning_of_file file)
+
+-- The bytes break the rule that the text names, and none before it.
+abbrev pub IsBrokenBy : List ℕ → List ℕ → Type 0
+IsBrokenBy text bytes =
+    (rule : FileRule) × (file_of bytes ≡ Err rule) × (text ≡ codes "portal file: " ++ rule_name rule)
+
+-- why the bytes are no portal file, by the status: they break a rule, or memory ran out
+abbrev pub RejectsFile : List ℕ → Status → Type 0
+RejectsFile bytes status.Done = ⊥
+RejectsFile bytes status.Words = ⊥
+RejectsFile bytes status.ReadFault = ⊥
+RejectsFile bytes status.WriteFault = ⊥
+RejectsFile bytes status.OutOfMemory = Unit {0}
+RejectsFile bytes (status.PortalFile text) = IsBrokenBy text bytes
+RejectsFile bytes (status.FetchFault text) = ⊥
+RejectsFile bytes (status.DataFault text) = ⊥
+RejectsFile bytes status.Refused = ⊥
+RejectsFile bytes status.ListenFault = ⊥
+
+-- ---- over a fetcher
+
+-- What a run begins with: the portal of the file at the location, or the default portal if no location is given.
+abbrev pub Begins : FetchTrace → Option (List ℕ) → Beginning → Type 0
+Begins fetch_trace None beginning = beginning ≡ default_beginning
+Begins fetch_trace (Some location) beginning = HoldsFile fetch_trace location (λ bytes. IsFileOf bytes beginning)
+
+-- Why a run begins with no portal, by its status: the file breaks a rule, it can't be fetched, or memory ran out.
+abbrev pub FailsToBegin : FetchTrace → Option (List ℕ) → Status → Type 0
+FailsToBegin fetch_trace portal status.Done = ⊥
+FailsToBegin fetch_trace portal status.Words = ⊥
+FailsToBegin fetch_trace portal status.ReadFault = ⊥
+FailsToBegin fetch_trace portal status.WriteFault = ⊥
+FailsToBegin fetch_trace portal status.OutOfMemory = Unit {0}
+FailsToBegin fetch_trace portal (status.PortalFile text) =
+    IsSomeAnd portal (λ location. HoldsFile fetch_trace location (IsBrokenBy text))
+FailsToBegin fetch_trace portal (status.FetchFault text) =
+    IsSomeAnd portal (λ location. CannotFetch fetch_trace location × (text ≡ codes "cannot fetch " ++ location))
+FailsToBegin fetch_trace portal (status.DataFault text) = ⊥
+FailsToBegin fetch_trace portal status.Refused = ⊥
+FailsToBegin fetch_trace portal status.ListenFault = ⊥
+
+-- A run began with a portal, and then did what P says. Or it began with none for the reason in its status, and left its
+-- devices untouched.
+abbrev pub BeginsAnd : FetchTrace → Option (List ℕ) → Status → (Beginning → Type 0) → Type 0 → Type 0
+BeginsAnd fetch_trace portal status P Untouched =
+    ((beginning : Beginning) × Begins fetch_trace portal beginning × P beginning) ⊎
+    (FailsToBegin fetch_trace portal status × Untouched)
+
+-- Where the fetcher is observable, the status for a file of at most 16 MiB that breaks a rule names that rule, unless
+-- memory ran out or the fetcher failed.
+abbrev pub ReportsRule : FetchTrace → Option (List ℕ) → Status → Type 0
+ReportsRule fetch_trace portal ended =
+    (location bytes : List ℕ) → (rule : FileRule) → (held : List ℕ → Option (List ℕ)) → portal ≡ Some location
+    → fetch_trace.held ≡ Some held → held location ≡ Some bytes → length bytes ≤ LONGEST_FILE → file_of bytes ≡ Err rule
+    → (ended ≡ status.PortalFile (codes "portal file: " ++ rule_name rule))
+    ⊎ ((ended ≡ status.OutOfMemory) ⊎ Rose fetch_trace.before fetch_trace.after)
