@@ -1,7 +1,7 @@
 -- The escapes of case files.
 use Rattle.std.specs.Prelude.{ℕ, Bool, nat_le, ◌==◌, ◌+◌, ◌-◌, ◌&&◌, if◌then◌else◌, Option, Some, None}
 
--- the byte that a letter behind the backslash stands for
+-- the byte that a letter after the backslash stands for
 abbrev pub byte_of_letter : ℕ → Option ℕ
 byte_of_letter letter =
     if letter == 110 then Some 10

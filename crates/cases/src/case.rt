@@ -15,9 +15,9 @@ pub struct Case {
 /// Why a line is no case.
 #[derive(Drop)]
 pub enum BadLine {
-    /// What stands behind a `\` is no escape.
+    /// The text after a `\` is no escape.
     Escape,
-    /// It has another number of columns than its file should have: this one.
+    /// It has this number of columns, and its file should have another.
     Columns(usize),
     OutOfMemory,
 }
@@ -32,7 +32,12 @@ impl fmt::Display for BadLine {
     }
 }
 
-/// Adds what the column stands for.
+/// The error of a case whose columns have another form than its file should have.
+pub fn invalid() -> io::Error {
+    io::Error::from(ErrorKind::InvalidData)
+}
+
+/// Adds the bytes that the column stands for.
 fn push_column(alloc: Global, columns: &mut Vec<Vec<u8>>, column: &str) -> Result<(), BadLine> {
     match unescaped(alloc, column.trim_matches(' ').as_bytes()) {
         Ok(bytes) => match columns.push(bytes) {
@@ -45,7 +50,7 @@ fn push_column(alloc: Global, columns: &mut Vec<Vec<u8>>, column: &str) -> Resul
 }
 
 impl Case {
-    /// The case of a line that should have so many columns, with the shared one in front where there is one.
+    /// The case of a line of a file with `count` columns, of which the first may be shared.
     pub fn read(
         alloc: Global,
         shared: Option<&str>,
@@ -65,11 +70,11 @@ impl Case {
         Ok(Case { columns })
     }
 
-    /// The case whose columns are the files that the columns name.
+    /// The case whose columns are the contents of the files that the columns name.
     pub fn of_files<R: Files + AllocGlobal>(&self, rt: &R) -> io::Result<Case> {
         let mut columns = Vec::new(rt.alloc());
-        for place in 0..self.columns.len() {
-            columns.push(fs::read(rt, self.text(place)?)?)?;
+        for index in 0..self.columns.len() {
+            columns.push(fs::read(rt, self.text(index)?)?)?;
         }
         Ok(Case { columns })
     }
@@ -91,18 +96,33 @@ impl Case {
     pub fn text(&self, column: usize) -> io::Result<&str> {
         match std::str::from_utf8(self.bytes(column)) {
             Ok(text) => Ok(text),
-            Err(_) => Err(io::Error::from(ErrorKind::InvalidData)),
+            Err(_) => Err(invalid()),
         }
     }
 
-    /// What the column is read as; `InvalidData` where its text isn't one.
+    /// The first two columns as texts.
+    pub fn two_texts(&self) -> io::Result<(&str, &str)> {
+        Ok((self.text(0)?, self.text(1)?))
+    }
+
+    /// The first three columns as texts.
+    pub fn three_texts(&self) -> io::Result<(&str, &str, &str)> {
+        Ok((self.text(0)?, self.text(1)?, self.text(2)?))
+    }
+
+    /// The first four columns as texts.
+    pub fn four_texts(&self) -> io::Result<(&str, &str, &str, &str)> {
+        Ok((self.text(0)?, self.text(1)?, self.text(2)?, self.text(3)?))
+    }
+
+    /// The value that the column's text says; `InvalidData` where it says none.
     pub fn parsed<T: FromStr>(&self, column: usize) -> io::Result<T>
     where
         T::Err: Drop,
     {
         match self.text(column)?.parse::<T>() {
             Ok(value) => Ok(value),
-            Err(_) => Err(io::Error::from(ErrorKind::InvalidData)),
+            Err(_) => Err(invalid()),
         }
     }
 }

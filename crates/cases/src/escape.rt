@@ -1,13 +1,13 @@
-//! What stands in a case file for bytes that don't show.
+//! Escapes, by which a case file has bytes that don't show.
 ghost use Rattle.std.specs.Prelude.{◌≡◌};
 ghost use Rattle.cases.specs.Escape.{byte_of_letter, value_of_digit};
 
 use std::alloc::{AllocError, Global};
 use std::fmt::Write;
 
-/// Where in an escape the next byte stands.
+/// Which part of an escape the next byte is.
 #[derive(Clone, Copy)]
-enum Place {
+enum Part {
     Outside,
     Letter,
     High,
@@ -17,12 +17,12 @@ enum Place {
 /// Why a column can't be read.
 #[derive(Drop)]
 pub enum EscapeFault {
-    /// What stands behind `\` is no escape.
+    /// The text after a `\` is no escape.
     NotEscape,
     OutOfMemory,
 }
 
-/// The byte that the letter behind `\` stands for.
+/// The byte that the letter after `\` stands for.
 fn byte_of(letter: u8) -> Option<u8>
     ensures { result ≡ byte_of_letter letter }
 {
@@ -48,47 +48,44 @@ fn value_of(digit: u8) -> Option<u8>
     }
 }
 
-/// The place behind the byte, and the byte that is meant, where one is complete. None where no escape goes on so.
-fn step(place: Place, byte: u8) -> Option<(Place, Option<u8>)> {
-    match place {
-        Place::Outside if byte == b'\\' => Some((Place::Letter, None)),
-        Place::Outside => Some((Place::Outside, Some(byte))),
-        Place::Letter if byte == b'x' => Some((Place::High, None)),
-        Place::Letter => Some((Place::Outside, Some(byte_of(byte)?))),
-        Place::High => Some((Place::Low(value_of(byte)?), None)),
-        Place::Low(high) => {
+/// The part after the byte, and the byte that is complete with it, if one is. None where no escape goes on so.
+fn step(part: Part, byte: u8) -> Option<(Part, Option<u8>)> {
+    match part {
+        Part::Outside if byte == b'\\' => Some((Part::Letter, None)),
+        Part::Outside => Some((Part::Outside, Some(byte))),
+        Part::Letter if byte == b'x' => Some((Part::High, None)),
+        Part::Letter => Some((Part::Outside, Some(byte_of(byte)?))),
+        Part::High => Some((Part::Low(value_of(byte)?), None)),
+        Part::Low(high) => {
             let low = value_of(byte)?;
-            Some((
-                Place::Outside,
-                Some(high.wrapping_mul(16).wrapping_add(low)),
-            ))
+            Some((Part::Outside, Some(high.wrapping_mul(16).wrapping_add(low))))
         }
     }
 }
 
 /// The bytes that the text stands for.
 pub fn unescaped(alloc: Global, text: &[u8]) -> Result<Vec<u8>, EscapeFault> {
-    let mut meant = Vec::new(alloc);
-    let mut place = Place::Outside;
+    let mut bytes = Vec::new(alloc);
+    let mut part = Part::Outside;
     for byte in text {
-        let Some((next, complete)) = step(place, *byte) else {
+        let Some((next, complete)) = step(part, *byte) else {
             return Err(EscapeFault::NotEscape);
         };
-        place = next;
+        part = next;
         if let Some(byte) = complete
-            && meant.push(byte).is_err()
+            && bytes.push(byte).is_err()
         {
             return Err(EscapeFault::OutOfMemory);
         }
     }
-    match place {
-        Place::Outside => Ok(meant),
+    match part {
+        Part::Outside => Ok(bytes),
         _ => Err(EscapeFault::NotEscape),
     }
 }
 
 /// Adds the character, by an escape where it doesn't show or divides columns.
-fn push_shown(text: &mut String, character: char) -> Result<(), AllocError> {
+fn push_escaped(text: &mut String, character: char) -> Result<(), AllocError> {
     match character {
         '\n' => text.push_str("\\n"),
         '\r' => text.push_str("\\r"),
@@ -104,18 +101,18 @@ fn push_shown(text: &mut String, character: char) -> Result<(), AllocError> {
 }
 
 /// The bytes as a case file has them: as text where they are UTF-8, and else each that isn't ASCII by its number.
-pub fn shown(alloc: Global, bytes: &[u8]) -> Result<String, AllocError> {
+pub fn escaped(alloc: Global, bytes: &[u8]) -> Result<String, AllocError> {
     let mut text = String::new(alloc);
     match std::str::from_utf8(bytes) {
         Ok(characters) => {
             for character in characters.chars() {
-                push_shown(&mut text, character)?;
+                push_escaped(&mut text, character)?;
             }
         }
         Err(_) => {
             for byte in bytes {
                 if byte.is_ascii() {
-                    push_shown(&mut text, char::from(*byte))?;
+                    push_escaped(&mut text, char::from(*byte))?;
                 } else {
                     write!(text, "\\x{byte:02X}")?;
                 }

@@ -2,25 +2,47 @@
 ghost use Rattle.std.specs.Prelude.{◌≡◌, not};
 ghost use Rattle.cases.specs.Tally.{counted_if};
 
+use crate::buffer::Buffer;
 use crate::case::{BadLine, Case};
-use crate::escape::shown;
+use crate::escape::escaped;
 use std::alloc::Global;
 use std::process::ExitCode;
 use std::rt::Files;
 use std::{fmt, fs, io};
 
-/// The line of a file, the first one 1.
+/// A line of a file, the first one 1.
 #[derive(Clone, Copy)]
-pub struct Place<'a> {
+pub struct Location<'a> {
     pub file: &'a str,
     pub line: u64,
 }
 
-/// How many cases hold, and how many don't.
+/// How many cases hold, and how many don't. A line that can't be printed counts as a case that doesn't hold.
 #[derive(Drop)]
 pub struct Tally {
     pub held: u64,
     pub failed: u64,
+}
+
+/// What the columns of a file's cases are.
+#[derive(Clone, Copy)]
+enum Columns {
+    Themselves,
+    Files,
+}
+
+/// Prints both answers.
+fn print_difference<R: AllocGlobal + Print>(
+    rt: &R,
+    location: Location<'_>,
+    expected: &[u8],
+    found: &[u8],
+) -> io::Result<()> {
+    let Location { file, line } = location;
+    let expected = escaped(rt.alloc(), expected)?;
+    println!(rt; "{file}:{line}: expected {expected}")?;
+    let found = escaped(rt.alloc(), found)?;
+    println!(rt; "{file}:{line}: found    {found}")
 }
 
 impl Tally {
@@ -40,35 +62,66 @@ impl Tally {
         }
     }
 
-    /// Compares an answer with the one wanted, and prints both where they aren't the same.
+    /// Compares an answer with the expected one, and prints both where they differ.
     pub fn compare<R: AllocGlobal + Print>(
         &mut self,
         rt: &R,
-        place: Place<'_>,
-        wanted: &[u8],
+        location: Location<'_>,
+        expected: &[u8],
         found: &[u8],
-    ) -> io::Result<()> {
-        self.count(found == wanted);
-        if found == wanted {
-            return Ok(());
+    ) {
+        self.count(found == expected);
+        if found != expected && print_difference(rt, location, expected, found).is_err() {
+            self.count(false);
         }
-        let Place { file, line } = place;
-        let wanted = shown(rt.alloc(), wanted)?;
-        let found = shown(rt.alloc(), found)?;
-        println!(rt; "{file}:{line}: wanted {wanted}")?;
-        println!(rt; "{file}:{line}: found  {found}")
+    }
+
+    /// Compares an answer with the expected one, unless there is none.
+    pub fn compare_answer<R: AllocGlobal + Print>(
+        &mut self,
+        rt: &R,
+        location: Location<'_>,
+        expected: &[u8],
+        answer: &Buffer,
+    ) {
+        match answer.bytes() {
+            Ok(found) => self.compare(rt, location, expected, found),
+            Err(error) => self.refuse(rt, location, error),
+        }
     }
 
     /// Counts a line that doesn't hold, and prints why.
     pub fn refuse<D: fmt::Display + Drop>(
         &mut self,
         rt: &impl Print,
-        place: Place<'_>,
-        why: D,
-    ) -> io::Result<()> {
+        location: Location<'_>,
+        reason: D,
+    ) {
         self.count(false);
-        let Place { file, line } = place;
-        println!(rt; "{file}:{line}: {why}")
+        let Location { file, line } = location;
+        if println!(rt; "{file}:{line}: {reason}").is_err() {
+            self.count(false);
+        }
+    }
+
+    /// Compares the answers to the cases of the file, which has `count` columns, with its last column.
+    pub fn check<
+        R: Files + AllocGlobal + Print,
+        F: Fn(Global, &Case, &mut Buffer) -> io::Result<()>,
+    >(&mut self, rt: &R, file: &str, count: usize, answer: F)
+        requires { F.IsAlwaysCallable answer }
+    {
+        check_file(rt, self, file, count, Columns::Themselves, &answer);
+    }
+
+    /// As `check`, where each column names a file, whose content is the column.
+    pub fn check_files<
+        R: Files + AllocGlobal + Print,
+        F: Fn(Global, &Case, &mut Buffer) -> io::Result<()>,
+    >(&mut self, rt: &R, file: &str, count: usize, answer: F)
+        requires { F.IsAlwaysCallable answer }
+    {
+        check_file(rt, self, file, count, Columns::Files, &answer);
     }
 
     /// Prints how many cases hold, and gives the program's status: a failure where there is none, or one doesn't hold.
@@ -107,67 +160,64 @@ fn kind_of(line: &str) -> Line<'_> {
     }
 }
 
-/// Compares the answer to a case with its last column, and says of a line that is no case what is wrong with it.
-fn check_case<R: AllocGlobal + Print, F: Fn(Global, &Case) -> io::Result<Vec<u8>>>(
+/// Compares the answer to a case with its last column.
+fn check_case<R: AllocGlobal + Print, F: Fn(Global, &Case, &mut Buffer) -> io::Result<()>>(
     rt: &R,
     tally: &mut Tally,
-    place: Place<'_>,
+    location: Location<'_>,
     case: &Case,
     answer: &F,
-) -> io::Result<()>
+)
     requires { F.IsAlwaysCallable answer.now }
 {
-    match answer(rt.alloc(), case) {
-        Ok(found) => tally.compare(rt, place, case.last(), found.as_slice()),
-        Err(error) => tally.refuse(rt, place, error),
+    let mut found = Buffer::new(rt.alloc());
+    match answer(rt.alloc(), case, &mut found) {
+        Ok(()) => tally.compare_answer(rt, location, case.last(), &found),
+        Err(error) => tally.refuse(rt, location, error),
     }
 }
 
-/// What the columns of a file's cases are.
-#[derive(Clone, Copy)]
-enum Columns {
-    Themselves,
-    Files,
-}
-
-/// Reads the case of a line, and compares the answer.
-fn check_line<R: Files + AllocGlobal + Print, F: Fn(Global, &Case) -> io::Result<Vec<u8>>>(
+/// Compares the answer to the case of a line. A line that is no case is refused.
+fn check_line<R: Files + AllocGlobal + Print, F: Fn(Global, &Case, &mut Buffer) -> io::Result<()>>(
     rt: &R,
     tally: &mut Tally,
-    place: Place<'_>,
+    location: Location<'_>,
     line: Result<Case, BadLine>,
     columns: Columns,
     answer: &F,
-) -> io::Result<()>
+)
     requires { F.IsAlwaysCallable answer.now }
 {
     let case = match line {
         Ok(case) => case,
-        Err(fault) => return tally.refuse(rt, place, fault),
+        Err(fault) => return tally.refuse(rt, location, fault),
     };
     match columns {
-        Columns::Themselves => check_case(rt, tally, place, &case, answer),
+        Columns::Themselves => check_case(rt, tally, location, &case, answer),
         Columns::Files => match case.of_files(rt) {
-            Ok(files) => check_case(rt, tally, place, &files, answer),
-            Err(error) => tally.refuse(rt, place, error),
+            Ok(contents) => check_case(rt, tally, location, &contents, answer),
+            Err(error) => tally.refuse(rt, location, error),
         },
     }
 }
 
 /// Compares the answers to all cases of the file.
-fn check_all<R: Files + AllocGlobal + Print, F: Fn(Global, &Case) -> io::Result<Vec<u8>>>(
+fn check_file<R: Files + AllocGlobal + Print, F: Fn(Global, &Case, &mut Buffer) -> io::Result<()>>(
     rt: &R,
     tally: &mut Tally,
     file: &str,
     count: usize,
     columns: Columns,
     answer: &F,
-) -> io::Result<()>
+)
     requires { F.IsAlwaysCallable answer.now }
 {
-    let text = fs::read_to_string(rt, file)?;
-    let mut shared = None;
     let mut line: u64 = 0;
+    let text = match fs::read_to_string(rt, file) {
+        Ok(text) => text,
+        Err(error) => return tally.refuse(rt, Location { file, line }, error),
+    };
+    let mut shared = None;
     for words in text.as_str().lines() {
         line = line.saturating_add(1);
         match kind_of(words) {
@@ -175,35 +225,8 @@ fn check_all<R: Files + AllocGlobal + Print, F: Fn(Global, &Case) -> io::Result<
             Line::Shared(column) => shared = column,
             Line::Columns => {
                 let case = Case::read(rt.alloc(), shared, words, count);
-                check_line(rt, tally, Place { file, line }, case, columns, answer)?;
+                check_line(rt, tally, Location { file, line }, case, columns, answer);
             }
         }
     }
-    Ok(())
-}
-
-/// Asks for the answer to each case of the file, which should have so many columns, and compares it with the last one.
-pub fn check<R: Files + AllocGlobal + Print, F: Fn(Global, &Case) -> io::Result<Vec<u8>>>(
-    rt: &R,
-    tally: &mut Tally,
-    file: &str,
-    count: usize,
-    answer: F,
-) -> io::Result<()>
-    requires { F.IsAlwaysCallable answer }
-{
-    check_all(rt, tally, file, count, Columns::Themselves, &answer)
-}
-
-/// As `check`, where each column names a file: the answer is asked and wanted of what the files hold.
-pub fn check_files<R: Files + AllocGlobal + Print, F: Fn(Global, &Case) -> io::Result<Vec<u8>>>(
-    rt: &R,
-    tally: &mut Tally,
-    file: &str,
-    count: usize,
-    answer: F,
-) -> io::Result<()>
-    requires { F.IsAlwaysCallable answer }
-{
-    check_all(rt, tally, file, count, Columns::Files, &answer)
 }

@@ -1,5 +1,5 @@
 //! Tests of what nothing above calls yet. They stand above org_roles, so that it is proved once. Everything else of it and
-//! of packages is tested by `call_cases`.
+//! of packages is tested by `portal_cases`.
 #![tactic(auto)]
 
 #[cfg(test)]

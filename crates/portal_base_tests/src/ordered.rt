@@ -1,5 +1,5 @@
 //! Words by their numbers: the calls that no crate above makes itself, where there is enough memory. The others are
-//! tested at the lists of `org_roles`, by `call_cases`.
+//! tested at the lists of `org_roles`, by `portal_cases`.
 use portal_base::ordered::{Key, Ordered, find, insert, put, remove, reserve};
 use std::alloc::{AllocError, Global};
 use std::cmp::Ordering;
@@ -33,7 +33,7 @@ impl Key<Numbered> for u32 {
 
     ghost is_key = { λ key. IsKey-field (λ x. x.number) nat_cmp_total key };
 
-    fn stands(&self, item: &Numbered) -> Ordering {
+    fn compare_item(&self, item: &Numbered) -> Ordering {
         item.number.cmp(self)
     }
 }

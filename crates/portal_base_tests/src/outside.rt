@@ -120,7 +120,7 @@ fn a_listener_gives_its_links_in_order(rt: HostRuntime) -> Result<(), AllocError
     Ok(())
 }
 
-// Whether the ticker ends within so many rounds.
+// Whether the ticker ends within this count of rounds.
 fn ends_within<T: Ticker>(ticker: &mut T, rounds: u8) -> bool
     ensures ended { IsTrue result → T.has_ended ticker.new ≡ true }
 {

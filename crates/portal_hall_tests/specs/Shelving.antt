@@ -8,11 +8,11 @@ use Rattle.portal_hall_tests.specs.declared.shelf.Reply.{Reply}
 use Rattle.portal_hall_tests.specs.declared.shelf.Reply.TheVariants.{Created, Shown, InUse, Missing}
 use Rattle.portal_hall_tests.specs.declared.shelf.Reply.TheVariants.{Faulted, OutOfMemory}
 
--- whether the name stands among these
+-- whether the name is among these
 abbrev pub has : ℕ → List ℕ → Bool
 has name names = list_any (λ x. x == name) names
 
--- What comes of an event at these names. Where nothing breaks, the last two events show nothing.
+-- The outcome of an event at these names. If nothing breaks, the last two events show nothing.
 abbrev pub shelf_step : List ℕ → Event → Step (List ℕ) Reply
 shelf_step names (Create name) = if has name names
     then record { core = names; reply = InUse; is_accepted = false }
@@ -22,8 +22,8 @@ shelf_step names (Show name) =
 shelf_step names Break = record { core = names; reply = Missing; is_accepted = false }
 shelf_step names Starve = record { core = names; reply = Missing; is_accepted = false }
 
-abbrev pub SaysWant : Reply → Type 0
-SaysWant reply = reply ≡ OutOfMemory
+abbrev pub SaysOutOfMemory : Reply → Type 0
+SaysOutOfMemory reply = reply ≡ OutOfMemory
 
 abbrev pub SaysFault : Reply → Type 0
 SaysFault reply = reply ≡ Faulted

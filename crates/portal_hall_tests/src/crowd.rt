@@ -11,11 +11,11 @@ use std::alloc::Global;
 use std::sync::Wait;
 use std::thread::{Threads, join};
 
-/// A pass, and the places of the names that it created, as far as there was memory.
+/// A pass, and the indexes in the history of the names that it created, as far as there was memory.
 #[derive(Drop)]
 pub struct Made {
     pub pass: Pass<Shelf>,
-    pub places: Vec<u64>,
+    pub indexes: Vec<u64>,
 }
 
 /// Creates 25 names from `first` on.
@@ -30,16 +30,16 @@ pub fn create_names<R: Wait>(
     requires first { first < 2 ^ 32 }
     ensures { IsPassOf hall.now result.pass × (room_of result.pass ≡ room_of pass) }
 {
-    let mut places = Vec::new(alloc);
+    let mut indexes = Vec::new(alloc);
     for name in first..first + 25 {
-        if let Some(place) = create(rt, hall, &mut pass, name) {
-            let _ = places.push(place);
+        if let Some(index) = create(rt, hall, &mut pass, name) {
+            let _ = indexes.push(index);
         }
     }
-    Made { pass, places }
+    Made { pass, indexes }
 }
 
-/// Creates a name, and says its place in the history.
+/// Creates a name, and returns its index in the history.
 pub fn create<R: Wait>(rt: &R, hall: &Hall<Shelf>, pass: &mut Pass<Shelf>, name: u64) -> Option<u64>
     requires { IsPassOf hall.now pass.old }
     ensures { IsPassOf hall.now pass.new × (room_of pass.new ≡ room_of pass.old) }

@@ -1,4 +1,5 @@
-//! Tests of portal_hall that need threads or a machine of their own. They stand above it, so that it is proved once.
+//! Tests of portal_hall that need threads or a machine of their own. They are a crate of their own, so that portal_hall is
+//! proved once.
 #![tactic(auto)]
 
 mod crowd;

@@ -40,7 +40,7 @@ impl Shelf {
 
 impl Machine for Shelf {
     ghost use Rattle.std.specs.Prelude.{List, ℕ};
-    ghost use Rattle.portal_hall_tests.specs.Shelving.{shelf_step, SaysWant, SaysFault};
+    ghost use Rattle.portal_hall_tests.specs.Shelving.{shelf_step, SaysOutOfMemory, SaysFault};
 
     type Event = Event;
 
@@ -54,7 +54,7 @@ impl Machine for Shelf {
 
     ghost step = { shelf_step };
 
-    ghost IsWant = { SaysWant };
+    ghost IsOutOfMemory = { SaysOutOfMemory };
 
     ghost IsFault = { SaysFault };
 
@@ -96,7 +96,7 @@ impl Shelf {
             × (self.new.names.items ≡ self.old.names.items ++ name ∷ []) }
         ensures refused { result.1 ≡ false → self.new.names.items ≡ self.old.names.items }
         ensures in_use { has name self.old.names.items ≡ true → result.0 ≡ Reply.InUse }
-        ensures want { result.1 ≡ false → has name self.old.names.items ≡ false → result.0 ≡ Reply.OutOfMemory }
+        ensures out_of_memory { result.1 ≡ false → has name self.old.names.items ≡ false → result.0 ≡ Reply.OutOfMemory }
         ensures faults { self.new.faults ≡ self.old.faults }
     {
         if self.has(name) {

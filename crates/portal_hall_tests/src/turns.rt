@@ -6,8 +6,8 @@ use portal_hall::hall::Hall;
 use std::test::Fail;
 use std::thread::join;
 
-/// The reply, the front and the place, where the machine replied.
-fn told(acted: Acted<Shelf>) -> Option<(Reply, u64, Option<u64>)> {
+/// The reply, the front and the index, if the machine replied.
+fn reply_of(acted: Acted<Shelf>) -> Option<(Reply, u64, Option<u64>)> {
     match acted {
         Acted::Done {
             reply,
@@ -24,11 +24,11 @@ fn two_passes_and_one_history(rt: HostRuntime) -> Result<(), Fail> {
     let (hall, mut one) = opened.ok().ok_or("no hall")?;
     let mut two = hall.split(&mut one, 1);
     assert!(rt; one.room() == 1 && two.room() == 1);
-    let created = told(hall.act(&rt, &mut one, Event::Create(7)));
+    let created = reply_of(hall.act(&rt, &mut one, Event::Create(7)));
     assert!(rt; created == Some((Reply::Created, 1, Some(0))));
-    let shown = told(hall.act(&rt, &mut two, Event::Show(7)));
+    let shown = reply_of(hall.act(&rt, &mut two, Event::Show(7)));
     assert!(rt; shown == Some((Reply::Shown, 1, None)));
-    let again = told(hall.act(&rt, &mut two, Event::Create(7)));
+    let again = reply_of(hall.act(&rt, &mut two, Event::Create(7)));
     assert!(rt; again == Some((Reply::InUse, 1, None)));
     hall.join(&mut one, two);
     assert!(rt; one.room() == 2);
@@ -41,9 +41,9 @@ fn two_passes_and_one_history(rt: HostRuntime) -> Result<(), Fail> {
 fn a_machine_that_fails_goes_on(rt: HostRuntime) -> Result<(), Fail> {
     let opened = Hall::open(rt.alloc(), Shelf::new(rt.alloc()), 1);
     let (hall, mut pass) = opened.ok().ok_or("no hall")?;
-    let broken = told(hall.act(&rt, &mut pass, Event::Break));
+    let broken = reply_of(hall.act(&rt, &mut pass, Event::Break));
     assert!(rt; broken == Some((Reply::Faulted, 0, None)));
-    let starved = told(hall.act(&rt, &mut pass, Event::Starve));
+    let starved = reply_of(hall.act(&rt, &mut pass, Event::Starve));
     assert!(rt; starved == Some((Reply::OutOfMemory, 0, None)));
     assert!(rt; create(&rt, &hall, &mut pass, 3) == Some(0));
     let (shelf, history) = hall.close(pass);
@@ -61,10 +61,10 @@ fn sixty_four_seats_act_once_each(rt: HostRuntime) -> Result<(), Fail> {
     Ok(())
 }
 
-/// Counts, for each of the first hundred places, how often it was told.
+/// Counts, for each of the first hundred indexes, the passes that own it.
 fn note(counts: &mut [u8; 100], made: &Made) {
-    for place in made.places.as_slice() {
-        if let Some(count) = counts.get_mut(*place as usize) {
+    for index in made.indexes.as_slice() {
+        if let Some(count) = counts.get_mut(*index as usize) {
             *count = count.saturating_add(1);
         }
     }
@@ -85,7 +85,7 @@ fn each_place_is_that_of_one_pass(rt: HostRuntime) -> Result<(), Fail> {
     );
     let mut counts = [0u8; 100];
     for made in [&a, &b, &c, &d] {
-        assert!(rt; made.places.len() == 25);
+        assert!(rt; made.indexes.len() == 25);
         note(&mut counts, made);
     }
     assert!(rt; counts.iter().all(|count| *count == 1));

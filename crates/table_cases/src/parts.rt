@@ -2,7 +2,8 @@
 ghost use Rattle.std.specs.Prelude.{IfOk, IsTrue};
 ghost use Rattle.table_schema.specs.Values.{is_map};
 
-use crate::read::{id_of, invalid, json_of};
+use crate::read::{id_of, json_of};
+use cases::invalid;
 use datastore_query::Parts;
 use portal_base::copy::TryClone;
 use portal_base::json_value::Json;
@@ -19,10 +20,10 @@ fn text_at(alloc: Global, value: &Json, key: &str) -> io::Result<Text> {
     }
 }
 
-fn number_at(value: &Json, key: &str, otherwise: u64) -> io::Result<u64> {
+fn number_at(value: &Json, key: &str, default: u64) -> io::Result<u64> {
     match value.get(key) {
         Some(number) => id_of(number),
-        None => Ok(otherwise),
+        None => Ok(default),
     }
 }
 
@@ -45,29 +46,52 @@ fn fields_of(alloc: Global, value: &Json) -> io::Result<Option<Seq<Text>>> {
     }
 }
 
-// The filters, which are none where the key is absent.
-fn filters_of(alloc: Global, value: &str) -> io::Result<Json>
+/// The filters, which are none where the key is absent.
+fn filters_of(alloc: Global, value: Json) -> io::Result<Json>
     ensures { IfOk result (λ filters. IsTrue (is_map filters)) }
 {
-    match json_of(alloc, value)?.take("filters") {
+    match value.take("filters") {
         Some(Json::Map(entries)) => Ok(Json::Map(entries)),
         Some(_) => Err(invalid()),
         None => Ok(Json::Map(Seq::new(alloc))),
     }
 }
 
-/// The parts of a query, of a dictionary of those that aren't as where none is given.
-pub(crate) fn parts_of(alloc: Global, text: &str) -> io::Result<Parts>
+/// The texts: what is searched for, and the sort.
+fn texts_of(alloc: Global, value: &Json) -> io::Result<(Text, Text)> {
+    Ok((text_at(alloc, value, "q")?, text_at(alloc, value, "sort")?))
+}
+
+/// The limit and the offset.
+fn bounds_of(value: &Json) -> io::Result<(u64, u64)> {
+    Ok((
+        number_at(value, "limit", 100)?,
+        number_at(value, "offset", 0)?,
+    ))
+}
+
+/// The parts with these filters.
+fn parts_with(alloc: Global, filters: Json, value: &Json) -> io::Result<Parts>
+    requires { IsTrue (is_map filters) }
     ensures { IfOk result (λ parts. IsTrue (is_map parts.filters)) }
 {
-    let value = json_of(alloc, text)?;
+    let (limit, offset) = bounds_of(value)?;
+    let (q, sort) = texts_of(alloc, value)?;
     Ok(Parts {
-        filters: filters_of(alloc, text)?,
-        q: text_at(alloc, &value, "q")?,
+        filters,
+        q,
         distinct: matches!(value.get("distinct"), Some(Json::Truth(true))),
-        fields: fields_of(alloc, &value)?,
-        sort: text_at(alloc, &value, "sort")?,
-        limit: number_at(&value, "limit", 100)?,
-        offset: number_at(&value, "offset", 0)?,
+        fields: fields_of(alloc, value)?,
+        sort,
+        limit,
+        offset,
     })
+}
+
+/// The parts of a query, of a dictionary of those that aren't the default.
+pub fn parts_of(alloc: Global, text: &str) -> io::Result<Parts>
+    ensures { IfOk result (λ parts. IsTrue (is_map parts.filters)) }
+{
+    let filters = filters_of(alloc, json_of(alloc, text)?)?;
+    parts_with(alloc, filters, &json_of(alloc, text)?)
 }

@@ -1,55 +1,49 @@
 //! Tables that are restored.
-
-use crate::read::{id_of, invalid, items_of, json_of, schema_of};
-use crate::shown::push_table;
-use cases::Case;
+use crate::read::{entry_of, id_of, items_in, items_of, schema_of};
+use crate::table_text::push_table;
+use cases::{Buffer, Case, invalid};
 use datastore_table::Table;
 use portal_base::json_value::Json;
 use portal_base::seq::Seq;
-use std::alloc::{AllocError, Global};
+use std::alloc::Global;
 use std::io;
 use table_schema::Cell;
 
-fn number_cell(number: i128) -> io::Result<Cell> {
-    match number.checked_mul(1_000_000_000) {
-        Some(billionths) => Ok(Cell::Number(billionths)),
-        None => Err(invalid()),
-    }
+/// The cell of a number in billionths.
+fn number_cell(number: i128) -> Option<Cell> {
+    Some(Cell::Number(number.checked_mul(1_000_000_000)?))
 }
 
-fn int_cell(number: i128) -> io::Result<Cell> {
-    match i64::try_from(number) {
-        Ok(number) => Ok(Cell::Int(number)),
-        Err(_) => Err(invalid()),
-    }
+fn int_cell(number: i128) -> Option<Cell> {
+    Some(Cell::Int(i64::try_from(number).ok()?))
 }
 
-fn time_cell(second: i128) -> io::Result<Cell> {
-    match u32::try_from(second) {
-        Ok(second) => Ok(Cell::Time(second)),
-        Err(_) => Err(invalid()),
-    }
+fn time_cell(second: i128) -> Option<Cell> {
+    Some(Cell::Time(u32::try_from(second).ok()?))
 }
 
-// The cell of a dictionary of one member, whose key is the cell's type; null is no value.
-fn cell_of(value: Json) -> io::Result<Cell> {
-    let Json::Map(entries) = value else {
-        return Ok(Cell::Null);
-    };
-    let Some((word, value)) = entries.into_vec().into_iter().next() else {
-        return Err(invalid());
-    };
-    match (word.as_str(), value) {
-        ("text", Json::Text(text)) => Ok(Cell::Text(text)),
-        ("truth", Json::Truth(truth)) => Ok(Cell::Truth(truth)),
+/// The cell of that type and value.
+fn typed_cell(kind: &str, value: Json) -> Option<Cell> {
+    match (kind, value) {
+        ("text", Json::Text(text)) => Some(Cell::Text(text)),
+        ("truth", Json::Truth(truth)) => Some(Cell::Truth(truth)),
         ("number", Json::Whole(number)) => number_cell(number),
         ("int", Json::Whole(number)) => int_cell(number),
         ("time", Json::Whole(second)) => time_cell(second),
-        _ => Err(invalid()),
+        _ => None,
     }
 }
 
-// The `_id` of a row, and behind it its cells.
+/// The cell of a dictionary of one member, whose key is the cell's type; of another value the Null.
+fn cell_of(value: Json) -> io::Result<Cell> {
+    if !matches!(value, Json::Map(_)) {
+        return Ok(Cell::Null);
+    }
+    let (kind, value) = entry_of(value)?;
+    typed_cell(kind.as_str(), value).ok_or(invalid())
+}
+
+/// The `_id` of a row, its first item, and its cells.
 fn row_of(alloc: Global, value: Json) -> io::Result<(u64, Seq<Cell>)> {
     let mut id = None;
     let mut cells = Vec::new(alloc);
@@ -65,27 +59,27 @@ fn row_of(alloc: Global, value: Json) -> io::Result<(u64, Seq<Cell>)> {
     }
 }
 
-fn rows_of(alloc: Global, value: Json) -> io::Result<Seq<(u64, Seq<Cell>)>> {
+fn rows_in(alloc: Global, text: &str) -> io::Result<Seq<(u64, Seq<Cell>)>> {
     let mut rows = Vec::new(alloc);
-    for row in items_of(value)?.into_vec() {
+    for row in items_in(alloc, text)?.into_vec() {
         rows.push(row_of(alloc, row)?)?;
     }
     Ok(Seq::from(rows))
 }
 
-fn shown(alloc: Global, restored: Option<Table>) -> Result<String, AllocError> {
-    let mut shown = String::new(alloc);
-    match restored {
-        Some(table) => push_table(alloc, &mut shown, &table)?,
-        None => shown.push_str("none")?,
-    }
-    Ok(shown)
+/// The table of these rows and this next `_id`, where they are those of a table.
+fn restore(alloc: Global, descriptor: &str, rows: &str, next_id: u64) -> io::Result<Option<Table>> {
+    let rows = rows_in(alloc, rows)?;
+    let schema = schema_of(alloc, descriptor.as_bytes())?;
+    Ok(Table::restore(alloc, schema, rows, next_id)?)
 }
 
 /// A descriptor, rows, each with its `_id` before its cells, and the next `_id`: the table, or `none`.
-pub(crate) fn told(alloc: Global, case: &Case) -> io::Result<Vec<u8>> {
-    let rows = rows_of(alloc, json_of(alloc, case.text(1)?)?)?;
-    let schema = schema_of(alloc, case.text(0)?)?;
-    let restored = Table::restore(alloc, schema, rows, case.parsed(2)?)?;
-    Ok(shown(alloc, restored)?.into_bytes())
+pub fn table(alloc: Global, case: &Case, answer: &mut Buffer) -> io::Result<()> {
+    let (descriptor, rows) = case.two_texts()?;
+    match restore(alloc, descriptor, rows, case.parsed(2)?)? {
+        Some(table) => push_table(alloc, answer, &table),
+        None => answer.push("none"),
+    }
+    Ok(())
 }

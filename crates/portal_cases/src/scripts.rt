@@ -1,0 +1,151 @@
+//! Scripts and their transcripts: each file `NAME.script` is played, and `NAME.transcript` has what is expected: the
+//! lines that are written, and after them `status N` where the run ends with another status than 0. So a further case
+//! is two files. `out_of_memory.reply` has what is written for a call for which there is no memory, to which no script
+//! comes.
+use action_api::reply::reply_text;
+use cases::{Buffer, Location, Tally};
+use portal_base::counted::{CountNonces, ScriptClock};
+use portal_base::memory::{MemorySink, MemorySource};
+use portal_base::seq::Seq;
+use portal_core::event::{Refusal, Reply};
+use portal_serve::defaults::default_portal;
+use portal_serve::play::{PlayEnd, play};
+use std::alloc::{AllocError, Global};
+use std::{fs, io};
+
+/// How many bytes of a transcript there is room for.
+const ROOM: usize = 100_000;
+
+/// The program's status for a run that ends so.
+fn status_of(end: PlayEnd) -> u8 {
+    match end {
+        PlayEnd::Done => 0,
+        PlayEnd::ReadFault => 3,
+        PlayEnd::WriteFault => 4,
+        PlayEnd::OutOfMemory => 6,
+        PlayEnd::TooLong => 9,
+    }
+}
+
+/// Plays what input gives on the default portal, and gives the status.
+fn play_default(
+    alloc: Global,
+    input: &mut MemorySource,
+    output: &mut MemorySink,
+) -> Result<u8, AllocError> {
+    let mut portal = default_portal(alloc)?;
+    Ok(status_of(play(
+        alloc,
+        &mut portal,
+        input,
+        output,
+        &mut ScriptClock::new(),
+        &mut CountNonces::new(),
+    )))
+}
+
+/// The transcript of a script, and after it the status where that isn't 0.
+fn transcript_of(alloc: Global, script: Vec<u8>) -> Result<Buffer, AllocError> {
+    let mut input = MemorySource::new(Seq::from(script), Seq::new(alloc));
+    let mut output = MemorySink::new(alloc, ROOM, Seq::new(alloc))?;
+    let status = play_default(alloc, &mut input, &mut output)?;
+    let mut transcript = Buffer::new(alloc);
+    transcript.push_bytes(output.taken());
+    if status != 0 {
+        transcript.push("status ");
+        transcript.push_value(&status);
+        transcript.push("\n");
+    }
+    Ok(transcript)
+}
+
+/// The line of the first byte in which the two differ, the first one 1.
+fn line_of_difference(expected: &[u8], found: &[u8]) -> u64 {
+    let mut line: u64 = 1;
+    for (one, other) in expected.iter().zip(found.iter()) {
+        if one != other {
+            return line;
+        }
+        if *one == b'\n' {
+            line = line.saturating_add(1);
+        }
+    }
+    line
+}
+
+/// The name of a file with that ending.
+fn file_name(alloc: Global, name: &str, ending: &str) -> Result<String, AllocError> {
+    format!(in alloc; "{name}{ending}")
+}
+
+/// Compares what was written with the content of the file with that ending.
+pub fn compare_with(
+    rt: &HostRuntime,
+    tally: &mut Tally,
+    name: &str,
+    ending: &str,
+    found: &[u8],
+) -> io::Result<()> {
+    let file = file_name(rt.alloc(), name, ending)?;
+    let file = file.as_str();
+    let expected = fs::read(rt, file)?;
+    let line = line_of_difference(expected.as_slice(), found);
+    tally.compare(rt, Location { file, line }, expected.as_slice(), found);
+    Ok(())
+}
+
+/// The content of the file with that ending.
+pub fn content_of(rt: &HostRuntime, name: &str, ending: &str) -> io::Result<Vec<u8>> {
+    fs::read(rt, file_name(rt.alloc(), name, ending)?)
+}
+
+/// Plays the script of this name, and compares what it writes with its transcript.
+fn check_script(rt: &HostRuntime, tally: &mut Tally, name: &str) -> io::Result<()> {
+    let script = content_of(rt, name, ".script")?;
+    let found = transcript_of(rt.alloc(), script)?;
+    compare_with(rt, tally, name, ".transcript", found.bytes()?)
+}
+
+/// What is written for a call for which there is no memory.
+fn out_of_memory(alloc: Global) -> Result<Buffer, AllocError> {
+    let reply = Ok(Reply::Refused(Refusal::OutOfMemory));
+    let (status, text) = reply_text(alloc, Some("package_show"), &reply)?;
+    let mut written = Buffer::of_value(alloc, &status);
+    written.push(" ");
+    written.push_bytes(text.as_slice());
+    written.push("\n");
+    Ok(written)
+}
+
+/// Adds what comes before the ending in the file's name, where it has that ending.
+fn push_name(
+    alloc: Global,
+    names: &mut Vec<String>,
+    file: &str,
+    ending: &str,
+) -> Result<(), AllocError> {
+    if let Some(name) = file.strip_suffix(ending) {
+        names.push(String::from_str(alloc, name)?)?;
+    }
+    Ok(())
+}
+
+/// What comes before the ending in the names of the folder's files with it, ascending.
+pub fn names_with(rt: &HostRuntime, ending: &str) -> io::Result<Vec<String>> {
+    let mut names = Vec::new(rt.alloc());
+    for entry in fs::read_dir(rt, ".")? {
+        let entry = entry?;
+        push_name(rt.alloc(), &mut names, entry.file_name(), ending)?;
+    }
+    names.sort()?;
+    Ok(names)
+}
+
+/// Plays all scripts of the folder.
+pub fn check_scripts(rt: &HostRuntime, tally: &mut Tally) -> io::Result<()> {
+    for name in names_with(rt, ".script")?.iter() {
+        check_script(rt, tally, name.as_str())?;
+    }
+    let found = out_of_memory(rt.alloc())?;
+    compare_with(rt, tally, "out_of_memory", ".reply", found.bytes()?)
+}
