@@ -28,7 +28,7 @@ def descriptor(kind):
     return f'{{"fields":[{{"name":"f","type":"{kind}"}}]}}'
 
 
-program = built("cell_cases", "cells", descriptor("integer"))
+program = built("table_cases", "cells", descriptor("integer"))
 print(f"{'type':>8} {'cells':>9} {'seconds':>9} {'M cells/s':>10} {'peak MiB':>9}")
 for kind, count in (("integer", 10**6), ("number", 10**6), ("date", 10**6), ("integer", 4 * 10**6)):
     _, seconds, peak = measured(program, cells_of(kind, count), "cells", descriptor(kind))

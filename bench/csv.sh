@@ -6,7 +6,7 @@ exec python3 -B - <<'PY'
 from measuring import built, measured
 from rows import DESCRIPTOR, rows_of
 
-program = built("cell_cases", "cells", DESCRIPTOR)
+program = built("table_cases", "cells", DESCRIPTOR)
 print(f"{'rows':>9} {'MiB':>7} {'seconds':>9} {'k rows/s':>9} {'peak MiB':>9}")
 for count in (100_000, 400_000):
     length, seconds, peak = measured(program, rows_of(count, ", end"), "rows", DESCRIPTOR)

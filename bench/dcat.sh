@@ -53,7 +53,7 @@ def table(title, counts, dataset):
         print(f"{'':<22} {count:>9} {seconds:>9.3f} {peak:>9.1f}")
 
 
-program = built("graph_cases", "triples")
+program = built("format_cases", "triples")
 table("each with its own file", (1000, 2000, 4000), dataset)
 table("one shared by all", (2000, 4000, 8000), sharing)
 PY

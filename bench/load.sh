@@ -41,7 +41,7 @@ def seconds_of(count):
 
 
 # The least of all rounds. SQLite runs behind them, since a program's peak memory counts that of the one that starts it.
-program = built("call_cases", "create", "0")
+program = built("portal_cases", "create", "0")
 peak = {}
 rounds = [{count: evened(seconds_of, count, COUNTS[-1]) for count in COUNTS} for _ in range(ROUNDS)]
 beside = [{count: evened(sqlite_of, count, COUNTS[-1]) for count in COUNTS} for _ in range(ROUNDS)]

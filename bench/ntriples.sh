@@ -31,7 +31,7 @@ def document_of(size):
     return write
 
 
-program = built("graph_cases", "triples")
+program = built("format_cases", "triples")
 print(f"{'MiB':>6} {'seconds':>9} {'MiB/s':>7} {'peak MiB':>9}")
 for mebibytes in (8, 32, 64):
     length, seconds, peak = measured(program, document_of(mebibytes * 2**20), "triples")

@@ -13,7 +13,7 @@ COUNTS = (10_000, 20_000, 40_000)
 BOUND = 2.3
 ROUNDS = 24
 
-program = built("call_cases", "create", "0")
+program = built("portal_cases", "create", "0")
 
 
 def seconds_of(kind, count):
