@@ -37,7 +37,12 @@ use Rattle.portal_calls.specs.declared.answer.Right.TheVariants.{CreateDataset, 
 use Rattle.portal_calls.specs.declared.call.Call.{Call}
 use Rattle.portal_calls.proofs.Answering.{AcceptsOnly-answer_if_found, AcceptsOnly-answer_if_authorized, AcceptsOnly-answer_if_valid}
 use Rattle.portal_calls.proofs.Answering.{AcceptsOnly-answer_unless_denied, authorized_thing-ok, error_if-none, thing_at-ok}
-use Rattle.dataset_answers.specs.Answers.{answer_to_package_create, answer_to_package_change}
+use Rattle.portal_calls.specs.declared.topic.DatasetAction.{DatasetAction}
+use Rattle.portal_calls.specs.declared.topic.DatasetAction.TheVariants.{PackageCreate, PackageUpdate, PackagePatch}
+use Rattle.portal_calls.specs.declared.topic.DatasetAction.TheVariants.{PackageDelete, DatasetPurge, PackageShow}
+use Rattle.portal_calls.specs.declared.topic.DatasetAction.TheVariants.{PackageList, ResourceCreate, ResourceUpdate}
+use Rattle.portal_calls.specs.declared.topic.DatasetAction.TheVariants.{ResourceDelete, ResourceShow}
+use Rattle.dataset_answers.specs.Answers.{answer_to_action, answer_to_package_create, answer_to_package_change}
 use Rattle.dataset_answers.specs.Answers.{answer_to_package_update, answer_to_package_patch, answer_to_package_delete}
 use Rattle.dataset_answers.specs.Answers.{answer_to_dataset_purge, answer_to_package_show, answer_to_package_list}
 use Rattle.dataset_answers.specs.Answers.{answer_to_resource_create, answer_to_resource_update}
@@ -228,7 +233,7 @@ editable-located view located is =
 
 -- ---- the answers
 
-pub create_fit : (view : CallView) (summaries : List TableSummary)
+create_fit : (view : CallView) (summaries : List TableSummary)
     → AcceptsOnly (IsFitDataset view summaries) (answer_to_package_create view)
 create_fit view summaries =
     AcceptsOnly-answer_if_authorized (IsFitDataset view summaries) (may_create view) CreateDataset _
@@ -249,15 +254,15 @@ change-fit whole view summaries =
     (changed-like view.call whole dataset (dataset-no_errors view.people body (Some dataset) parts.0).no_body_errors)
     (inr (no_table_lost summaries changed parts.1))))
 
-pub update_fit : (view : CallView) (summaries : List TableSummary)
+update_fit : (view : CallView) (summaries : List TableSummary)
     → AcceptsOnly (IsFitDataset view summaries) (answer_to_package_update view summaries)
 update_fit = change-fit true
 
-pub patch_fit : (view : CallView) (summaries : List TableSummary)
+patch_fit : (view : CallView) (summaries : List TableSummary)
     → AcceptsOnly (IsFitDataset view summaries) (answer_to_package_patch view summaries)
 patch_fit = change-fit false
 
-pub delete_fit : (view : CallView) (summaries : List TableSummary)
+delete_fit : (view : CallView) (summaries : List TableSummary)
     → AcceptsOnly (IsFitDataset view summaries) (answer_to_package_delete view)
 delete_fit view summaries =
     AcceptsOnly-answer_if_found (IsFitDataset view summaries) (editable_dataset_at (codes "id") view) _
@@ -268,7 +273,7 @@ delete_fit view summaries =
     (λ is_present. numbered_with_same_numbers dataset deleted is_present refl refl))
     (inl (all-keep dataset))))
 
-pub purge_fit : (view : CallView) (summaries : List TableSummary)
+purge_fit : (view : CallView) (summaries : List TableSummary)
     → AcceptsOnly (IsFitDataset view summaries) (answer_to_dataset_purge view)
 purge_fit view summaries =
     AcceptsOnly-answer_if_found (IsFitDataset view summaries) (purgeable_dataset view) _
@@ -278,7 +283,7 @@ purge_fit view summaries =
     (dataset_at (codes "id") view) dataset purgeable in
     record { old = dataset; is_present = at-is_present (codes "id") view dataset found.1; id = refl }))
 
-pub resource_create_fit : (view : CallView) (summaries : List TableSummary)
+resource_create_fit : (view : CallView) (summaries : List TableSummary)
     → AcceptsOnly (IsFitDataset view summaries) (answer_to_resource_create view summaries)
 resource_create_fit view summaries =
     let body = view.call.request.body in
@@ -291,7 +296,7 @@ resource_create_fit view summaries =
     (λ is_present. numbered_with_one_more dataset more resource is_present refl refl refl))
     (inl (more-keep dataset more resource refl))))
 
-pub resource_update_fit : (view : CallView) (summaries : List TableSummary)
+resource_update_fit : (view : CallView) (summaries : List TableSummary)
     → AcceptsOnly (IsFitDataset view summaries) (answer_to_resource_update view summaries)
 resource_update_fit view summaries =
     let body = view.call.request.body in
@@ -307,7 +312,7 @@ resource_update_fit view summaries =
     found.there refl refl refl))
     (inl (position-keeps located.dataset changed located.position located.resource resource found.there refl refl))))
 
-pub resource_delete_fit : (view : CallView) (summaries : List TableSummary)
+resource_delete_fit : (view : CallView) (summaries : List TableSummary)
     → AcceptsOnly (IsFitDataset view summaries) (answer_to_resource_delete view summaries)
 resource_delete_fit view summaries =
     AcceptsOnly-answer_if_found (IsFitDataset view summaries) (editable_resource_at view) _
@@ -333,3 +338,19 @@ list_only P view =
     AcceptsOnly-answer_unless_denied P
     (denial_of (error_if (codes "offset") (kind_message (count_at (codes "offset") view.call.request.body))
     (error_if (codes "limit") (kind_message (count_at (codes "limit") view.call.request.body)) []))) _ (λ none. tt)
+
+-- ---- every action
+
+pub action_fit : (action : DatasetAction) (view : CallView) (summaries : List TableSummary)
+    → AcceptsOnly (IsFitDataset view summaries) (answer_to_action action view summaries)
+action_fit PackageCreate view summaries = create_fit view summaries
+action_fit PackageUpdate view summaries = update_fit view summaries
+action_fit PackagePatch view summaries = patch_fit view summaries
+action_fit PackageDelete view summaries = delete_fit view summaries
+action_fit DatasetPurge view summaries = purge_fit view summaries
+action_fit PackageShow view summaries = show_only (IsFitDataset view summaries) view summaries
+action_fit PackageList view summaries = list_only (IsFitDataset view summaries) view
+action_fit ResourceCreate view summaries = resource_create_fit view summaries
+action_fit ResourceUpdate view summaries = resource_update_fit view summaries
+action_fit ResourceDelete view summaries = resource_delete_fit view summaries
+action_fit ResourceShow view summaries = resource_show_only (IsFitDataset view summaries) view summaries

@@ -20,6 +20,11 @@ use Rattle.portal_calls.specs.declared.answer.Answer.{Answer}
 use Rattle.portal_calls.specs.declared.answer.Answer.TheVariants.{Shown, Accepted}
 use Rattle.portal_calls.specs.declared.answer.Denial.{Denial}
 use Rattle.portal_calls.specs.declared.answer.Right.TheVariants.{CreateDataset, PurgeDataset}
+use Rattle.portal_calls.specs.declared.topic.DatasetAction.{DatasetAction}
+use Rattle.portal_calls.specs.declared.topic.DatasetAction.TheVariants.{PackageCreate, PackageUpdate, PackagePatch}
+use Rattle.portal_calls.specs.declared.topic.DatasetAction.TheVariants.{PackageDelete, DatasetPurge, PackageShow}
+use Rattle.portal_calls.specs.declared.topic.DatasetAction.TheVariants.{PackageList, ResourceCreate, ResourceUpdate}
+use Rattle.portal_calls.specs.declared.topic.DatasetAction.TheVariants.{ResourceDelete, ResourceShow}
 use Rattle.dataset_answers.specs.Dictionary.{package_dictionary, resource_dictionary}
 use Rattle.dataset_answers.specs.Lookup.{dataset_at, editable_dataset_at, naming_key, resource_at, editable_resource_at}
 use Rattle.dataset_answers.specs.Bodies.{organization_given, dataset_errors, created_dataset, changed_dataset}
@@ -132,3 +137,18 @@ answer_to_resource_delete view summaries =
     (λ located.
     let changed = without_resource_at view.call located.dataset located.position in
     answer_if_valid view.quota (error_if (codes "id") (lost_table_error summaries changed) []) (Accepted json.Null (Replace changed)))
+
+-- ---- every action
+
+abbrev pub answer_to_action : DatasetAction → CallView → List TableSummary → Answer DatasetChange
+answer_to_action PackageCreate view summaries = answer_to_package_create view
+answer_to_action PackageUpdate view summaries = answer_to_package_update view summaries
+answer_to_action PackagePatch view summaries = answer_to_package_patch view summaries
+answer_to_action PackageDelete view summaries = answer_to_package_delete view
+answer_to_action DatasetPurge view summaries = answer_to_dataset_purge view
+answer_to_action PackageShow view summaries = answer_to_package_show view summaries
+answer_to_action PackageList view summaries = answer_to_package_list view
+answer_to_action ResourceCreate view summaries = answer_to_resource_create view summaries
+answer_to_action ResourceUpdate view summaries = answer_to_resource_update view summaries
+answer_to_action ResourceDelete view summaries = answer_to_resource_delete view summaries
+answer_to_action ResourceShow view summaries = answer_to_resource_show view summaries

@@ -5,7 +5,7 @@
 ghost use Rattle.std.specs.Prelude.{◌≡◌, IfOk};
 ghost use Rattle.visibility.specs.TableSummary.{summaries_seen};
 ghost use Rattle.visibility.specs.CallView.{context_view};
-ghost use Rattle.dataset_answers.specs.Answers.{answer_to_package_show, answer_to_package_list};
+ghost use Rattle.dataset_answers.specs.Answers.{answer_to_action, answer_to_package_show, answer_to_package_list};
 ghost use Rattle.dataset_answers.specs.Answers.{can_create_in, may_create};
 ghost use Rattle.dataset_answers.specs.Answers.{answer_to_package_create, answer_to_package_change};
 ghost use Rattle.dataset_answers.specs.Answers.{answer_to_package_update, answer_to_package_patch};
@@ -32,14 +32,40 @@ use portal_base::copy::TryClone;
 use portal_base::json_value::Json;
 use portal_base::key_errors::KeyErrors;
 use portal_calls::answer::{Answer, Denial, Right, denial_of, denial_with_quota};
+use portal_calls::topic::DatasetAction;
 use std::alloc::{AllocError, Global};
 use visibility::context::CallContext;
 use visibility::table_lookup::{NoTables, TableLookup};
 
+/// The answer to a call of this action.
+pub fn answer<H: TableLookup>(
+    alloc: Global,
+    context: &CallContext<'_>,
+    tables: &H,
+    action: DatasetAction,
+) -> Result<Answer<DatasetChange>, AllocError>
+    ensures { IfOk result (λ answer. answer ≡ answer_to_action action (context_view context.now)
+        (summaries_seen (context_view context.now).datasets (H.summaries tables.now))) }
+{
+    match action {
+        DatasetAction::PackageCreate => package_create(alloc, context),
+        DatasetAction::PackageUpdate => package_update(alloc, context, tables),
+        DatasetAction::PackagePatch => package_patch(alloc, context, tables),
+        DatasetAction::PackageDelete => package_delete(alloc, context),
+        DatasetAction::DatasetPurge => dataset_purge(alloc, context),
+        DatasetAction::PackageShow => package_show(alloc, context, tables),
+        DatasetAction::PackageList => package_list(alloc, context),
+        DatasetAction::ResourceCreate => resource_create(alloc, context, tables),
+        DatasetAction::ResourceUpdate => resource_update(alloc, context, tables),
+        DatasetAction::ResourceDelete => resource_delete(alloc, context, tables),
+        DatasetAction::ResourceShow => resource_show(alloc, context, tables),
+    }
+}
+
 // ---- reads
 
 /// The answer to a `package_show`.
-pub fn package_show<H: TableLookup>(
+fn package_show<H: TableLookup>(
     alloc: Global,
     context: &CallContext<'_>,
     tables: &H,
@@ -54,7 +80,7 @@ pub fn package_show<H: TableLookup>(
 }
 
 /// The answer to a `package_list`.
-pub fn package_list(
+fn package_list(
     alloc: Global,
     context: &CallContext<'_>,
 ) -> Result<Answer<DatasetChange>, AllocError>
@@ -72,7 +98,7 @@ pub fn package_list(
 }
 
 /// The answer to a `resource_show`.
-pub fn resource_show<H: TableLookup>(
+fn resource_show<H: TableLookup>(
     alloc: Global,
     context: &CallContext<'_>,
     tables: &H,
@@ -116,7 +142,7 @@ fn can_create_here(context: &CallContext<'_>) -> bool
 }
 
 /// The answer to a `package_create`.
-pub fn package_create(
+fn package_create(
     alloc: Global,
     context: &CallContext<'_>,
 ) -> Result<Answer<DatasetChange>, AllocError>
@@ -135,7 +161,7 @@ pub fn package_create(
 }
 
 /// The answer to a `package_update`.
-pub fn package_update<H: TableLookup>(
+fn package_update<H: TableLookup>(
     alloc: Global,
     context: &CallContext<'_>,
     tables: &H,
@@ -147,7 +173,7 @@ pub fn package_update<H: TableLookup>(
 }
 
 /// The answer to a `package_patch`.
-pub fn package_patch<H: TableLookup>(
+fn package_patch<H: TableLookup>(
     alloc: Global,
     context: &CallContext<'_>,
     tables: &H,
@@ -186,7 +212,7 @@ fn package_change<H: TableLookup>(
 // ---- deletion of datasets
 
 /// The answer to a `package_delete`.
-pub fn package_delete(
+fn package_delete(
     alloc: Global,
     context: &CallContext<'_>,
 ) -> Result<Answer<DatasetChange>, AllocError>
@@ -204,7 +230,7 @@ pub fn package_delete(
 }
 
 /// The answer to a `dataset_purge`.
-pub fn dataset_purge(
+fn dataset_purge(
     alloc: Global,
     context: &CallContext<'_>,
 ) -> Result<Answer<DatasetChange>, AllocError>
@@ -224,7 +250,7 @@ pub fn dataset_purge(
 // ---- resources
 
 /// The answer to a `resource_create`.
-pub fn resource_create<H: TableLookup>(
+fn resource_create<H: TableLookup>(
     alloc: Global,
     context: &CallContext<'_>,
     tables: &H,
@@ -253,7 +279,7 @@ pub fn resource_create<H: TableLookup>(
 }
 
 /// The answer to a `resource_update`.
-pub fn resource_update<H: TableLookup>(
+fn resource_update<H: TableLookup>(
     alloc: Global,
     context: &CallContext<'_>,
     tables: &H,
@@ -277,7 +303,7 @@ pub fn resource_update<H: TableLookup>(
 }
 
 /// The answer to a `resource_delete`.
-pub fn resource_delete<H: TableLookup>(
+fn resource_delete<H: TableLookup>(
     alloc: Global,
     context: &CallContext<'_>,
     tables: &H,

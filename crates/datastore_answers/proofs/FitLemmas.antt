@@ -1,7 +1,7 @@
 -- The changes that the answers on tables accept are fit.
 use Rattle.std.proofs.Common.{◌≡◌, ℕ, Bool, true, false, not, List, [], Option, Some, None, Result, Ok, Err}
 use Rattle.std.proofs.Common.{refl, subst, sym}
-use Rattle.std.specs.Prelude.{codes, slice_get}
+use Rattle.std.specs.Prelude.{IfOk, codes, slice_get}
 use Rattle.std.specs.List.{Contains}
 use Rattle.portal_base.specs.KeyErrors.{KeyError, error_if}
 use Rattle.portal_base.specs.declared.json_value.Json.{Json}
@@ -12,8 +12,10 @@ use Rattle.portal_calls.specs.declared.answer.Answer.{Answer}
 use Rattle.portal_calls.specs.Answer.{AcceptsOnly}
 use Rattle.portal_calls.specs.declared.answer.Denial.{Denial}
 use Rattle.portal_calls.specs.declared.answer.Quota.{Quota}
-use Rattle.portal_calls.specs.declared.answer.Answer.TheVariants.{Shown}
+use Rattle.portal_calls.specs.declared.answer.Answer.TheVariants.{Shown, Refused, Accepted}
 use Rattle.portal_calls.specs.declared.answer.Right.TheVariants.{EditDataset}
+use Rattle.portal_calls.specs.declared.topic.TableAction.{TableAction}
+use Rattle.portal_calls.specs.declared.topic.TableAction.TheVariants.{DatastoreCreate, DatastoreInfo, DatastoreUpsert}
 use Rattle.portal_calls.proofs.Answering.{AcceptsOnly-answer_if_authorized, AcceptsOnly-answer_if_valid, error_if-none}
 use Rattle.visibility.specs.CallView.{CallView}
 use Rattle.visibility.specs.Visibility.{may_edit_in}
@@ -22,9 +24,8 @@ use Rattle.datastore_table.specs.declared.fault.TableFault.{TableFault}
 use Rattle.datastore_table.specs.declared.method.Method.{Method}
 use Rattle.datastore_table.specs.declared.method.Method.TheVariants as method
 use Rattle.datastore_answers.specs.TableAnswers.{TableAcceptsOnly, address_of, answer_for_table, or_no_table}
-use Rattle.datastore_answers.specs.TableAnswers.{or_refused, resource_at}
-use Rattle.datastore_answers.specs.TableAnswers.{tables_beside}
-use Rattle.datastore_answers.specs.Answers.{answer_to_datastore_delete, answer_to_datastore_info}
+use Rattle.datastore_answers.specs.TableAnswers.{map_table_answer, or_refused, resource_at, tables_beside}
+use Rattle.datastore_answers.specs.Answers.{answer_to_action, answer_to_datastore_delete, answer_to_datastore_info}
 use Rattle.datastore_answers.specs.Answers.{answer_to_datastore_upsert, delete_answer, value_or, upsert_answer}
 use Rattle.datastore_answers.specs.Answers.{answer_to_datastore_create, create_answer_for, accepted_create_or_fill}
 use Rattle.datastore_answers.specs.Answers.{create_answer, create_table_answer}
@@ -34,10 +35,14 @@ use Rattle.datastore_answers.specs.Described.{described_table, unless_errors, ex
 use Rattle.datastore_answers.specs.Linked.{put_among}
 use Rattle.datastore_answers.specs.Dictionary.{info_dictionary}
 use Rattle.datastore_answers.specs.Fit.{IsFitDeleteRows, IsFitTable, IsFitCreate, IsOwn, IsFitPut}
+use Rattle.datastore_answers.specs.Plan.{change_of}
 use Rattle.datastore_answers.specs.Restrict.{is_referenced}
 use Rattle.datastore_answers.specs.Tables.{table_at}
 use Rattle.datastore_answers.specs.Errors.{OrError, read_method, read_records, records_error, error_of, put_errors}
 use Rattle.datastore_answers.specs.Errors.{filters_error, put_error, delete_rows_errors, remove_errors}
+use Rattle.datastore_answers.specs.declared.answer.TableAnswer.{TableAnswer}
+use Rattle.datastore_answers.specs.declared.answer.TableAnswer.TheVariants.{Answered, NoTable}
+use Rattle.datastore_answers.specs.declared.plan.TablePlan.{TablePlan}
 use Rattle.datastore_answers.specs.declared.resource_table.ResourceTable.{ResourceTable}
 use Rattle.datastore_answers.proofs.CreateLemmas.{IsEmptyTable, new-empty_table, unless_errors-ok}
 use Rattle.datastore_answers.proofs.ViewLemmas.{resource-named, resource-seen}
@@ -271,3 +276,27 @@ create_fit view tables = by (resource_at (codes "resource_id") view) refl
     by (Err denial) named = tt
     by (Ok placed) named =
         by_table placed named (table_at placed.resource.number (tables_beside placed tables)) refl
+
+-- ---- every action
+
+pub action_fit : (action : TableAction) (view : CallView) (tables : List ResourceTable)
+    → TableAcceptsOnly (IsFitTable view tables) (answer_to_action action view tables)
+action_fit DatastoreCreate view tables = create_fit view tables
+action_fit DatastoreUpsert view tables = upsert_fit view tables
+action_fit DatastoreInfo view tables = info_only (IsFitTable view tables) view tables
+
+-- ---- readings, which plan nothing
+
+nothing-planned : (Q : TablePlan → Type 0) (answer : TableAnswer TablePlan)
+    → TableAcceptsOnly (λ change. ⊥) (map_table_answer change_of answer) → TableAcceptsOnly Q answer
+nothing-planned Q NoTable none = tt
+nothing-planned Q (Answered (Shown json)) none = tt
+nothing-planned Q (Answered (Refused denial)) none = tt
+nothing-planned Q (Answered (Accepted json plan)) none = absurd none
+
+pub reading_plans : {E : Type 0} (Q : TablePlan → Type 0) (result : Result (TableAnswer TablePlan) E)
+    (expected : TableAnswer TableChange) → TableAcceptsOnly (λ change. ⊥) expected
+    → IfOk result (λ answer. map_table_answer change_of answer ≡ expected) → IfOk result (TableAcceptsOnly Q)
+reading_plans Q (Ok answer) expected none is =
+    nothing-planned Q answer (subst (TableAcceptsOnly (λ change. ⊥)) (sym is) none)
+reading_plans Q (Err e) expected none is = tt

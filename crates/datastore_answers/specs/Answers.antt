@@ -10,6 +10,8 @@ use Rattle.portal_calls.specs.declared.answer.Answer.TheVariants.{Shown, Refused
 use Rattle.portal_calls.specs.declared.answer.Denial.TheVariants.{Validation}
 use Rattle.portal_calls.specs.declared.answer.Quota.{Quota}
 use Rattle.portal_calls.specs.declared.answer.Right.TheVariants.{EditDataset}
+use Rattle.portal_calls.specs.declared.topic.TableAction.{TableAction}
+use Rattle.portal_calls.specs.declared.topic.TableAction.TheVariants.{DatastoreCreate, DatastoreInfo, DatastoreUpsert}
 use Rattle.visibility.specs.CallView.{CallView}
 use Rattle.visibility.specs.Visibility.{may_edit_in}
 use Rattle.datastore_table.specs.declared.method.Method.{Method}
@@ -159,3 +161,10 @@ delete_rows_answer view found placed beside t =
 abbrev pub answer_to_datastore_delete_rows : CallView → List ResourceTable → OrError (List ℕ) → TableAnswer TableChange
 answer_to_datastore_delete_rows view tables found =
     answer_for_resource (codes "resource_id") view tables (delete_rows_answer view found)
+
+-- ---- every action
+
+abbrev pub answer_to_action : TableAction → CallView → List ResourceTable → TableAnswer TableChange
+answer_to_action DatastoreCreate view tables = answer_to_datastore_create view tables
+answer_to_action DatastoreUpsert view tables = answer_to_datastore_upsert view tables
+answer_to_action DatastoreInfo view tables = answer_to_datastore_info view tables

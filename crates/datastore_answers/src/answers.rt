@@ -14,7 +14,7 @@ ghost use Rattle.portal_calls.specs.declared.answer.Answer.TheVariants.{Accepted
 ghost use Rattle.table_schema.specs.Values.{is_map};
 ghost use Rattle.visibility.specs.CallView.{context_view};
 ghost use Rattle.datastore_answers.specs.TableAnswers.{TableAcceptsOnly, address_of, map_answer, map_table_answer};
-ghost use Rattle.datastore_answers.specs.Answers.{answer_to_datastore_create};
+ghost use Rattle.datastore_answers.specs.Answers.{answer_to_action, answer_to_datastore_create};
 ghost use Rattle.datastore_answers.specs.Answers.{answer_to_datastore_info, answer_to_datastore_upsert, accepted_put};
 ghost use Rattle.datastore_answers.specs.Answers.{answer_to_datastore_delete, accepted_delete_rows, delete_rows_answer};
 ghost use Rattle.datastore_answers.specs.Answers.{authorize_edit};
@@ -43,13 +43,35 @@ use portal_base::key_errors::KeyErrors;
 use portal_base::seq::Seq;
 use portal_base::text::Text;
 use portal_calls::answer::{Answer, Denial, Quota, Right, denial_with_quota};
+use portal_calls::topic::TableAction;
 use std::alloc::{AllocError, Global};
 use visibility::context::CallContext;
+
+/// The answer to a call of this action. It prepares the change and leaves the tables unchanged.
+pub fn answer(
+    alloc: Global,
+    context: &CallContext<'_>,
+    tables: &mut Tables,
+    action: TableAction,
+) -> Result<TableAnswer<TablePlan>, AllocError>
+    requires linked { AreLinked (tables_of tables.old) }
+    ensures same { tables_of tables.new ≡ tables_of tables.old }
+    ensures answer { IfOk result (λ answer. map_table_answer change_of answer
+        ≡ answer_to_action action (context_view context.now)
+        (tables_seen (context_view context.now).datasets (tables_of tables.old))) }
+    ensures ready { IfOk result (λ answer. TableAcceptsOnly (λ plan. IsPlanned plan tables.new) answer) }
+{
+    match action {
+        TableAction::DatastoreCreate => datastore_create(alloc, context, tables),
+        TableAction::DatastoreUpsert => datastore_upsert(alloc, context, tables),
+        TableAction::DatastoreInfo => datastore_info(alloc, context, tables),
+    }
+}
 
 // ---- readings
 
 /// The answer to a `datastore_info`.
-pub fn datastore_info(
+fn datastore_info(
     alloc: Global,
     context: &CallContext<'_>,
     tables: &Tables,
@@ -86,7 +108,7 @@ pub(crate) fn refuse(quota: Quota, errors: KeyErrors) -> Result<Answer<TablePlan
 // ---- new tables
 
 /// The answer to a `datastore_create`. It prepares the change and leaves the tables unchanged.
-pub fn datastore_create(
+fn datastore_create(
     alloc: Global,
     context: &CallContext<'_>,
     tables: &mut Tables,
@@ -279,7 +301,7 @@ fn answer_upsert(
 }
 
 /// The answer to a `datastore_upsert`. It prepares the change and leaves the tables unchanged.
-pub fn datastore_upsert(
+fn datastore_upsert(
     alloc: Global,
     context: &CallContext<'_>,
     tables: &mut Tables,

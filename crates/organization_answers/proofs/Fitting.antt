@@ -22,6 +22,14 @@ use Rattle.portal_calls.specs.declared.answer.Kind.TheVariants.{Organization}
 use Rattle.portal_calls.specs.declared.answer.Right.TheVariants.{CreateOrganization, AdministerOrganization}
 use Rattle.portal_calls.proofs.Answering.{AcceptsOnly-answer_if_found, AcceptsOnly-answer_if_authorized, AcceptsOnly-answer_if_valid}
 use Rattle.portal_calls.proofs.Answering.{AcceptsOnly-answer_unless_denied, authorized_thing-ok, error_if-none, thing_at-ok}
+use Rattle.portal_calls.specs.declared.topic.OrganizationAction.{OrganizationAction}
+use Rattle.portal_calls.specs.declared.topic.OrganizationAction.TheVariants.{OrganizationCreate, OrganizationPatch}
+use Rattle.portal_calls.specs.declared.topic.OrganizationAction.TheVariants.{OrganizationDelete, OrganizationShow}
+use Rattle.portal_calls.specs.declared.topic.OrganizationAction.TheVariants.{OrganizationList, OrganizationListForUser}
+use Rattle.portal_calls.specs.declared.topic.OrganizationAction.TheVariants.{OrganizationMemberCreate}
+use Rattle.portal_calls.specs.declared.topic.OrganizationAction.TheVariants.{OrganizationMemberDelete, MemberList}
+use Rattle.portal_calls.specs.declared.topic.OrganizationAction.TheVariants.{UserList}
+use Rattle.organization_answers.specs.Answers.{answer_to_action}
 use Rattle.organization_answers.specs.Answers.{answer_to_organization_create, answer_to_organization_patch}
 use Rattle.organization_answers.specs.Answers.{answer_to_organization_delete, answer_to_organization_show}
 use Rattle.organization_answers.specs.Answers.{answer_to_member_create, answer_to_member_delete}
@@ -126,19 +134,19 @@ former-member-exists people org body none =
 
 -- ---- the answers
 
-pub creation-fit : (view : CallView) → AcceptsOnly (IsFitOrg view) (answer_to_organization_create view)
+creation-fit : (view : CallView) → AcceptsOnly (IsFitOrg view) (answer_to_organization_create view)
 creation-fit view =
     AcceptsOnly-answer_if_authorized (IsFitOrg view) (is_sysadmin_in view.people view.call.caller) CreateOrganization _
     (λ sysadmin. AcceptsOnly-answer_if_valid (IsFitOrg view) view.quota (creation_errors view.call.request.body) _
     (λ none. record { named = creation-named view.call.request.body none; sysadmin = sysadmin }))
 
-pub patch-fit : (view : CallView) → AcceptsOnly (IsFitOrg view) (answer_to_organization_patch view)
+patch-fit : (view : CallView) → AcceptsOnly (IsFitOrg view) (answer_to_organization_patch view)
 patch-fit view =
     AcceptsOnly-answer_if_found (IsFitOrg view) (administered_organization view) _
     (λ org own. AcceptsOnly-answer_if_valid (IsFitOrg view) view.quota (patch_errors view.call.request.body) _
     (λ none. own-administered view org own))
 
-pub removal-fit : (view : CallView) → AcceptsOnly (IsFitOrg view) (answer_to_organization_delete view)
+removal-fit : (view : CallView) → AcceptsOnly (IsFitOrg view) (answer_to_organization_delete view)
 removal-fit view =
     AcceptsOnly-answer_if_found (IsFitOrg view) (administered_organization view) _
     (λ org own. AcceptsOnly-answer_if_valid (IsFitOrg view) view.quota (removal_errors org.name view.datasets) _
@@ -147,7 +155,7 @@ removal-fit view =
       empty = removal-empty org.name view.datasets none;
     }))
 
-pub member-fit : (view : CallView) → AcceptsOnly (IsFitOrg view) (answer_to_member_create view)
+member-fit : (view : CallView) → AcceptsOnly (IsFitOrg view) (answer_to_member_create view)
 member-fit view =
     AcceptsOnly-answer_if_found (IsFitOrg view) (administered_organization view) _
     (λ org own. AcceptsOnly-answer_if_valid (IsFitOrg view) view.quota (member_errors view.people view.call.request.body) _
@@ -156,7 +164,7 @@ member-fit view =
       user_exists = member-exists view.people view.call.request.body none;
     }))
 
-pub former-member-fit : (view : CallView) → AcceptsOnly (IsFitOrg view) (answer_to_member_delete view)
+former-member-fit : (view : CallView) → AcceptsOnly (IsFitOrg view) (answer_to_member_delete view)
 former-member-fit view =
     AcceptsOnly-answer_if_found (IsFitOrg view) (administered_organization view) _
     (λ org own. AcceptsOnly-answer_if_valid (IsFitOrg view) view.quota
@@ -179,3 +187,18 @@ pub list-only : (P : OrgChange → Type 0) (view : CallView) → AcceptsOnly P (
 list-only P view =
     AcceptsOnly-answer_unless_denied P (denial_of (error_if (codes "all_fields")
     (kind_message (truth_at (codes "all_fields") view.call.request.body)) [])) _ (λ none. tt)
+
+-- ---- every action
+
+pub action_fit : (action : OrganizationAction) (view : CallView)
+    → AcceptsOnly (IsFitOrg view) (answer_to_action action view)
+action_fit OrganizationCreate view = creation-fit view
+action_fit OrganizationPatch view = patch-fit view
+action_fit OrganizationDelete view = removal-fit view
+action_fit OrganizationShow view = show-only (IsFitOrg view) view
+action_fit OrganizationList view = list-only (IsFitOrg view) view
+action_fit OrganizationListForUser view = tt
+action_fit OrganizationMemberCreate view = member-fit view
+action_fit OrganizationMemberDelete view = former-member-fit view
+action_fit MemberList view = members-only (IsFitOrg view) view
+action_fit UserList view = tt

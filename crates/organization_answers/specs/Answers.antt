@@ -23,6 +23,13 @@ use Rattle.portal_calls.specs.declared.answer.Answer.TheVariants.{Shown, Accepte
 use Rattle.portal_calls.specs.declared.answer.Denial.{Denial}
 use Rattle.portal_calls.specs.declared.answer.Kind.TheVariants.{Organization}
 use Rattle.portal_calls.specs.declared.answer.Right.TheVariants.{CreateOrganization, AdministerOrganization}
+use Rattle.portal_calls.specs.declared.topic.OrganizationAction.{OrganizationAction}
+use Rattle.portal_calls.specs.declared.topic.OrganizationAction.TheVariants.{OrganizationCreate, OrganizationPatch}
+use Rattle.portal_calls.specs.declared.topic.OrganizationAction.TheVariants.{OrganizationDelete, OrganizationShow}
+use Rattle.portal_calls.specs.declared.topic.OrganizationAction.TheVariants.{OrganizationList, OrganizationListForUser}
+use Rattle.portal_calls.specs.declared.topic.OrganizationAction.TheVariants.{OrganizationMemberCreate}
+use Rattle.portal_calls.specs.declared.topic.OrganizationAction.TheVariants.{OrganizationMemberDelete, MemberList}
+use Rattle.portal_calls.specs.declared.topic.OrganizationAction.TheVariants.{UserList}
 use Rattle.visibility.specs.CallView.{CallView}
 use Rattle.organization_answers.specs.Dictionary.{organization_dictionary, capacity_dictionary, member_dictionary}
 use Rattle.organization_answers.specs.Dictionary.{member_entry}
@@ -121,3 +128,17 @@ answer_to_organization_list_for_user view = Shown (json.List (filter_map (capaci
 
 abbrev pub answer_to_user_list : CallView → Answer OrgChange
 answer_to_user_list view = Shown (json.List (map (λ user. json.Text user.name) view.people.users))
+
+-- ---- every action
+
+abbrev pub answer_to_action : OrganizationAction → CallView → Answer OrgChange
+answer_to_action OrganizationCreate view = answer_to_organization_create view
+answer_to_action OrganizationPatch view = answer_to_organization_patch view
+answer_to_action OrganizationDelete view = answer_to_organization_delete view
+answer_to_action OrganizationShow view = answer_to_organization_show view
+answer_to_action OrganizationList view = answer_to_organization_list view
+answer_to_action OrganizationListForUser view = answer_to_organization_list_for_user view
+answer_to_action OrganizationMemberCreate view = answer_to_member_create view
+answer_to_action OrganizationMemberDelete view = answer_to_member_delete view
+answer_to_action MemberList view = answer_to_member_list view
+answer_to_action UserList view = answer_to_user_list view

@@ -10,6 +10,7 @@ ghost use Rattle.packages.specs.Shelf.{datasets_of};
 ghost use Rattle.visibility.specs.View.{administers};
 ghost use Rattle.visibility.specs.Visibility.{is_public_if_harvested};
 ghost use Rattle.visibility.specs.CallView.{context_view};
+ghost use Rattle.organization_answers.specs.Answers.{answer_to_action};
 ghost use Rattle.organization_answers.specs.Answers.{answer_to_organization_create, answer_to_organization_patch};
 ghost use Rattle.organization_answers.specs.Answers.{answer_to_organization_delete, answer_to_organization_show};
 ghost use Rattle.organization_answers.specs.Answers.{answer_to_member_create, answer_to_member_delete};
@@ -29,11 +30,35 @@ use portal_base::kinds::truth_at;
 use portal_calls::answer::{
     Answer, Denial, Kind, Right, denial_of, denial_with_quota, key_denial, required_text,
 };
+use portal_calls::topic::OrganizationAction;
 use std::alloc::{AllocError, Global};
 use visibility::context::CallContext;
 
+/// The answer to a call of this action.
+pub fn answer(
+    alloc: Global,
+    context: &CallContext<'_>,
+    action: OrganizationAction,
+) -> Result<Answer<OrgChange>, AllocError>
+    requires open { IsTrue (list_all is_public_if_harvested (datasets_of context.now.shelf.now)) }
+    ensures { IfOk result (λ answer. answer ≡ answer_to_action action (context_view context.now)) }
+{
+    match action {
+        OrganizationAction::OrganizationCreate => organization_create(alloc, context),
+        OrganizationAction::OrganizationPatch => organization_patch(alloc, context),
+        OrganizationAction::OrganizationDelete => organization_delete(alloc, context),
+        OrganizationAction::OrganizationShow => organization_show(alloc, context),
+        OrganizationAction::OrganizationList => organization_list(alloc, context),
+        OrganizationAction::OrganizationListForUser => organization_list_for_user(alloc, context),
+        OrganizationAction::OrganizationMemberCreate => member_create(alloc, context),
+        OrganizationAction::OrganizationMemberDelete => member_delete(alloc, context),
+        OrganizationAction::MemberList => member_list(alloc, context),
+        OrganizationAction::UserList => user_list(alloc, context),
+    }
+}
+
 /// The answer to an `organization_create`.
-pub fn organization_create(
+fn organization_create(
     alloc: Global,
     context: &CallContext<'_>,
 ) -> Result<Answer<OrgChange>, AllocError>
@@ -92,7 +117,7 @@ fn administered_organization<'a>(
 // ---- organizations
 
 /// The answer to an `organization_patch`.
-pub fn organization_patch(
+fn organization_patch(
     alloc: Global,
     context: &CallContext<'_>,
 ) -> Result<Answer<OrgChange>, AllocError>
@@ -111,7 +136,7 @@ pub fn organization_patch(
 }
 
 /// The answer to an `organization_delete`.
-pub fn organization_delete(
+fn organization_delete(
     alloc: Global,
     context: &CallContext<'_>,
 ) -> Result<Answer<OrgChange>, AllocError>
@@ -131,7 +156,7 @@ pub fn organization_delete(
 }
 
 /// The answer to an `organization_show`.
-pub fn organization_show(
+fn organization_show(
     alloc: Global,
     context: &CallContext<'_>,
 ) -> Result<Answer<OrgChange>, AllocError>
@@ -146,10 +171,7 @@ pub fn organization_show(
 // ---- members
 
 /// The answer to an `organization_member_create`.
-pub fn member_create(
-    alloc: Global,
-    context: &CallContext<'_>,
-) -> Result<Answer<OrgChange>, AllocError>
+fn member_create(alloc: Global, context: &CallContext<'_>) -> Result<Answer<OrgChange>, AllocError>
     ensures { IfOk result (λ answer. answer ≡ answer_to_member_create (context_view context.now)) }
 {
     let org = match administered_organization(alloc, context)? {
@@ -166,10 +188,7 @@ pub fn member_create(
 }
 
 /// The answer to an `organization_member_delete`.
-pub fn member_delete(
-    alloc: Global,
-    context: &CallContext<'_>,
-) -> Result<Answer<OrgChange>, AllocError>
+fn member_delete(alloc: Global, context: &CallContext<'_>) -> Result<Answer<OrgChange>, AllocError>
     ensures { IfOk result (λ answer. answer ≡ answer_to_member_delete (context_view context.now)) }
 {
     let org = match administered_organization(alloc, context)? {
@@ -185,10 +204,7 @@ pub fn member_delete(
 }
 
 /// The answer to a `member_list`.
-pub fn member_list(
-    alloc: Global,
-    context: &CallContext<'_>,
-) -> Result<Answer<OrgChange>, AllocError>
+fn member_list(alloc: Global, context: &CallContext<'_>) -> Result<Answer<OrgChange>, AllocError>
     ensures { IfOk result (λ answer. answer ≡ answer_to_member_list (context_view context.now)) }
 {
     let org = match administered_organization(alloc, context)? {
@@ -201,7 +217,7 @@ pub fn member_list(
 // ---- lists
 
 /// The answer to an `organization_list`.
-pub fn organization_list(
+fn organization_list(
     alloc: Global,
     context: &CallContext<'_>,
 ) -> Result<Answer<OrgChange>, AllocError>
@@ -229,7 +245,7 @@ fn is_true(given: Option<Option<bool>>) -> bool
 }
 
 /// The answer to an `organization_list_for_user`.
-pub fn organization_list_for_user(
+fn organization_list_for_user(
     alloc: Global,
     context: &CallContext<'_>,
 ) -> Result<Answer<OrgChange>, AllocError>
@@ -239,7 +255,7 @@ pub fn organization_list_for_user(
 }
 
 /// The answer to a `user_list`.
-pub fn user_list(alloc: Global, context: &CallContext<'_>) -> Result<Answer<OrgChange>, AllocError>
+fn user_list(alloc: Global, context: &CallContext<'_>) -> Result<Answer<OrgChange>, AllocError>
     ensures { IfOk result (λ answer. answer ≡ answer_to_user_list (context_view context.now)) }
 {
     Ok(Answer::Shown(Json::List(users_json(alloc, context)?)))

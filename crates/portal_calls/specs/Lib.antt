@@ -1,3 +1,4 @@
 pub mod Action
 pub mod Answer
 pub mod Reply
+pub mod Topic

@@ -5,6 +5,9 @@ use portal_base::json_value::Json;
 use portal_base::moment::Moment;
 use portal_base::nonce::Nonce;
 
+/// The limit of a body's length, in bytes.
+pub const LONGEST_BODY: usize = 262_144;
+
 /// An action and its body.
 #[derive(Drop)]
 pub struct Request {

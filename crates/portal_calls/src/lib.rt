@@ -5,3 +5,4 @@ pub mod action;
 pub mod answer;
 pub mod call;
 pub mod event;
+pub mod topic;

@@ -8,8 +8,10 @@ use Rattle.portal_base.specs.declared.kinds.KindFault.{KindFault}
 use Rattle.table_schema.specs.Field.{FieldValue}
 use Rattle.datastore_table.specs.declared.row.Row.{Row}
 use Rattle.datastore_query.specs.Query.{QueryValue, query_reading}
-use Rattle.datastore_answers.proofs.FitLemmas.{delete_rows_fit, info_only, on-such, upsert_fit}
-use Rattle.datastore_answers.proofs.FitLemmas.{create_fit as create-table_fit, delete_fit as delete-table_fit}
+use Rattle.dataset_answers.proofs.Fitting as dataset
+use Rattle.datastore_answers.proofs.FitLemmas as table
+use Rattle.datastore_answers.proofs.FitLemmas.{delete_rows_fit, on-such}
+use Rattle.organization_answers.proofs.Fitting as organization
 use Rattle.datastore_answers.specs.TableAnswers.{TableAcceptsOnly}
 use Rattle.datastore_answers.specs.Answers.{id_of}
 use Rattle.datastore_answers.specs.Changed.{TableChange}
@@ -19,33 +21,23 @@ use Rattle.datastore_answers.specs.declared.answer.TableAnswer.{TableAnswer}
 use Rattle.datastore_answers.specs.declared.answer.TableAnswer.TheVariants.{NoTable, Answered}
 use Rattle.datastore_answers.specs.declared.resource_table.ResourceTable.{ResourceTable}
 use Rattle.org_roles.specs.declared.change.OrgChange.{OrgChange}
-use Rattle.dataset_answers.proofs.Fitting.{create_fit, update_fit, patch_fit, delete_fit, purge_fit}
-use Rattle.dataset_answers.proofs.Fitting.{resource_create_fit, resource_update_fit, resource_delete_fit}
-use Rattle.dataset_answers.proofs.Fitting.{show_only, list_only, resource_show_only}
 use Rattle.dataset_answers.specs.Fit.{IsFitDataset}
 use Rattle.dataset_answers.specs.declared.change.DatasetChange.{DatasetChange}
 use Rattle.organization_answers.specs.Fit.{IsFitOrg}
-use Rattle.organization_answers.proofs.Fitting.{creation-fit, patch-fit, removal-fit, member-fit, former-member-fit}
-use Rattle.organization_answers.proofs.Fitting.{show-only, members-only, list-only}
 use Rattle.portal_calls.specs.Answer.{AcceptsOnly}
-use Rattle.portal_calls.specs.declared.action.Action.{Action}
-use Rattle.portal_calls.specs.declared.action.Action.TheVariants.{PackageCreate, PackageUpdate, PackagePatch}
-use Rattle.portal_calls.specs.declared.action.Action.TheVariants.{PackageDelete, DatasetPurge, PackageShow, PackageList}
-use Rattle.portal_calls.specs.declared.action.Action.TheVariants.{ResourceCreate, ResourceUpdate, ResourceDelete}
-use Rattle.portal_calls.specs.declared.action.Action.TheVariants.{ResourceShow, OrganizationCreate, OrganizationPatch}
-use Rattle.portal_calls.specs.declared.action.Action.TheVariants.{OrganizationDelete, OrganizationShow}
-use Rattle.portal_calls.specs.declared.action.Action.TheVariants.{OrganizationList, OrganizationListForUser}
-use Rattle.portal_calls.specs.declared.action.Action.TheVariants.{OrganizationMemberCreate, OrganizationMemberDelete}
-use Rattle.portal_calls.specs.declared.action.Action.TheVariants.{MemberList, UserList, DatastoreCreate}
-use Rattle.portal_calls.specs.declared.action.Action.TheVariants.{DatastoreUpsert, DatastoreDelete}
-use Rattle.portal_calls.specs.declared.action.Action.TheVariants.{DatastoreSearch, DatastoreInfo}
+use Rattle.portal_calls.specs.Topic.{topic_of}
+use Rattle.portal_calls.specs.declared.topic.QueryAction.{QueryAction}
+use Rattle.portal_calls.specs.declared.topic.QueryAction.TheVariants.{DatastoreDelete, DatastoreSearch}
+use Rattle.portal_calls.specs.declared.topic.Topic.{Topic}
+use Rattle.portal_calls.specs.declared.topic.Topic.TheVariants as topic
 use Rattle.portal_calls.specs.declared.answer.Answer.{Answer}
 use Rattle.portal_calls.specs.declared.answer.Answer.TheVariants.{Shown, Refused, Accepted}
 use Rattle.portal_calls.specs.declared.call.Call.{Call}
 use Rattle.visibility.specs.CallView.{CallView}
-use Rattle.portal_core.specs.Answer.{call_view_of, answer_to, answer_for_action, of_people, of_datasets, of_tables}
+use Rattle.portal_core.specs.Answer.{call_view_of, answer_to, answer_on, of_people, of_datasets, of_tables}
 use Rattle.portal_core.specs.Fit.{IsFit, IsFitAmong}
-use Rattle.portal_core.specs.Queries.{answer_to_datastore_delete, answer_to_datastore_search, delete_answer}
+use Rattle.portal_core.specs.Queries.{answer_to_datastore_delete, answer_to_datastore_search, answer_to_query}
+use Rattle.portal_core.specs.Queries.{delete_answer}
 use Rattle.portal_core.specs.Queries.{find_rows_of_resource, page_answer, query_for, search_answer_for_table}
 use Rattle.portal_core.specs.SearchBody.{search_in, search_errors}
 use Rattle.portal_calls.specs.declared.answer.Denial.{Denial}
@@ -94,45 +86,27 @@ delete-fit view tables = by (dictionary_at (codes "filters") view.call.request.b
   where
     by : (read : Result (Option (List (List ℕ × Json))) KindFault)
         → TableAcceptsOnly (IsFitTable view tables) (delete_answer view tables read)
-    by (Ok None) = delete-table_fit view tables
+    by (Ok None) = table.delete_fit view tables
     by (Ok (Some filters)) = delete_rows_fit view tables (find_rows_of_resource view tables filters)
     by (Err fault) = delete_rows_fit view tables (Err (message_of fault))
 
+query-fit : (action : QueryAction) (view : CallView) (tables : List ResourceTable)
+    → TableAcceptsOnly (IsFitTable view tables) (answer_to_query action view tables)
+query-fit DatastoreSearch view tables = search_only (IsFitTable view tables) view tables
+query-fit DatastoreDelete view tables = delete-fit view tables
+
 -- ---- every action
 
-by_action : (action : Action) (view : CallView) (tables : List ResourceTable)
-    → AcceptsOnly (IsFitAmong view tables) (answer_for_action action view tables)
-by_action PackageCreate view tables = datasets-fit view tables _ (create_fit view (summaries_of tables))
-by_action PackageUpdate view tables = datasets-fit view tables _ (update_fit view (summaries_of tables))
-by_action PackagePatch view tables = datasets-fit view tables _ (patch_fit view (summaries_of tables))
-by_action PackageDelete view tables = datasets-fit view tables _ (delete_fit view (summaries_of tables))
-by_action DatasetPurge view tables = datasets-fit view tables _ (purge_fit view (summaries_of tables))
-by_action PackageShow view tables = datasets-fit view tables _
-    (show_only (IsFitDataset view (summaries_of tables)) view (summaries_of tables))
-by_action PackageList view tables = datasets-fit view tables _ (list_only (IsFitDataset view (summaries_of tables)) view)
-by_action ResourceCreate view tables = datasets-fit view tables _ (resource_create_fit view (summaries_of tables))
-by_action ResourceUpdate view tables = datasets-fit view tables _ (resource_update_fit view (summaries_of tables))
-by_action ResourceDelete view tables = datasets-fit view tables _ (resource_delete_fit view (summaries_of tables))
-by_action ResourceShow view tables = datasets-fit view tables _
-    (resource_show_only (IsFitDataset view (summaries_of tables)) view (summaries_of tables))
-by_action OrganizationCreate view tables = people-fit view tables _ (creation-fit view)
-by_action OrganizationPatch view tables = people-fit view tables _ (patch-fit view)
-by_action OrganizationDelete view tables = people-fit view tables _ (removal-fit view)
-by_action OrganizationShow view tables = people-fit view tables _ (show-only (IsFitOrg view) view)
-by_action OrganizationList view tables = people-fit view tables _ (list-only (IsFitOrg view) view)
-by_action OrganizationListForUser view tables = tt
-by_action OrganizationMemberCreate view tables = people-fit view tables _ (member-fit view)
-by_action OrganizationMemberDelete view tables = people-fit view tables _ (former-member-fit view)
-by_action MemberList view tables = people-fit view tables _ (members-only (IsFitOrg view) view)
-by_action UserList view tables = tt
-by_action DatastoreCreate view tables = tables-fit view tables _ (create-table_fit view tables)
-by_action DatastoreUpsert view tables = tables-fit view tables _ (upsert_fit view tables)
-by_action DatastoreDelete view tables = tables-fit view tables _ (delete-fit view tables)
-by_action DatastoreSearch view tables = tables-fit view tables _ (search_only (IsFitTable view tables) view tables)
-by_action DatastoreInfo view tables = tables-fit view tables _ (info_only (IsFitTable view tables) view tables)
+by_topic : (topic : Topic) (view : CallView) (tables : List ResourceTable)
+    → AcceptsOnly (IsFitAmong view tables) (answer_on topic view tables)
+by_topic (topic.Organizations action) view tables = people-fit view tables _ (organization.action_fit action view)
+by_topic (topic.Datasets action) view tables =
+    datasets-fit view tables _ (dataset.action_fit action view (summaries_of tables))
+by_topic (topic.Tables action) view tables = tables-fit view tables _ (table.action_fit action view tables)
+by_topic (topic.Queries action) view tables = tables-fit view tables _ (query-fit action view tables)
 
 pub answer_fit : (call : Call) (view : State) → AcceptsOnly (IsFit call view) (answer_to call view)
-answer_fit call view = by_action call.request.action (call_view_of call view) view.tables
+answer_fit call view = by_topic (topic_of call.request.action) (call_view_of call view) view.tables
 
 -- so is a change that is accepted
 pub accepted_fit : (call : Call) (view : State) (json : Json) (change : Change)

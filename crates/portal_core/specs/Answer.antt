@@ -1,34 +1,16 @@
 -- The answer to a call: a function of the call and of its caller's view.
 use Rattle.std.specs.Prelude.{◌+◌, nat_le, List, Bool, true, false}
 use Rattle.org_roles.specs.declared.change.OrgChange.{OrgChange}
-use Rattle.dataset_answers.specs.Answers.{answer_to_package_create, answer_to_package_update, answer_to_package_patch}
-use Rattle.dataset_answers.specs.Answers.{answer_to_package_delete, answer_to_dataset_purge, answer_to_package_show}
-use Rattle.dataset_answers.specs.Answers.{answer_to_package_list, answer_to_resource_create}
-use Rattle.dataset_answers.specs.Answers.{answer_to_resource_update, answer_to_resource_delete, answer_to_resource_show}
+use Rattle.dataset_answers.specs.Answers as dataset
 use Rattle.dataset_answers.specs.declared.change.DatasetChange.{DatasetChange}
-use Rattle.datastore_answers.specs.Answers.{answer_to_datastore_create, answer_to_datastore_info}
-use Rattle.datastore_answers.specs.Answers.{answer_to_datastore_upsert}
+use Rattle.datastore_answers.specs.Answers as table
 use Rattle.datastore_answers.specs.Changed.{TableChange}
 use Rattle.datastore_answers.specs.Summaries.{summaries_of}
 use Rattle.datastore_answers.specs.declared.answer.TableAnswer.{TableAnswer}
 use Rattle.datastore_answers.specs.declared.answer.TableAnswer.TheVariants.{NoTable, Answered}
 use Rattle.datastore_answers.specs.declared.resource_table.ResourceTable.{ResourceTable}
-use Rattle.organization_answers.specs.Answers.{answer_to_organization_create, answer_to_organization_patch}
-use Rattle.organization_answers.specs.Answers.{answer_to_organization_delete, answer_to_organization_show}
-use Rattle.organization_answers.specs.Answers.{answer_to_organization_list, answer_to_organization_list_for_user}
-use Rattle.organization_answers.specs.Answers.{answer_to_member_create, answer_to_member_delete}
-use Rattle.organization_answers.specs.Answers.{answer_to_member_list, answer_to_user_list}
-use Rattle.portal_calls.specs.declared.action.Action.{Action}
-use Rattle.portal_calls.specs.declared.action.Action.TheVariants.{PackageCreate, PackageUpdate, PackagePatch}
-use Rattle.portal_calls.specs.declared.action.Action.TheVariants.{PackageDelete, DatasetPurge, PackageShow, PackageList}
-use Rattle.portal_calls.specs.declared.action.Action.TheVariants.{ResourceCreate, ResourceUpdate, ResourceDelete}
-use Rattle.portal_calls.specs.declared.action.Action.TheVariants.{ResourceShow, OrganizationCreate, OrganizationPatch}
-use Rattle.portal_calls.specs.declared.action.Action.TheVariants.{OrganizationDelete, OrganizationShow}
-use Rattle.portal_calls.specs.declared.action.Action.TheVariants.{OrganizationList, OrganizationListForUser}
-use Rattle.portal_calls.specs.declared.action.Action.TheVariants.{OrganizationMemberCreate, OrganizationMemberDelete}
-use Rattle.portal_calls.specs.declared.action.Action.TheVariants.{MemberList, UserList, DatastoreCreate}
-use Rattle.portal_calls.specs.declared.action.Action.TheVariants.{DatastoreUpsert, DatastoreDelete}
-use Rattle.portal_calls.specs.declared.action.Action.TheVariants.{DatastoreSearch, DatastoreInfo}
+use Rattle.organization_answers.specs.Answers as organization
+use Rattle.portal_calls.specs.Topic.{topic_of}
 use Rattle.portal_calls.specs.declared.answer.Answer.{Answer}
 use Rattle.portal_calls.specs.declared.answer.Answer.TheVariants.{Shown, Refused, Accepted}
 use Rattle.portal_calls.specs.declared.answer.Denial.TheVariants.{NotFound}
@@ -36,10 +18,12 @@ use Rattle.portal_calls.specs.declared.answer.Kind.TheVariants.{Table}
 use Rattle.portal_calls.specs.declared.answer.Quota.{Quota}
 use Rattle.portal_calls.specs.declared.answer.Quota.TheVariants.{Left, UsedUp}
 use Rattle.portal_calls.specs.declared.call.Call.{Call}
+use Rattle.portal_calls.specs.declared.topic.Topic.{Topic}
+use Rattle.portal_calls.specs.declared.topic.Topic.TheVariants as topic
 use Rattle.visibility.specs.CallView.{CallView}
 use Rattle.portal_core.specs.State.{State, accepted_bytes_of}
 use Rattle.portal_core.specs.Change.{Change, People, Datasets, Tables}
-use Rattle.portal_core.specs.Queries.{answer_to_datastore_delete, answer_to_datastore_search}
+use Rattle.portal_core.specs.Queries.{answer_to_query}
 use Rattle.portal_core.specs.declared.quota.QuotaUsed.{QuotaUsed}
 use Rattle.portal_core.specs.declared.quota.TheConstants.{QUOTA}
 
@@ -83,34 +67,13 @@ of_tables (Answered (Shown json)) = Shown json
 of_tables (Answered (Refused denial)) = Refused denial
 of_tables (Answered (Accepted json change)) = Accepted json (Tables change)
 
-abbrev pub answer_for_action : Action → CallView → List ResourceTable → Answer Change
-answer_for_action PackageCreate view tables = of_datasets (answer_to_package_create view)
-answer_for_action PackageUpdate view tables = of_datasets (answer_to_package_update view (summaries_of tables))
-answer_for_action PackagePatch view tables = of_datasets (answer_to_package_patch view (summaries_of tables))
-answer_for_action PackageDelete view tables = of_datasets (answer_to_package_delete view)
-answer_for_action DatasetPurge view tables = of_datasets (answer_to_dataset_purge view)
-answer_for_action PackageShow view tables = of_datasets (answer_to_package_show view (summaries_of tables))
-answer_for_action PackageList view tables = of_datasets (answer_to_package_list view)
-answer_for_action ResourceCreate view tables = of_datasets (answer_to_resource_create view (summaries_of tables))
-answer_for_action ResourceUpdate view tables = of_datasets (answer_to_resource_update view (summaries_of tables))
-answer_for_action ResourceDelete view tables = of_datasets (answer_to_resource_delete view (summaries_of tables))
-answer_for_action ResourceShow view tables = of_datasets (answer_to_resource_show view (summaries_of tables))
-answer_for_action OrganizationCreate view tables = of_people (answer_to_organization_create view)
-answer_for_action OrganizationPatch view tables = of_people (answer_to_organization_patch view)
-answer_for_action OrganizationDelete view tables = of_people (answer_to_organization_delete view)
-answer_for_action OrganizationShow view tables = of_people (answer_to_organization_show view)
-answer_for_action OrganizationList view tables = of_people (answer_to_organization_list view)
-answer_for_action OrganizationListForUser view tables = of_people (answer_to_organization_list_for_user view)
-answer_for_action OrganizationMemberCreate view tables = of_people (answer_to_member_create view)
-answer_for_action OrganizationMemberDelete view tables = of_people (answer_to_member_delete view)
-answer_for_action MemberList view tables = of_people (answer_to_member_list view)
-answer_for_action UserList view tables = of_people (answer_to_user_list view)
-answer_for_action DatastoreCreate view tables = of_tables (answer_to_datastore_create view tables)
-answer_for_action DatastoreUpsert view tables = of_tables (answer_to_datastore_upsert view tables)
-answer_for_action DatastoreDelete view tables = of_tables (answer_to_datastore_delete view tables)
-answer_for_action DatastoreSearch view tables = of_tables (answer_to_datastore_search view tables)
-answer_for_action DatastoreInfo view tables = of_tables (answer_to_datastore_info view tables)
+-- the answer to an action, by what the action is about
+abbrev pub answer_on : Topic → CallView → List ResourceTable → Answer Change
+answer_on (topic.Organizations action) view tables = of_people (organization.answer_to_action action view)
+answer_on (topic.Datasets action) view tables = of_datasets (dataset.answer_to_action action view (summaries_of tables))
+answer_on (topic.Tables action) view tables = of_tables (table.answer_to_action action view tables)
+answer_on (topic.Queries action) view tables = of_tables (answer_to_query action view tables)
 
 -- The answer to the call on the view.
 abbrev pub answer_to : Call → State → Answer Change
-answer_to call view = answer_for_action call.request.action (call_view_of call view) view.tables
+answer_to call view = answer_on (topic_of call.request.action) (call_view_of call view) view.tables

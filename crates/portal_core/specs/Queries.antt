@@ -12,6 +12,8 @@ use Rattle.portal_calls.specs.declared.answer.Answer.{Answer}
 use Rattle.portal_calls.specs.declared.answer.Answer.TheVariants.{Shown, Refused}
 use Rattle.portal_calls.specs.declared.answer.Denial.{Denial}
 use Rattle.portal_calls.specs.declared.answer.Denial.TheVariants.{Validation}
+use Rattle.portal_calls.specs.declared.topic.QueryAction.{QueryAction}
+use Rattle.portal_calls.specs.declared.topic.QueryAction.TheVariants.{DatastoreDelete, DatastoreSearch}
 use Rattle.table_schema.specs.Field.{FieldValue}
 use Rattle.datastore_table.specs.declared.row.Row.{Row}
 use Rattle.datastore_query.specs.Column.{column_name}
@@ -122,3 +124,9 @@ delete_answer view tables (Err fault) = answer_to_datastore_delete_rows view tab
 abbrev pub answer_to_datastore_delete : CallView → List ResourceTable → TableAnswer TableChange
 answer_to_datastore_delete view tables =
     delete_answer view tables (dictionary_at (codes "filters") view.call.request.body)
+
+-- ---- both actions
+
+abbrev pub answer_to_query : QueryAction → CallView → List ResourceTable → TableAnswer TableChange
+answer_to_query DatastoreSearch view tables = answer_to_datastore_search view tables
+answer_to_query DatastoreDelete view tables = answer_to_datastore_delete view tables

@@ -3,13 +3,14 @@ ghost use Rattle.std.specs.Prelude.{◌≡◌, IfOk, IsTrue};
 ghost use Rattle.std.specs.List.{list_all};
 ghost use Rattle.packages.specs.Shelf.{datasets_of};
 ghost use Rattle.portal_calls.specs.Answer.{AcceptsOnly};
+ghost use Rattle.portal_calls.specs.Topic.{topic_of};
 ghost use Rattle.datastore_answers.specs.TableAnswers.{TableAcceptsOnly, map_answer, map_table_answer};
 ghost use Rattle.datastore_answers.specs.Changed.{TableChange};
 ghost use Rattle.datastore_answers.specs.Linked.{AreLinked};
 ghost use Rattle.datastore_answers.specs.Plan as table;
 ghost use Rattle.datastore_answers.specs.Plan.{change_of as planned_change};
 ghost use Rattle.datastore_answers.specs.Tables.{Stored, tables_of, tables_seen};
-ghost use Rattle.portal_core.specs.Answer.{answer_to, answer_for_action, quota_of, of_people, of_datasets, of_tables};
+ghost use Rattle.portal_core.specs.Answer.{answer_to, answer_on, quota_of, of_people, of_datasets, of_tables};
 ghost use Rattle.portal_core.specs.Change.{change_of};
 ghost use Rattle.portal_core.specs.Parts.{IsPlanned, IsPlannedOn};
 ghost use Rattle.portal_core.specs.Parts.{state_of};
@@ -30,9 +31,9 @@ use datastore_answers::plan::TablePlan;
 use datastore_answers::tables::Tables;
 use org_roles::change::OrgChange;
 use organization_answers::answers as organizations;
-use portal_calls::action::Action;
 use portal_calls::answer::{Answer, Denial, Kind, Quota};
 use portal_calls::call::Call;
+use portal_calls::topic::Topic;
 use std::alloc::{AllocError, Global};
 use visibility::context::CallContext;
 
@@ -67,7 +68,7 @@ fn quota_of(parts: &Parts, call: &Call) -> Quota
     }
 }
 
-/// The answer to a call by its action.
+/// The answer to a call, by the crate that answers its action.
 #[tactic(auto, using(crate::proofs::TableViewing::held_there))]
 fn answer(
     alloc: Global,
@@ -78,41 +79,15 @@ fn answer(
     requires linked { AreLinked (tables_of tables.old) }
     ensures same { tables_of tables.new ≡ tables_of tables.old }
     ensures answer { IfOk result (λ answer. map_answer change_of answer
-        ≡ answer_for_action context.now.call.now.request.action (context_view context.now)
+        ≡ answer_on (topic_of context.now.call.now.request.action) (context_view context.now)
         (tables_seen (context_view context.now).datasets (tables_of tables.old))) }
     ensures planned { IfOk result (AcceptsOnly (λ plan. IsPlannedOn plan tables.new)) }
 {
-    match context.call.request.action {
-        Action::OrganizationCreate => on_people(organizations::organization_create(alloc, context)),
-        Action::OrganizationPatch => on_people(organizations::organization_patch(alloc, context)),
-        Action::OrganizationDelete => on_people(organizations::organization_delete(alloc, context)),
-        Action::OrganizationShow => on_people(organizations::organization_show(alloc, context)),
-        Action::OrganizationList => on_people(organizations::organization_list(alloc, context)),
-        Action::OrganizationListForUser => on_people(organizations::organization_list_for_user(
-            alloc, context,
-        )),
-        Action::OrganizationMemberCreate => on_people(organizations::member_create(alloc, context)),
-        Action::OrganizationMemberDelete => on_people(organizations::member_delete(alloc, context)),
-        Action::MemberList => on_people(organizations::member_list(alloc, context)),
-        Action::UserList => on_people(organizations::user_list(alloc, context)),
-        Action::PackageCreate => on_datasets(datasets::package_create(alloc, context)),
-        Action::PackageUpdate => on_datasets(datasets::package_update(alloc, context, tables)),
-        Action::PackagePatch => on_datasets(datasets::package_patch(alloc, context, tables)),
-        Action::PackageDelete => on_datasets(datasets::package_delete(alloc, context)),
-        Action::DatasetPurge => on_datasets(datasets::dataset_purge(alloc, context)),
-        Action::PackageShow => on_datasets(datasets::package_show(alloc, context, tables)),
-        Action::PackageList => on_datasets(datasets::package_list(alloc, context)),
-        Action::ResourceCreate => on_datasets(datasets::resource_create(alloc, context, tables)),
-        Action::ResourceUpdate => on_datasets(datasets::resource_update(alloc, context, tables)),
-        Action::ResourceDelete => on_datasets(datasets::resource_delete(alloc, context, tables)),
-        Action::ResourceShow => on_datasets(datasets::resource_show(alloc, context, tables)),
-        Action::DatastoreCreate => on_tables(tables::datastore_create(alloc, context, tables)),
-        Action::DatastoreUpsert => on_tables(tables::datastore_upsert(alloc, context, tables)),
-        Action::DatastoreDelete => on_tables(queries::datastore_delete_with_filters(
-            alloc, context, tables,
-        )),
-        Action::DatastoreSearch => on_tables(queries::datastore_search(alloc, context, tables)),
-        Action::DatastoreInfo => on_tables(tables::datastore_info(alloc, context, tables)),
+    match Topic::of(context.call.request.action) {
+        Topic::Organizations(action) => on_people(organizations::answer(alloc, context, action)),
+        Topic::Datasets(action) => on_datasets(datasets::answer(alloc, context, tables, action)),
+        Topic::Tables(action) => on_tables(tables::answer(alloc, context, tables, action)),
+        Topic::Queries(action) => on_tables(queries::answer(alloc, context, tables, action)),
     }
 }
 

@@ -7,7 +7,8 @@ ghost use Rattle.visibility.specs.CallView.{context_view};
 ghost use Rattle.datastore_answers.specs.TableAnswers.{TableAcceptsOnly, map_answer, map_table_answer};
 ghost use Rattle.datastore_answers.specs.Plan.{IsPlanned, change_of};
 ghost use Rattle.datastore_answers.specs.Tables.{tables_of, tables_seen};
-ghost use Rattle.portal_core.specs.Queries.{answer_to_datastore_delete, answer_to_datastore_search, filters_alone};
+ghost use Rattle.portal_core.specs.Queries.{answer_to_datastore_delete, answer_to_datastore_search, answer_to_query};
+ghost use Rattle.portal_core.specs.Queries.{filters_alone};
 ghost use Rattle.portal_core.specs.Queries.{find_rows_of_resource, find_rows, query_for, search_answer};
 
 use crate::page::page_json;
@@ -26,8 +27,28 @@ use portal_base::kinds::dictionary_at;
 use portal_base::seq::Seq;
 use portal_base::text::Text;
 use portal_calls::answer::{Answer, Denial, denial_of};
+use portal_calls::topic::QueryAction;
 use std::alloc::{AllocError, Global};
 use visibility::context::CallContext;
+
+/// The answer to a call of this action. It prepares the change and leaves the tables unchanged.
+pub(crate) fn answer(
+    alloc: Global,
+    context: &CallContext<'_>,
+    tables: &mut Tables,
+    action: QueryAction,
+) -> Result<TableAnswer<TablePlan>, AllocError>
+    ensures same { tables_of tables.new ≡ tables_of tables.old }
+    ensures answer { IfOk result (λ answer. map_table_answer change_of answer
+        ≡ answer_to_query action (context_view context.now)
+        (tables_seen (context_view context.now).datasets (tables_of tables.old))) }
+    ensures ready { IfOk result (λ answer. TableAcceptsOnly (λ plan. IsPlanned plan tables.new) answer) }
+{
+    match action {
+        QueryAction::DatastoreSearch => datastore_search(alloc, context, tables),
+        QueryAction::DatastoreDelete => datastore_delete_with_filters(alloc, context, tables),
+    }
+}
 
 // ---- datastore_search
 
@@ -75,7 +96,7 @@ fn search_answer(
 }
 
 /// The answer to a `datastore_search`.
-pub(crate) fn datastore_search(
+fn datastore_search(
     alloc: Global,
     context: &CallContext<'_>,
     tables: &Tables,
@@ -155,7 +176,7 @@ fn find_rows_of_resource(
 }
 
 /// The answer to a `datastore_delete`. Without filters it drops the table, with filters the rows that pass them.
-pub(crate) fn datastore_delete_with_filters(
+fn datastore_delete_with_filters(
     alloc: Global,
     context: &CallContext<'_>,
     tables: &mut Tables,
