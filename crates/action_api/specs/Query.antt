@@ -11,10 +11,10 @@ use Rattle.portal_base.specs.declared.json_value.Json.{Json, Map, Text}
 use Rattle.portal_base.specs.declared.json_value.JsonFault.{JsonFault}
 use Rattle.portal_calls.specs.Action as action
 use Rattle.portal_calls.specs.declared.call.Request.{Request}
+use Rattle.portal_calls.specs.declared.call.TheConstants.{LONGEST_BODY}
 use Rattle.action_api.specs.Request.{request_for}
 use Rattle.action_api.specs.declared.early.Early.{Early}
 use Rattle.action_api.specs.declared.early.Early.TheVariants.{TooLong}
-use Rattle.action_api.specs.declared.request.TheConstants.{LONGEST_BODY}
 
 -- the decoded text of a name or a value: `+` is a space, escapes are decoded, what isn't UTF-8 becomes U+FFFD
 abbrev pub text_of : List ℕ → List ℕ

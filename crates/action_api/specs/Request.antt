@@ -9,9 +9,9 @@ use Rattle.portal_base.specs.declared.json_value.JsonFault.TheVariants as fault
 use Rattle.portal_calls.specs.Action.{action_named}
 use Rattle.portal_calls.specs.declared.action.Action.{Action}
 use Rattle.portal_calls.specs.declared.call.Request.{Request}
+use Rattle.portal_calls.specs.declared.call.TheConstants.{LONGEST_BODY}
 use Rattle.action_api.specs.declared.early.Early.{Early}
 use Rattle.action_api.specs.declared.early.Early.TheVariants.{TooLong, NotJson, Fraction, UnknownAction, OutOfMemory}
-use Rattle.action_api.specs.declared.request.TheConstants.{LONGEST_BODY}
 
 -- the early fault for bytes that are no JSON value
 abbrev pub early_of : JsonFault → Early

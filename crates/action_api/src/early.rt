@@ -6,7 +6,7 @@ use std::alloc::AllocError;
 /// Why there is no request.
 #[derive(Drop)]
 pub enum Early {
-    /// The body has more than 262,144 bytes.
+    /// The body is longer than `LONGEST_BODY`.
     TooLong,
     /// The body is no JSON, or no dictionary.
     NotJson,

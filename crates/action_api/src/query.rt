@@ -7,12 +7,12 @@ ghost use Rattle.portal_base.specs.declared.json_value.Json.{Map};
 ghost use Rattle.action_api.specs.Query.{begins_json, query_value, query_body, request_of_query, is_reading_action};
 
 use crate::early::Early;
-use crate::request::{LONGEST_BODY, request_for};
+use crate::request::request_for;
 use portal_base::json_value::{Json, JsonFault};
 use portal_base::seq::Seq;
 use portal_base::text::Text;
 use portal_calls::action::Action;
-use portal_calls::call::Request;
+use portal_calls::call::{LONGEST_BODY, Request};
 use std::alloc::{AllocError, Global};
 use std::collections::BTreeMap;
 

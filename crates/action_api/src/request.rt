@@ -8,11 +8,8 @@ use portal_base::json_value::Json;
 use portal_base::kinds::dictionary_in;
 use portal_base::text::Text;
 use portal_calls::action::Action;
-use portal_calls::call::Request;
+use portal_calls::call::{LONGEST_BODY, Request};
 use std::alloc::Global;
-
-/// The limit of a body's length, in bytes.
-pub const LONGEST_BODY: usize = 262_144;
 
 /// The value, if it is a dictionary, as a body has to be.
 pub fn dictionary(json: Json) -> Result<Json, Early>

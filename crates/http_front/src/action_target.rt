@@ -11,9 +11,8 @@ use crate::fault::FrontFault;
 use crate::fields::{has_bad_length, has_named, length_given, token_of};
 use crate::head::Field;
 use portal_base::text::Text;
+use portal_calls::call::LONGEST_BODY;
 use std::alloc::Global;
-
-const LONGEST_BODY: u64 = 262_144;
 
 /// The action that a head asks for, before the body is read.
 #[derive(Drop)]
@@ -66,7 +65,7 @@ fn is_long(length: Option<u64>) -> bool
     ensures { result ≡ is_long length }
 {
     match length {
-        Some(length) => length > LONGEST_BODY,
+        Some(length) => length > LONGEST_BODY as u64,
         None => false,
     }
 }
@@ -103,7 +102,7 @@ fn post_of(alloc: Global, name: &str, fields: &[Field]) -> Result<ActionTarget, 
     let Some(length) = length_given(fields) else {
         return Err(FrontFault::NoLength);
     };
-    if length > LONGEST_BODY {
+    if length > LONGEST_BODY as u64 {
         return Err(FrontFault::TooLong);
     }
     let token = token_of(alloc, fields)?;

@@ -9,7 +9,7 @@ pub enum FrontFault {
     BadHead,
     /// A POST says no length, or has a coding of its body.
     NoLength,
-    /// The body has more than 262,144 bytes.
+    /// The body is longer than `LONGEST_BODY`.
     TooLong,
     /// The path is no action's.
     NoRoute,

@@ -5,13 +5,14 @@ ghost use Rattle.portal_serve.specs.Script.{action_in, caller_of, body_in, call_
 ghost use Rattle.portal_serve.specs.Values.{script_call};
 
 use action_api::early::Early;
-use action_api::request::{LONGEST_BODY, dictionary};
+use action_api::request::dictionary;
 use portal_base::caller::Caller;
 use portal_base::copy::TryClone;
 use portal_base::json_value::Json;
 use portal_base::kinds::text_in;
 use portal_base::seq::Seq;
 use portal_base::text::Text;
+use portal_calls::call::LONGEST_BODY;
 use std::alloc::{AllocError, Global};
 
 /// The limit of bytes of a script's line without its end.
