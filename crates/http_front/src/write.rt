@@ -1,24 +1,9 @@
-//! Writing whole pieces to a link.
+//! Writing pieces to a link, one after another.
 ghost use Rattle.std.specs.Prelude.{◌≡◌, ◌≤◌, ◌++◌, OnOk, OnErr};
 ghost use Rattle.portal_base.specs.Outside.{Takes, TakesPrefix, Rose};
 
 use portal_base::outside::{Failed, Link};
-
-// Writes the whole piece. After a fault the link has taken some bytes from its front.
-fn write_whole<K: Link>(link: &mut K, piece: &[u8]) -> Result<(), Failed>
-    ensures ok { OnOk result (Takes (K.taken link.old) piece.now (K.taken link.new)) }
-    ensures failed { OnErr result (TakesPrefix (K.taken link.old) piece.now (K.taken link.new)) }
-    ensures to_come { K.to_come link.new ≡ K.to_come link.old }
-    ensures fault { OnErr result (Rose (K.faults link.old) (K.faults link.new)) }
-    ensures counts { K.faults link.old ≤ K.faults link.new }
-{
-    let mut rest = piece;
-    while !rest.is_empty() {
-        let count = link.write(rest)?;
-        rest = &rest[count..];
-    }
-    Ok(())
-}
+use portal_lines::write::{LinkWriter, Writer};
 
 /// Writes the two pieces. After a fault the link has taken some bytes from their front.
 #[tactic(auto, using(crate::proofs::PieceLemmas::takes_first, crate::proofs::PieceLemmas::takes_second, crate::proofs::PieceLemmas::takes_both))]
@@ -29,8 +14,8 @@ pub fn write_two<K: Link>(link: &mut K, first: &[u8], second: &[u8]) -> Result<(
     ensures fault { OnErr result (Rose (K.faults link.old) (K.faults link.new)) }
     ensures counts { K.faults link.old ≤ K.faults link.new }
 {
-    write_whole(link, first)?;
-    write_whole(link, second)?;
+    LinkWriter::write_whole(link, first)?;
+    LinkWriter::write_whole(link, second)?;
     Ok(())
 }
 
@@ -75,6 +60,6 @@ pub fn write_five<K: Link>(
     ensures counts { K.faults link.old ≤ K.faults link.new }
 {
     write_four(link, first, second, third, fourth)?;
-    write_whole(link, fifth)?;
+    LinkWriter::write_whole(link, fifth)?;
     Ok(())
 }

@@ -1,4 +1,4 @@
--- A piece goes to a sink part by part.
+-- A piece is written part by part.
 use Rattle.std.proofs.Common.{◌≡◌, ℕ, List, ◌++◌, ◌∙◌, refl, sym, ap, subst, append_assoc, length, take}
 use Rattle.std.proofs.Common.{length-append, arith, ◌-◌, drop, take-append-drop}
 use Rattle.std.specs.Prelude.{Option}
