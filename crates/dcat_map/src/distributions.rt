@@ -11,12 +11,11 @@ ghost use Rattle.dcat_map.specs.Vocabulary.{dcat_download_url, dcat_access_url, 
 use crate::graph::Graph;
 use crate::picks::{least_iri, least_named, picked};
 use crate::record::Distribution;
-use crate::statement::Statement;
 use crate::vocabulary::{
     ACCESS_URL, DESCRIPTION, DISTRIBUTION, DOWNLOAD_URL, FORMAT, MEDIA_TYPE, MEDIA_TYPES,
     OLD_MEDIA_TYPES, TITLE,
 };
-use ntriples::{Term, Triple};
+use ntriples::{Borrowed, Term, Triple};
 use portal_base::copy::TryClone;
 use portal_base::seq::Seq;
 use portal_base::text::Text;
@@ -183,13 +182,13 @@ pub(crate) fn resources_of(
 fn distributions_of(
     alloc: Global,
     graph: &Graph<'_>,
-    statements: &[Statement<'_>],
+    triples: &[Borrowed<'_, Triple>],
 ) -> Result<Vec<Distribution>, AllocError>
-    ensures { IfOk result (λ all. all.items ≡ distributions_in graph.now statements.now) }
+    ensures { IfOk result (λ all. all.items ≡ distributions_in graph.now triples.now) }
 {
     let mut distributions = Vec::new(alloc);
-    for statement in statements {
-        push_distribution(alloc, graph, &mut distributions, statement.triple())?;
+    for triple in triples {
+        push_distribution(alloc, graph, &mut distributions, triple.get())?;
     }
     Ok(distributions)
 }

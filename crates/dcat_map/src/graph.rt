@@ -7,11 +7,11 @@ ghost use Rattle.dcat_map.specs.Distributions.{distribution_in};
 ghost use Rattle.dcat_map.specs.Vocabulary.{dcat_dataset_class};
 
 use crate::record::Distribution;
+use crate::sets::make_triple_set;
 use crate::shared::{self, Shared, described_shared};
-use crate::statement::Statement;
 use crate::terms::{compare_terms, is_iri};
 use crate::vocabulary::{DATASET_CLASS, TYPE};
-use ntriples::{Term, Triple};
+use ntriples::{Borrowed, Term, Triple};
 use portal_base::seq::Seq;
 use portal_base::text::Text;
 use std::alloc::{AllocError, Global};
@@ -22,7 +22,7 @@ use std::marker::Model;
 /// says of distributions that several datasets share is kept, so that each of these is described once.
 #[derive(Drop)]
 pub struct Graph<'a> {
-    statements: Vec<Statement<'a>>,
+    triples: Vec<Borrowed<'a, Triple>>,
     shared: Vec<Shared<'a>>,
 }
 
@@ -35,10 +35,10 @@ impl<'a> Model for Graph<'a> {
 
     ghost Value = { List Triple };
 
-    ghost view = { λ g. g.statements.items };
+    ghost view = { λ g. g.triples.items };
 
-    ghost invariant = { λ g. IsStrictlySortedBy triple_cmp g.statements.items ×
-        AreDescribed g.statements.items g.shared.items };
+    ghost invariant = { λ g. IsStrictlySortedBy triple_cmp g.triples.items ×
+        AreDescribed g.triples.items g.shared.items };
 }
 
 impl<'a> Graph<'a> {
@@ -46,11 +46,10 @@ impl<'a> Graph<'a> {
     pub fn of(alloc: Global, triples: &'a Seq<Triple>) -> Result<Graph<'a>, AllocError>
         ensures { IfOk result (λ graph. graph ≡ graph_of triples.now) }
     {
-        let mut statements = statements_of(alloc, triples.as_slice())?;
-        statements.sort_unstable();
-        statements.dedup();
+        let mut triples = borrow_all(alloc, triples.as_slice())?;
+        make_triple_set(&mut triples);
         let mut graph = Graph {
-            statements,
+            triples,
             shared: Vec::new(alloc),
         };
         graph.shared = described_shared(alloc, &graph)?;
@@ -58,17 +57,17 @@ impl<'a> Graph<'a> {
     }
 
     /// The triples.
-    pub(crate) fn statements(&self) -> &[Statement<'a>]
+    pub(crate) fn triples(&self) -> &[Borrowed<'a, Triple>]
         ensures { result.now ≡ self.now }
     {
-        self.statements.as_slice()
+        self.triples.as_slice()
     }
 
     /// The triples with this subject and this predicate.
-    pub(crate) fn about(&self, subject: &Term, predicate: &str) -> &[Statement<'a>]
+    pub(crate) fn about(&self, subject: &Term, predicate: &str) -> &[Borrowed<'a, Triple>]
         ensures { result.now ≡ about self.now subject.now predicate.now }
     {
-        part_about(self.statements.as_slice(), subject, predicate)
+        part_about(self.triples.as_slice(), subject, predicate)
     }
 
     /// What is known of a distribution that several datasets share.
@@ -96,14 +95,14 @@ pub(crate) fn is_typed(triple: &Triple, class: &str) -> bool
 }
 
 // A reference to each triple.
-fn statements_of(alloc: Global, triples: &[Triple]) -> Result<Vec<Statement<'_>>, AllocError>
-    ensures { IfOk result (λ statements. statements.items ≡ triples.now) }
+fn borrow_all(alloc: Global, triples: &[Triple]) -> Result<Vec<Borrowed<'_, Triple>>, AllocError>
+    ensures { IfOk result (λ borrowed. borrowed.items ≡ triples.now) }
 {
-    let mut statements = Vec::with_capacity(alloc, triples.len())?;
+    let mut borrowed = Vec::with_capacity(alloc, triples.len())?;
     for triple in triples {
-        statements.push(Statement::of(triple))?;
+        borrowed.push(Borrowed::new(triple))?;
     }
-    Ok(statements)
+    Ok(borrowed)
 }
 
 // The order of triples by subject and predicate alone.
@@ -116,16 +115,16 @@ fn compare_key(triple: &Triple, subject: &Term, predicate: &str) -> Ordering
 
 // The triples with this subject and this predicate, of triples in ascending order.
 fn part_about<'s, 'a>(
-    statements: &'s [Statement<'a>],
+    triples: &'s [Borrowed<'a, Triple>],
     subject: &Term,
     predicate: &str,
-) -> &'s [Statement<'a>]
-    requires { IsStrictlySortedBy triple_cmp statements.now }
-    ensures { result.now ≡ about statements.now subject.now predicate.now }
+) -> &'s [Borrowed<'a, Triple>]
+    requires { IsStrictlySortedBy triple_cmp triples.now }
+    ensures { result.now ≡ about triples.now subject.now predicate.now }
 {
-    let start = statements.partition_point(|s| compare_key(s.triple(), subject, predicate).is_lt());
-    let end = statements.partition_point(|s| !compare_key(s.triple(), subject, predicate).is_gt());
-    let (_, rest) = statements.split_at(start);
+    let start = triples.partition_point(|t| compare_key(t.get(), subject, predicate).is_lt());
+    let end = triples.partition_point(|t| !compare_key(t.get(), subject, predicate).is_gt());
+    let (_, rest) = triples.split_at(start);
     let (part, _) = rest.split_at(end - start);
     part
 }

@@ -7,8 +7,7 @@ ghost use Rattle.dcat_map.specs.Instants.{skip_digits, skip_fraction, offset_siz
 ghost use Rattle.dcat_map.specs.Instants.{instant_of, instant, moment_of, latest};
 ghost use Rattle.dcat_map.specs.Sets.{lesser_of};
 
-use crate::statement::Statement;
-use ntriples::Term;
+use ntriples::{Borrowed, Term, Triple};
 use portal_base::calendar::minute_of;
 use portal_base::moment::Moment;
 
@@ -143,12 +142,12 @@ fn later(best: Option<Moment>, other: Option<Moment>) -> Option<Moment>
 }
 
 /// The latest moment that one of the objects gives.
-pub(crate) fn latest(statements: &[Statement<'_>]) -> Option<Moment>
-    ensures { result ≡ latest statements.now }
+pub(crate) fn latest(triples: &[Borrowed<'_, Triple>]) -> Option<Moment>
+    ensures { result ≡ latest triples.now }
 {
     let mut best = None;
-    for statement in statements {
-        best = later(best, moment_of(&statement.triple().object));
+    for triple in triples {
+        best = later(best, moment_of(&triple.get().object));
     }
     best
 }

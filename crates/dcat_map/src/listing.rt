@@ -9,10 +9,9 @@ ghost use Rattle.dcat_map.specs.Listings.{entries_in, links_in, iri_of, is_unnam
 ghost use Rattle.dcat_map.specs.Vocabulary.{dcat_catalog};
 
 use crate::graph::{Graph, is_typed};
-use crate::node::Node;
-use crate::statement::Statement;
+use crate::sets::make_term_set;
 use crate::vocabulary::{CATALOG_CLASS, DATASET};
-use ntriples::{Term, Triple};
+use ntriples::{Borrowed, Term, Triple};
 use portal_base::copy::TryClone;
 use portal_base::seq::Seq;
 use portal_base::text::Text;
@@ -74,9 +73,9 @@ fn has_catalogue(graph: &Graph<'_>) -> bool
     ensures { result ≡ list_any (is_typed dcat_catalog) graph.now }
 {
     graph
-        .statements()
+        .triples()
         .iter()
-        .any(|statement| is_typed(statement.triple(), CATALOG_CLASS))
+        .any(|triple| is_typed(triple.get(), CATALOG_CLASS))
 }
 
 // What the graph's catalogues list.
@@ -93,23 +92,22 @@ fn listing_from(alloc: Global, graph: &Graph<'_>) -> Result<Listing, AllocError>
 
 // What dcat:dataset leads to from some catalogue, each once.
 #[tactic(auto, unfolding(crate::specs::Listings::entries_in))]
-fn entries_of<'a>(alloc: Global, graph: &Graph<'a>) -> Result<Vec<Node<'a>>, AllocError>
+fn entries_of<'a>(alloc: Global, graph: &Graph<'a>) -> Result<Vec<Borrowed<'a, Term>>, AllocError>
     ensures { IfOk result (λ entries. entries.items ≡ entries_in graph.now) }
 {
     let mut entries = links_of(alloc, graph)?;
-    entries.sort_unstable();
-    entries.dedup();
+    make_term_set(&mut entries);
     Ok(entries)
 }
 
 // What dcat:dataset leads to from each catalogue.
-fn links_of<'a>(alloc: Global, graph: &Graph<'a>) -> Result<Vec<Node<'a>>, AllocError>
+fn links_of<'a>(alloc: Global, graph: &Graph<'a>) -> Result<Vec<Borrowed<'a, Term>>, AllocError>
     ensures { IfOk result (λ links. links.items ≡ links_in graph.now graph.now) }
 {
     let mut links = Vec::new(alloc);
-    let statements = graph.statements();
-    for statement in statements {
-        push_links(&mut links, graph, statement.triple())?;
+    let triples = graph.triples();
+    for triple in triples {
+        push_links(&mut links, graph, triple.get())?;
     }
     Ok(links)
 }
@@ -117,7 +115,7 @@ fn links_of<'a>(alloc: Global, graph: &Graph<'a>) -> Result<Vec<Node<'a>>, Alloc
 // Adds what dcat:dataset leads to from the triple's subject, where the triple says that it is a catalogue.
 #[tactic(auto, unfolding(crate::specs::Listings::links_in, crate::specs::Listings::catalogues_in))]
 fn push_links<'a>(
-    links: &mut Vec<Node<'a>>,
+    links: &mut Vec<Borrowed<'a, Term>>,
     graph: &Graph<'a>,
     triple: &Triple,
 ) -> Result<(), AllocError>
@@ -131,24 +129,24 @@ fn push_links<'a>(
 
 // Adds the objects of the triples.
 fn push_objects<'a>(
-    nodes: &mut Vec<Node<'a>>,
-    statements: &[Statement<'a>],
+    objects: &mut Vec<Borrowed<'a, Term>>,
+    triples: &[Borrowed<'a, Triple>],
 ) -> Result<(), AllocError>
-    ensures { OnOk result (nodes.new.items ≡ nodes.old.items ++ map (λ t. t.object) statements.now) }
+    ensures { OnOk result (objects.new.items ≡ objects.old.items ++ map (λ t. t.object) triples.now) }
 {
-    for statement in statements {
-        nodes.push(Node::of(&statement.triple().object))?;
+    for triple in triples {
+        objects.push(Borrowed::new(&triple.get().object))?;
     }
     Ok(())
 }
 
-// The IRIs of the nodes.
-fn iris_of(alloc: Global, nodes: &[Node<'_>]) -> Result<Seq<Text>, AllocError>
-    ensures { IfOk result (λ iris. iris ≡ filter_map iri_of nodes.now) }
+// The IRIs among the terms.
+fn iris_of(alloc: Global, terms: &[Borrowed<'_, Term>]) -> Result<Seq<Text>, AllocError>
+    ensures { IfOk result (λ iris. iris ≡ filter_map iri_of terms.now) }
 {
     let mut iris = Vec::new(alloc);
-    for node in nodes {
-        push_iri(alloc, &mut iris, node.term())?;
+    for term in terms {
+        push_iri(alloc, &mut iris, term.get())?;
     }
     Ok(Seq::from(iris))
 }
@@ -163,11 +161,11 @@ fn push_iri(alloc: Global, iris: &mut Vec<Text>, term: &Term) -> Result<(), Allo
     Ok(())
 }
 
-// How many of the nodes are no IRIs.
-fn count_unnamed(nodes: &[Node<'_>]) -> u64
-    ensures { result ≡ length (filter is_unnamed nodes.now) }
+// How many of the terms are no IRIs.
+fn count_unnamed(terms: &[Borrowed<'_, Term>]) -> u64
+    ensures { result ≡ length (filter is_unnamed terms.now) }
 {
-    let count = nodes.iter().filter(|node| is_unnamed(node.term())).count();
+    let count = terms.iter().filter(|term| is_unnamed(term.get())).count();
     count as u64
 }
 

@@ -6,9 +6,8 @@ ghost use Rattle.dcat_map.specs.Picks.{filled, pick, picked, name_or_text, least
 ghost use Rattle.dcat_map.specs.Listings.{iri_of};
 ghost use Rattle.dcat_map.specs.Sets.{lesser_of};
 
-use crate::statement::Statement;
 use crate::terms::{compare_terms, text_of};
-use ntriples::Term;
+use ntriples::{Borrowed, Term, Triple};
 use portal_base::text::Text;
 
 // The term, where it is a literal that isn't empty.
@@ -40,22 +39,22 @@ fn earlier<'a>(best: Option<&'a Term>, other: Option<&'a Term>) -> Option<&'a Te
 }
 
 // Of the literals that aren't empty, the one that comes before all others.
-fn pick<'a>(statements: &[Statement<'a>]) -> Option<&'a Term>
-    ensures { option_copied result ≡ pick statements.now }
+fn pick<'a>(triples: &[Borrowed<'a, Triple>]) -> Option<&'a Term>
+    ensures { option_copied result ≡ pick triples.now }
 {
     let mut best = None;
-    for statement in statements {
-        best = earlier(best, filled(&statement.triple().object));
+    for triple in triples {
+        best = earlier(best, filled(&triple.get().object));
     }
     best
 }
 
 /// The text of the literal that isn't empty and comes before all others, or else empty.
 #[tactic(auto, unfolding(crate::specs::Picks::picked))]
-pub(crate) fn picked<'a>(statements: &[Statement<'a>]) -> &'a str
-    ensures { result.now ≡ picked statements.now }
+pub(crate) fn picked<'a>(triples: &[Borrowed<'a, Triple>]) -> &'a str
+    ensures { result.now ≡ picked triples.now }
 {
-    match pick(statements) {
+    match pick(triples) {
         Some(literal) => text_of(literal),
         None => "",
     }
@@ -94,23 +93,23 @@ fn lesser<'a>(best: Option<&'a Text>, other: Option<&'a Text>) -> Option<&'a Tex
 }
 
 /// The least by bytes of the IRIs and of the literals' texts.
-pub(crate) fn least_named<'a>(statements: &[Statement<'a>]) -> Option<&'a Text>
-    ensures { option_copied result ≡ least_named statements.now }
+pub(crate) fn least_named<'a>(triples: &[Borrowed<'a, Triple>]) -> Option<&'a Text>
+    ensures { option_copied result ≡ least_named triples.now }
 {
     let mut best = None;
-    for statement in statements {
-        best = lesser(best, name_or_text(&statement.triple().object));
+    for triple in triples {
+        best = lesser(best, name_or_text(&triple.get().object));
     }
     best
 }
 
 /// The least by bytes of the IRIs.
-pub(crate) fn least_iri<'a>(statements: &[Statement<'a>]) -> Option<&'a Text>
-    ensures { option_copied result ≡ least_iri statements.now }
+pub(crate) fn least_iri<'a>(triples: &[Borrowed<'a, Triple>]) -> Option<&'a Text>
+    ensures { option_copied result ≡ least_iri triples.now }
 {
     let mut best = None;
-    for statement in statements {
-        best = lesser(best, iri_of(&statement.triple().object));
+    for triple in triples {
+        best = lesser(best, iri_of(&triple.get().object));
     }
     best
 }

@@ -110,10 +110,10 @@ pub fn describe_in(
 fn is_dataset(graph: &Graph<'_>, dataset: &Term) -> bool
     ensures { result ≡ list_any (λ t. is_iri dcat_dataset_class t.object) (about graph.now dataset.now rdf_type) }
 {
-    graph.about(dataset, TYPE).iter().any(|statement| is_iri(
-        &statement.triple().object,
-        DATASET_CLASS,
-    ))
+    graph
+        .about(dataset, TYPE)
+        .iter()
+        .any(|triple| is_iri(&triple.get().object, DATASET_CLASS))
 }
 
 // What the graph says of the dataset.

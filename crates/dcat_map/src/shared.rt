@@ -5,17 +5,17 @@ ghost use Rattle.dcat_map.specs.Distributions.{distribution_in, AreDescribed};
 
 use crate::distributions::{distribution_of, is_node};
 use crate::graph::Graph;
-use crate::node::Node;
 use crate::record::Distribution;
+use crate::sets::make_term_set;
 use crate::terms::compare_terms;
 use crate::vocabulary::DISTRIBUTION;
-use ntriples::Term;
+use ntriples::{Borrowed, Term};
 use std::alloc::{AllocError, Global};
 
 /// An IRI or a blank node, and what the graph says of it as a distribution.
 #[derive(Drop)]
 pub(crate) struct Shared<'a> {
-    node: Node<'a>,
+    node: Borrowed<'a, Term>,
     distribution: Distribution,
 }
 
@@ -25,7 +25,7 @@ impl<'a> Shared<'a> {
     {
         Ok(Shared {
             distribution: distribution_of(alloc, graph, node)?,
-            node: Node::of(node),
+            node: Borrowed::new(node),
         })
     }
 }
@@ -40,7 +40,7 @@ pub(crate) fn described_shared<'a>(
     let nodes = shared_nodes(alloc, graph)?;
     let mut shared = Vec::new(alloc);
     for node in &nodes {
-        shared.push(Shared::of(alloc, graph, node.term())?)?;
+        shared.push(Shared::of(alloc, graph, node.get())?)?;
     }
     Ok(shared)
 }
@@ -50,9 +50,9 @@ pub(crate) fn find<'s>(shared: &'s [Shared<'_>], node: &Term) -> Option<&'s Dist
     ensures { (g : List Triple) → AreDescribed g shared.now →
         IfSome result (λ distribution. distribution.now ≡ distribution_in g node.now) }
 {
-    let place = shared.partition_point(|one| compare_terms(one.node.term(), node).is_lt());
+    let place = shared.partition_point(|one| compare_terms(one.node.get(), node).is_lt());
     let found = shared.get(place)?;
-    if compare_terms(found.node.term(), node).is_eq() {
+    if compare_terms(found.node.get(), node).is_eq() {
         Some(&found.distribution)
     } else {
         None
@@ -60,28 +60,31 @@ pub(crate) fn find<'s>(shared: &'s [Shared<'_>], node: &Term) -> Option<&'s Dist
 }
 
 // The IRIs and blank nodes that several datasets have as a distribution, each once and in order.
-fn shared_nodes<'a>(alloc: Global, graph: &Graph<'a>) -> Result<Vec<Node<'a>>, AllocError> {
+fn shared_nodes<'a>(
+    alloc: Global,
+    graph: &Graph<'a>,
+) -> Result<Vec<Borrowed<'a, Term>>, AllocError> {
     let mut nodes = all_nodes(alloc, graph)?;
-    nodes.sort_unstable();
-    let mut shared: Vec<Node<'a>> = Vec::new(alloc);
+    nodes.sort_unstable_by(|first, second| compare_terms(first.get(), second.get()));
+    let mut shared = Vec::new(alloc);
     for pair in nodes.windows(2) {
         if let [first, second] = pair {
-            if first == second {
-                shared.push(Node::of(second.term()))?;
+            if compare_terms(first.get(), second.get()).is_eq() {
+                shared.push(Borrowed::new(second.get()))?;
             }
         }
     }
-    shared.dedup();
+    make_term_set(&mut shared);
     Ok(shared)
 }
 
 // What some dataset has as a distribution, once for each.
-fn all_nodes<'a>(alloc: Global, graph: &Graph<'a>) -> Result<Vec<Node<'a>>, AllocError> {
+fn all_nodes<'a>(alloc: Global, graph: &Graph<'a>) -> Result<Vec<Borrowed<'a, Term>>, AllocError> {
     let mut nodes = Vec::new(alloc);
-    for statement in graph.statements() {
-        let triple = statement.triple();
+    for triple in graph.triples() {
+        let triple = triple.get();
         if triple.predicate.as_str() == DISTRIBUTION && is_node(&triple.object) {
-            nodes.push(Node::of(&triple.object))?;
+            nodes.push(Borrowed::new(&triple.object))?;
         }
     }
     Ok(nodes)

@@ -3,8 +3,7 @@ ghost use Rattle.std.specs.Prelude.{◌≡◌, ◌∷◌, [], ◌++◌, IfOk, On
 ghost use Rattle.std.specs.List.{filter_map};
 ghost use Rattle.dcat_map.specs.Tags.{tag_of, tags_among};
 
-use crate::statement::Statement;
-use ntriples::Term;
+use ntriples::{Borrowed, Term, Triple};
 use portal_base::copy::TryClone;
 use portal_base::seq::Seq;
 use portal_base::tag::is_tag;
@@ -18,11 +17,11 @@ const MOST_TAGS: usize = 100;
 #[tactic(auto, unfolding(crate::specs::Tags::tags_among))]
 pub(crate) fn tags_among(
     alloc: Global,
-    statements: &[Statement<'_>],
+    triples: &[Borrowed<'_, Triple>],
 ) -> Result<Seq<Text>, AllocError>
-    ensures { IfOk result (λ tags. tags ≡ tags_among statements.now) }
+    ensures { IfOk result (λ tags. tags ≡ tags_among triples.now) }
 {
-    let mut tags = all_tags(alloc, statements)?;
+    let mut tags = all_tags(alloc, triples)?;
     tags.sort_unstable();
     tags.dedup();
     tags.truncate(MOST_TAGS);
@@ -30,12 +29,12 @@ pub(crate) fn tags_among(
 }
 
 // The tags among the objects, as they come.
-fn all_tags(alloc: Global, statements: &[Statement<'_>]) -> Result<Vec<Text>, AllocError>
-    ensures { IfOk result (λ tags. tags.items ≡ filter_map (λ t. tag_of t.object) statements.now) }
+fn all_tags(alloc: Global, triples: &[Borrowed<'_, Triple>]) -> Result<Vec<Text>, AllocError>
+    ensures { IfOk result (λ tags. tags.items ≡ filter_map (λ t. tag_of t.object) triples.now) }
 {
     let mut tags = Vec::new(alloc);
-    for statement in statements {
-        push_tag(alloc, &mut tags, &statement.triple().object)?;
+    for triple in triples {
+        push_tag(alloc, &mut tags, &triple.get().object)?;
     }
     Ok(tags)
 }

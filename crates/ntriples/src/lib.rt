@@ -1,6 +1,7 @@
 //! RDF 1.1 N-Triples, read and written exactly by the grammar.
 #![tactic(auto)]
 
+mod borrowed;
 mod characters;
 mod document;
 mod fault;
@@ -12,6 +13,7 @@ mod terms;
 mod text;
 mod writing;
 
+pub use borrowed::Borrowed;
 pub use document::read;
 pub use fault::NtFault;
 pub use term::{Term, Triple};

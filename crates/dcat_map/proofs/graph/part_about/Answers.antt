@@ -12,7 +12,7 @@ pub overflow_sub-end : goal.overflow_sub-end
 overflow_sub-end c =
     let s = c.args.subject.now in
     let p = c.args.predicate.now in
-    let xs = c.args.statements.now in
+    let xs = c.args.triples.now in
     let low : IsPartitionPoint (λ t. is_lt (key_cmp s p t) ≡ true) (λ t. is_lt (key_cmp s p t) ≡ false) xs
     c.partition_point-start.result =
     IsPartitionPoint-from_clause (λ t. is_lt (key_cmp s p t)) xs c.partition_point-start.result
@@ -32,7 +32,7 @@ pub returns : goal.returns
 returns c =
     let s = c.args.subject.now in
     let p = c.args.predicate.now in
-    let xs = c.args.statements.now in
+    let xs = c.args.triples.now in
     let start = c.partition_point-start.result in
     let end = c.partition_point-end.result in
     let low : IsPartitionPoint (λ t. is_lt (key_cmp s p t) ≡ true) (λ t. is_lt (key_cmp s p t) ≡ false) xs start =

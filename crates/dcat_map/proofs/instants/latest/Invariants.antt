@@ -5,6 +5,6 @@ use Rattle.dcat_map.specs.Sets.{least}
 use Rattle.dcat_map.specs.Instants.{moment_of}
 use Rattle.dcat_map.proofs.instants.latest.Given as goal
 
-abbrev pub invariant-loop-statement : goal.invariant-loop-statement
-invariant-loop-statement l =
-    l.best ≡ least (flip_args int_cmp) (filter_map (λ t. moment_of t.object) (take l.statement-index l.statements))
+abbrev pub invariant-loop-triple : goal.invariant-loop-triple
+invariant-loop-triple l =
+    l.best ≡ least (flip_args int_cmp) (filter_map (λ t. moment_of t.object) (take l.triple-index l.triples))

@@ -1,6 +1,6 @@
 use Rattle.std.proofs.Common.{◌≡◌, ◌++◌, map, take}
 use Rattle.dcat_map.proofs.listing.push_objects.Given as goal
 
-abbrev pub invariant-loop-statement : goal.invariant-loop-statement
-invariant-loop-statement l = l.nodes.items ≡ l.initial.nodes.items
-    ++ map (λ t. t.object) (take l.statement-index l.statements)
+abbrev pub invariant-loop-triple : goal.invariant-loop-triple
+invariant-loop-triple l = l.objects.items ≡ l.initial.objects.items
+    ++ map (λ t. t.object) (take l.triple-index l.triples)

@@ -6,7 +6,7 @@ use Rattle.dcat_map.specs.Terms.{text_cmp}
 use Rattle.dcat_map.specs.Picks.{name_or_text}
 use Rattle.dcat_map.proofs.picks.least_named.Given as goal
 
-abbrev pub invariant-loop-statement : goal.invariant-loop-statement
-invariant-loop-statement l =
+abbrev pub invariant-loop-triple : goal.invariant-loop-triple
+invariant-loop-triple l =
     option_copied l.best
-    ≡ least text_cmp (filter_map (λ t. name_or_text t.object) (take l.statement-index l.statements))
+    ≡ least text_cmp (filter_map (λ t. name_or_text t.object) (take l.triple-index l.triples))

@@ -6,6 +6,6 @@ use Rattle.dcat_map.specs.Terms.{term_cmp}
 use Rattle.dcat_map.specs.Picks.{filled}
 use Rattle.dcat_map.proofs.picks.pick.Given as goal
 
-abbrev pub invariant-loop-statement : goal.invariant-loop-statement
-invariant-loop-statement l =
-    option_copied l.best ≡ least term_cmp (filter_map (λ t. filled t.object) (take l.statement-index l.statements))
+abbrev pub invariant-loop-triple : goal.invariant-loop-triple
+invariant-loop-triple l =
+    option_copied l.best ≡ least term_cmp (filter_map (λ t. filled t.object) (take l.triple-index l.triples))

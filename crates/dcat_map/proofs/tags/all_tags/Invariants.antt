@@ -3,5 +3,5 @@ use Rattle.std.specs.List.{filter_map}
 use Rattle.dcat_map.specs.Tags.{tag_of}
 use Rattle.dcat_map.proofs.tags.all_tags.Given as goal
 
-abbrev pub invariant-loop-statement : goal.invariant-loop-statement
-invariant-loop-statement l = l.tags.items ≡ filter_map (λ t. tag_of t.object) (take l.statement-index l.statements)
+abbrev pub invariant-loop-triple : goal.invariant-loop-triple
+invariant-loop-triple l = l.tags.items ≡ filter_map (λ t. tag_of t.object) (take l.triple-index l.triples)

@@ -15,7 +15,7 @@ pub returns : goal.returns
 unfolding tags_among
 returns c =
     let sorted = c.sort_unstable.new.self.items in
-    let tags = filter_map (λ (t : Triple). tag_of t.object) c.args.statements.now in
+    let tags = filter_map (λ (t : Triple). tag_of t.object) c.args.triples.now in
     let moved : IsPermutation tags sorted =
     subst (λ xs. IsPermutation xs sorted) c.in_ok-tags.ensures c.sort_unstable.ensures.permutation in
     let set = ascending_set-dedup_by text_cmp nat_list_cmp_total same_text (pointwise nat_eq) nat_list_eq_equiv
