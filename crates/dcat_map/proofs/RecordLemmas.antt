@@ -1,6 +1,7 @@
 -- Whether a graph describes an IRI, by what is about it.
 use Rattle.std.proofs.Common.{◌≡◌, ℕ, Bool, true, false, cond, ◌&&◌, ◌||◌, List, [], ◌∷◌, Some, None, Ok, Err, refl}
-use Rattle.std.proofs.Common.{sym, ap, ◌∙◌}
+use Rattle.std.proofs.Common.{sym, ap, ◌∙◌, ◌⊎◌, inr, Result}
+use Rattle.std.specs.Prelude.{IfOk, IfErr}
 use Rattle.std.specs.declared.cmp.Ordering.{Ordering}
 use Rattle.std.specs.declared.cmp.Ordering.TheVariants.{Less, Equal, Greater}
 use Rattle.std.specs.Ordering.{is_eq, nat_cmp, ordering_then, match_ordering}
@@ -11,7 +12,8 @@ use Rattle.ntriples.specs.declared.term.Term.{Term}
 use Rattle.ntriples.specs.declared.term.Term.TheVariants.{Iri, Blank, Literal}
 use Rattle.ntriples.specs.declared.term.Triple.{Triple}
 use Rattle.dcat_map.specs.declared.record.HarvestRecord.{HarvestRecord}
-use Rattle.dcat_map.specs.declared.record.RecordFault.TheVariants.{NotDescribed, NoTitle}
+use Rattle.dcat_map.specs.declared.record.RecordFault.{RecordFault}
+use Rattle.dcat_map.specs.declared.record.RecordFault.TheVariants.{NotDescribed, OutOfMemory}
 use Rattle.dcat_map.specs.Records.{record_in, titled, description_in}
 use Rattle.dcat_map.specs.Sets.{set_insert, ascending_set}
 use Rattle.dcat_map.specs.Terms.{text_cmp, term_cmp, is_iri, is_english}
@@ -96,38 +98,38 @@ list_any-ascending_set cmp apart test [] = refl
 list_any-ascending_set cmp apart test (x ∷ xs) = list_any-set_insert cmp apart test x (ascending_set cmp xs)
     ∙ ap (λ b. test x || b) (list_any-ascending_set cmp apart test xs)
 
--- The test of what is about a copy of the IRI, and the record of it, give the description.
-described_by : (g : List Triple) (iri copy : List ℕ) (b : Bool) → copy ≡ iri
-    → b ≡ list_any (λ t. is_iri dcat_dataset_class t.object) (about g (Iri copy) rdf_type) → b ≡ is_described g iri
-described_by g iri copy b e h = h ∙ list_any-about g copy ∙ ap (is_described g) e
+-- The test of what is about the dataset, and its record, give the description.
+described_by : (g : List Triple) (iri : List ℕ) (dataset : Term) (b : Bool) → dataset ≡ Iri iri
+    → b ≡ list_any (λ t. is_iri dcat_dataset_class t.object) (about g dataset rdf_type) → b ≡ is_described g iri
+described_by g iri dataset b e h =
+    h ∙ ap (λ d. list_any (λ (t : Triple). is_iri dcat_dataset_class t.object) (about g d rdf_type)) e
+    ∙ list_any-about g iri
 
-pub not_described : (g : List Triple) (iri copy : List ℕ) (b : Bool) → copy ≡ iri
-    → b ≡ list_any (λ t. is_iri dcat_dataset_class t.object) (about g (Iri copy) rdf_type) → b ≡ false
+pub not_described : (g : List Triple) (iri : List ℕ) (dataset : Term) (b : Bool) → dataset ≡ Iri iri
+    → b ≡ list_any (λ t. is_iri dcat_dataset_class t.object) (about g dataset rdf_type) → b ≡ false
     → description_in g iri ≡ Err NotDescribed
 unfolding description_in
-not_described g iri copy b e h holds =
+not_described g iri dataset b e h holds =
     ap (λ v. cond v (titled (record_in g (Iri iri)).title (record_in g (Iri iri))) (Err NotDescribed))
-    (sym (described_by g iri copy b e h) ∙ holds)
+    (sym (described_by g iri dataset b e h) ∙ holds)
 
-by_title : (g : List Triple) (iri copy : List ℕ) (b : Bool) (r : HarvestRecord) → copy ≡ iri
-    → b ≡ list_any (λ t. is_iri dcat_dataset_class t.object) (about g (Iri copy) rdf_type) → b ≡ true
-    → r ≡ record_in g (Iri copy) → description_in g iri ≡ titled r.title r
+pub described : (g : List Triple) (iri : List ℕ) (dataset : Term) (b : Bool) (r : HarvestRecord)
+    (result : Result HarvestRecord RecordFault) → dataset ≡ Iri iri
+    → b ≡ list_any (λ t. is_iri dcat_dataset_class t.object) (about g dataset rdf_type) → b ≡ true
+    → r ≡ record_in g dataset → result ≡ titled r.title r → description_in g iri ≡ result
 unfolding description_in
-by_title g iri copy b r e h holds is =
+described g iri dataset b r result e h holds is given =
     ap (λ v. cond v (titled (record_in g (Iri iri)).title (record_in g (Iri iri))) (Err NotDescribed))
-    (sym (described_by g iri copy b e h) ∙ holds)
-    ∙ ap (λ (s : HarvestRecord). titled s.title s) (sym (is ∙ ap (λ i. record_in g (Iri i)) e))
+    (sym (described_by g iri dataset b e h) ∙ holds)
+    ∙ ap (λ (s : HarvestRecord). titled s.title s) (sym (is ∙ ap (record_in g) e)) ∙ sym given
 
-pub untitled : (g : List Triple) (iri copy : List ℕ) (b : Bool) (r : HarvestRecord) → copy ≡ iri
-    → b ≡ list_any (λ t. is_iri dcat_dataset_class t.object) (about g (Iri copy) rdf_type) → b ≡ true
-    → r ≡ record_in g (Iri copy) → r.title ≡ [] → description_in g iri ≡ Err NoTitle
-untitled g iri copy b r e h holds is none = by_title g iri copy b r e h holds is ∙ ap (λ title. titled title r) none
+-- What a result says of the description that it is.
+pub described_ok : (description result : Result HarvestRecord RecordFault) → description ≡ result
+    → IfOk result (λ r. description ≡ Ok r)
+described_ok description (Ok r) e = e
+described_ok description (Err fault) e = tt
 
-pub with_title : (g : List Triple) (iri copy : List ℕ) (b : Bool) (r : HarvestRecord) → copy ≡ iri
-    → b ≡ list_any (λ t. is_iri dcat_dataset_class t.object) (about g (Iri copy) rdf_type) → b ≡ true
-    → r ≡ record_in g (Iri copy) → (r.title ≡ [] → ⊥) → description_in g iri ≡ Ok r
-with_title g iri copy b r e h holds is some = by_title g iri copy b r e h holds is ∙ filled r.title some
-  where
-    filled : (title : List ℕ) → (title ≡ [] → ⊥) → titled title r ≡ Ok r
-    filled [] f = absurd (f refl)
-    filled (c ∷ cs) f = refl
+pub described_err : (description result : Result HarvestRecord RecordFault) → description ≡ result
+    → IfErr result (λ fault. (fault ≡ OutOfMemory) ⊎ (description ≡ Err fault))
+described_err description (Ok r) e = tt
+described_err description (Err fault) e = inr e

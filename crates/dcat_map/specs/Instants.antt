@@ -36,6 +36,12 @@ offset (b ∷ bs) =
     else if b == 90 then (if nat_lt 0 (length bs) then None else Some (pos 0))
     else None
 
+-- the offset from UTC after the fraction of a second
+abbrev pub zone_offset : List ℕ → Option ℤ
+zone_offset bs = do
+  zone ← skip_fraction bs
+  offset zone
+
 -- the seconds, if they are those of a moment
 abbrev pub if_moment : ℤ → Option ℤ
 if_moment seconds = if int_le first_moment seconds && int_le seconds last_moment then Some seconds else None
@@ -44,8 +50,7 @@ if_moment seconds = if int_le first_moment seconds && int_le seconds last_moment
 unfoldable pub instant_in : List ℕ → List ℕ → List ℕ → Option ℤ
 instant_in date time rest = do
   there ← moment_at date time
-  zone ← skip_fraction rest
-  utc_offset ← offset zone
+  utc_offset ← zone_offset rest
   if_moment (there -ℤ utc_offset)
 
 -- the moment of a date and what follows it: nothing, for its midnight, or `T` and a time

@@ -6,7 +6,8 @@ ghost use Rattle.dcat_map.specs.Distributions.{distribution_in, distribution_cmp
 ghost use Rattle.dcat_map.specs.Distributions.{resources_in};
 ghost use Rattle.dcat_map.specs.Graphs.{about};
 ghost use Rattle.dcat_map.specs.Picks.{picked, least_named, least_iri, or_empty};
-ghost use Rattle.dcat_map.specs.Vocabulary.{dcat_download_url, dcat_access_url, dcat_media_type, dct_format};
+ghost use Rattle.dcat_map.specs.Vocabulary.{dcat_download_url, dcat_access_url, dcat_media_type, dct_title};
+ghost use Rattle.dcat_map.specs.Vocabulary.{dct_description, dct_format};
 
 use crate::graph::Graph;
 use crate::picks::{least_iri, least_named, picked};
@@ -113,13 +114,43 @@ pub(crate) fn distribution_of(
 ) -> Result<Distribution, AllocError>
     ensures { IfOk result (λ distribution. distribution ≡ distribution_in graph.now node.now) }
 {
+    let (name, description) = texts_of(alloc, graph, node)?;
+    let (url, format, mimetype) = file_of(alloc, graph, node)?;
     Ok(Distribution {
-        url: Text::from_str(alloc, url_of(graph, node))?,
-        name: Text::from_str(alloc, picked(graph.about(node, TITLE)))?,
-        format: Text::from_str(alloc, format_of(graph, node))?,
-        mimetype: Text::from_str(alloc, media_type_of(graph, node))?,
-        description: Text::from_str(alloc, picked(graph.about(node, DESCRIPTION)))?,
+        url,
+        name,
+        format,
+        mimetype,
+        description,
     })
+}
+
+// The title and the description.
+fn texts_of(alloc: Global, graph: &Graph<'_>, node: &Term) -> Result<(Text, Text), AllocError>
+    ensures name { IfOk result (λ texts. texts.0 ≡ picked (about graph.now node.now dct_title)) }
+    ensures description { IfOk result (λ texts. texts.1 ≡ picked (about graph.now node.now dct_description)) }
+{
+    let name = Text::from_str(alloc, picked(graph.about(node, TITLE)))?;
+    let description = picked(graph.about(node, DESCRIPTION));
+    Ok((name, Text::from_str(alloc, description)?))
+}
+
+// Where the file is found, its format and its media type.
+fn file_of(alloc: Global, graph: &Graph<'_>, node: &Term) -> Result<(Text, Text, Text), AllocError>
+    ensures url { IfOk result (λ file. file.0 ≡ or_other (least_named (about graph.now node.now dcat_download_url))
+        (least_named (about graph.now node.now dcat_access_url))) }
+    ensures format { IfOk result (λ file. file.1 ≡ or_last_part (picked (about graph.now node.now dct_format))
+        (or_empty (least_iri (about graph.now node.now dct_format)))) }
+    ensures mimetype { IfOk result (λ file.
+        file.2 ≡ media_type (or_empty (least_named (about graph.now node.now dcat_media_type)))) }
+{
+    let url = Text::from_str(alloc, url_of(graph, node))?;
+    let format = Text::from_str(alloc, format_of(graph, node))?;
+    Ok((
+        url,
+        format,
+        Text::from_str(alloc, media_type_of(graph, node))?,
+    ))
 }
 
 // A copy of the distribution.
@@ -154,13 +185,11 @@ fn known_or_described(
 fn compare_distributions(first: &Distribution, second: &Distribution) -> Ordering
     ensures { result ≡ distribution_cmp first.now second.now }
 {
-    first
-        .url
-        .cmp(&second.url)
-        .then(first.name.cmp(&second.name))
-        .then(first.format.cmp(&second.format))
-        .then(first.mimetype.cmp(&second.mimetype))
-        .then(first.description.cmp(&second.description))
+    let by_description = first.description.cmp(&second.description);
+    let by_mimetype = first.mimetype.cmp(&second.mimetype).then(by_description);
+    let by_format = first.format.cmp(&second.format).then(by_mimetype);
+    let by_name = first.name.cmp(&second.name).then(by_format);
+    first.url.cmp(&second.url).then(by_name)
 }
 
 /// The distributions of the dataset in order, of which the first 200 are taken.

@@ -46,14 +46,21 @@ impl<'a> Graph<'a> {
     pub fn of(alloc: Global, triples: &'a Seq<Triple>) -> Result<Graph<'a>, AllocError>
         ensures { IfOk result (λ graph. graph ≡ graph_of triples.now) }
     {
-        let mut triples = borrow_all(alloc, triples.as_slice())?;
-        make_triple_set(&mut triples);
-        let mut graph = Graph {
-            triples,
-            shared: Vec::new(alloc),
-        };
+        let mut graph = Graph::undescribed(alloc, triples.as_slice())?;
         graph.shared = described_shared(alloc, &graph)?;
         Ok(graph)
+    }
+
+    // The graph of the triples, without what it says of distributions.
+    fn undescribed(alloc: Global, triples: &'a [Triple]) -> Result<Graph<'a>, AllocError>
+        ensures { IfOk result (λ graph. graph ≡ graph_of triples.now) }
+    {
+        let mut triples = borrow_all(alloc, triples)?;
+        make_triple_set(&mut triples);
+        Ok(Graph {
+            triples,
+            shared: Vec::new(alloc),
+        })
     }
 
     /// The triples.

@@ -3,8 +3,8 @@ ghost use Rattle.std.specs.Prelude.{◌≡◌, ◌≤◌, length, pos, ◌≤ℤ
 ghost use Rattle.std.specs.Char.{is_ascii_digit};
 ghost use Rattle.std.specs.List.{prefix_len};
 ghost use Rattle.std.specs.Ordering.{flip_args, int_cmp};
-ghost use Rattle.dcat_map.specs.Instants.{skip_digits, skip_fraction, offset_size, offset, if_moment, instant_in};
-ghost use Rattle.dcat_map.specs.Instants.{instant_of, instant, moment_of, latest};
+ghost use Rattle.dcat_map.specs.Instants.{skip_digits, skip_fraction, offset_size, offset, zone_offset};
+ghost use Rattle.dcat_map.specs.Instants.{if_moment, instant_in, instant_of, instant, moment_of, latest};
 ghost use Rattle.dcat_map.specs.Sets.{lesser_of};
 
 use ntriples::{Borrowed, Term, Triple};
@@ -72,6 +72,14 @@ fn offset(bytes: &[u8]) -> Option<i64>
     }
 }
 
+// The offset from UTC after the fraction of a second, if there is one.
+fn zone_offset(bytes: &[u8]) -> Option<i64>
+    ensures value { result ≡ zone_offset bytes.now }
+    ensures small { IfSome result (λ utc_offset. (neg_ℤ (pos 86400) ≤ℤ utc_offset) × (utc_offset ≤ℤ pos 86400)) }
+{
+    offset(skip_fraction(bytes)?)
+}
+
 // The moment this count of seconds after 1970-01-01T00:00:00.
 fn moment_at(seconds: i64) -> Option<Moment>
     ensures { result ≡ if_moment seconds }
@@ -85,7 +93,7 @@ fn instant_in(date: &[u8], time: &[u8], rest: &[u8]) -> Option<Moment>
     ensures { result ≡ instant_in date.now time.now rest.now }
 {
     let there = Moment::at(date, time)?;
-    let utc_offset = offset(skip_fraction(rest)?)?;
+    let utc_offset = zone_offset(rest)?;
     moment_at(there.seconds() - utc_offset)
 }
 

@@ -1,10 +1,12 @@
 //! The record of a dataset.
-ghost use Rattle.std.specs.Prelude.{◌≡◌, ◌⊎◌, Ok, Err, IfOk, IfErr};
-ghost use Rattle.dcat_map.specs.Records.{record_in, description_in, description_of};
+ghost use Rattle.std.specs.Prelude.{◌≡◌, ◌⊎◌, ℕ, List, Ok, Err, IfOk, IfErr};
+ghost use Rattle.ntriples.specs.declared.term.Term.TheVariants.{Iri};
+ghost use Rattle.dcat_map.specs.Records.{record_in, titled, description_in, description_of};
 ghost use Rattle.std.specs.List.{list_any};
 ghost use Rattle.dcat_map.specs.Graphs.{about};
 ghost use Rattle.dcat_map.specs.Terms.{is_iri};
-ghost use Rattle.dcat_map.specs.Vocabulary.{rdf_type, dcat_dataset_class};
+ghost use Rattle.dcat_map.specs.Picks.{picked, least_named, or_empty};
+ghost use Rattle.dcat_map.specs.Vocabulary.{rdf_type, dcat_dataset_class, dct_title, dct_description, dct_license};
 ghost use Rattle.dcat_map.specs.Instants.{or_epoch};
 
 use crate::distributions::{or_empty, resources_of};
@@ -85,7 +87,6 @@ pub fn describe(
 
 /// What the graph says of the dataset of that IRI. For many datasets of one graph this is quicker than `describe`,
 /// which makes the graph each time.
-#[tactic(auto, unfolding(crate::specs::Records::description_in))]
 pub fn describe_in(
     alloc: Global,
     graph: &Graph<'_>,
@@ -96,14 +97,36 @@ pub fn describe_in(
         (fault ≡ RecordFault.OutOfMemory) ⊎ (description_in graph.now iri.now ≡ Err fault)) }
 {
     let dataset = Term::Iri(iri.try_clone(alloc)?);
-    if !is_dataset(graph, &dataset) {
-        return Err(RecordFault::NotDescribed);
+    describe_dataset(alloc, graph, &dataset)
+}
+
+// What the graph says of the dataset that the term names.
+fn describe_dataset(
+    alloc: Global,
+    graph: &Graph<'_>,
+    dataset: &Term,
+) -> Result<HarvestRecord, RecordFault>
+    ensures record_is { (iri : List ℕ) → dataset.now ≡ Iri iri →
+        IfOk result (λ r. description_in graph.now iri ≡ Ok r) }
+    ensures fault { (iri : List ℕ) → dataset.now ≡ Iri iri →
+        IfErr result (λ fault. (fault ≡ RecordFault.OutOfMemory) ⊎ (description_in graph.now iri ≡ Err fault)) }
+{
+    if is_dataset(graph, dataset) {
+        titled(record_of(alloc, graph, dataset)?)
+    } else {
+        Err(RecordFault::NotDescribed)
     }
-    let record = record_of(alloc, graph, &dataset)?;
-    if record.title.is_empty() {
-        return Err(RecordFault::NoTitle);
+}
+
+// The record, if it has a title.
+fn titled(described: HarvestRecord) -> Result<HarvestRecord, RecordFault>
+    ensures { result ≡ titled described.title described }
+{
+    if described.title.is_empty() {
+        Err(RecordFault::NoTitle)
+    } else {
+        Ok(described)
     }
-    Ok(record)
 }
 
 // Whether the graph says that the term is a dataset.
@@ -121,14 +144,34 @@ fn is_dataset(graph: &Graph<'_>, dataset: &Term) -> bool
 fn record_of(alloc: Global, graph: &Graph<'_>, dataset: &Term) -> Result<HarvestRecord, AllocError>
     ensures { IfOk result (λ r. r ≡ record_in graph.now dataset.now) }
 {
+    let tags = tags_among(alloc, graph.about(dataset, KEYWORD))?;
+    let resources = resources_of(alloc, graph, dataset)?;
+    let (title, notes, license_id) = texts_of(alloc, graph, dataset)?;
     Ok(HarvestRecord {
-        title: Text::from_str(alloc, picked(graph.about(dataset, TITLE)))?,
-        notes: Text::from_str(alloc, picked(graph.about(dataset, DESCRIPTION)))?,
-        tags: tags_among(alloc, graph.about(dataset, KEYWORD))?,
+        title,
+        notes,
+        tags,
         modified: or_epoch(latest(graph.about(dataset, MODIFIED))),
-        license_id: Text::from_str(alloc, or_empty(least_named(graph.about(dataset, LICENSE))))?,
-        resources: resources_of(alloc, graph, dataset)?,
+        license_id,
+        resources,
     })
+}
+
+// The title, the description and the license.
+fn texts_of(
+    alloc: Global,
+    graph: &Graph<'_>,
+    dataset: &Term,
+) -> Result<(Text, Text, Text), AllocError>
+    ensures title { IfOk result (λ texts. texts.0 ≡ picked (about graph.now dataset.now dct_title)) }
+    ensures notes { IfOk result (λ texts. texts.1 ≡ picked (about graph.now dataset.now dct_description)) }
+    ensures license { IfOk result (λ texts.
+        texts.2 ≡ or_empty (least_named (about graph.now dataset.now dct_license))) }
+{
+    let title = Text::from_str(alloc, picked(graph.about(dataset, TITLE)))?;
+    let notes = Text::from_str(alloc, picked(graph.about(dataset, DESCRIPTION)))?;
+    let license = or_empty(least_named(graph.about(dataset, LICENSE)));
+    Ok((title, notes, Text::from_str(alloc, license)?))
 }
 
 // The moment, or 1970-01-01T00:00:00.

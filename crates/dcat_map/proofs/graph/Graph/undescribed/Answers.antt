@@ -6,23 +6,15 @@ use Rattle.dcat_map.specs.Distributions.{AreDescribed}
 use Rattle.dcat_map.specs.Sets.{ascending_set}
 use Rattle.dcat_map.specs.Terms.{triple_cmp, triple_cmp_total}
 use Rattle.dcat_map.proofs.SetLemmas.{IsStrictlySortedBy-ascending_set}
-use Rattle.dcat_map.proofs.graph.Graph.of.Goals as goal
+use Rattle.dcat_map.proofs.graph.Graph.undescribed.Goals as goal
 
-pub invariant_of-graph : goal.invariant_of-graph
-invariant_of-graph c = (
+pub invariant_of-result : goal.invariant_of-result
+invariant_of-result c = (
   subst (IsStrictlySortedBy triple_cmp) (sym c.make_triple_set.ensures)
       (IsStrictlySortedBy-ascending_set triple_cmp triple_cmp_total _),
   subst (AreDescribed c.make_triple_set.new.triples.items) (sym c.new.ensures.items) (All-nil _),
 )
 
-pub invariant_of-graph-2 : goal.invariant_of-graph-2
-invariant_of-graph-2 c = (
-  subst (IsStrictlySortedBy triple_cmp) (sym c.make_triple_set.ensures)
-      (IsStrictlySortedBy-ascending_set triple_cmp triple_cmp_total _),
-  c.in_ok-graph-inside.ensures,
-)
-
 pub returns : goal.returns
 unfolding graph_of
-returns c = c.make_triple_set.ensures
-    ∙ ap (ascending_set triple_cmp) (c.in_ok-triples.ensures ∙ c.as_slice.ensures)
+returns c = c.make_triple_set.ensures ∙ ap (ascending_set triple_cmp) c.in_ok-triples.ensures

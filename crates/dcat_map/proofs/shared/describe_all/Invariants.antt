@@ -1,5 +1,5 @@
 use Rattle.dcat_map.specs.Distributions.{AreDescribed}
-use Rattle.dcat_map.proofs.shared.described_shared.Given as goal
+use Rattle.dcat_map.proofs.shared.describe_all.Given as goal
 
 abbrev pub invariant-loop-node : goal.invariant-loop-node
 invariant-loop-node l = AreDescribed l.graph l.shared.items
