@@ -1,10 +1,15 @@
 -- Where a text ends that may become a head: with one of two short ends it is one already, or no field of it has begun.
 use Rattle.std.proofs.Common.{◌≡◌, ℕ, ◌⊎◌, List, [], ◌∷◌, ◌++◌, ◌∙◌, refl, sym, ap, subst, append_assoc}
 use Rattle.std.proofs.Common.{arith, inl, inr, append-nil, flat_map, All, true, IsTrue}
+use Rattle.std.specs.Prelude.{codes}
 use Rattle.std.proofs.lemmas.List.Elements.{All-cons, All-nil, All-head, All-tail}
 use Rattle.httparse.specs.Grammar.{LineEnd, crlf, lf, print_end, Field, print_field, IsField}
 use Rattle.httparse.specs.Grammar.{is_token_byte, is_value_byte, AllPass}
-use Rattle.http_front.specs.HeadParse.{IsEnding}
+
+-- What completes a head when it is appended to a text that ends inside a field line, or where a field line may begin:
+-- the end of a name, of that line and of the head; or the two line ends without a name's. No field line begins so.
+abbrev pub IsEnding : List ℕ → Type 0
+IsEnding ending = (ending ≡ codes ":\n\n") ⊎ (ending ≡ codes "\n\n")
 
 -- the first of two lists ends within the first of the two others, or beyond it
 abbrev pub Within : List ℕ → List ℕ → List ℕ → List ℕ → Type 0

@@ -5,8 +5,11 @@ use Rattle.std.proofs.Common.{arith, drop, take-append-drop}
 use Rattle.std.proofs.lemmas.List.{append-nil, take_at, take-append-le, map-append, length-map}
 use Rattle.httparse.specs.Grammar.{RequestHead, ReadsRequest, print_request, HasNoRequest}
 use Rattle.httparse.proofs.GrammarLemmas.{ReadsRequest-append, request_unique}
-use Rattle.http_front.specs.HeadParse.{IsComplete}
+use Rattle.httparse.specs.Spans.{RequestOverflows}
+use Rattle.http_front.specs.HeadParse.{IsComplete, IsHeadParse}
 use Rattle.http_front.specs.declared.head.Head.{Head}
+use Rattle.http_front.specs.declared.head.HeadParse.{HeadParse}
+use Rattle.http_front.specs.declared.head.HeadParse.TheVariants.{Complete, Partial, Invalid}
 use Rattle.http_front.specs.Head.{pairs_of, marked, marked_byte, Begins, HasNoHead, IsInvalid}
 
 pub marked-append : (a b : List ℕ) → marked (a ++ b) ≡ marked a ++ marked b
@@ -22,12 +25,14 @@ begins_on buffer rest head b = record {
   few = b.few;
 }
 
--- bytes that no continuation makes a head stay so with more bytes
+-- a text that no continuation makes a head stays so with more bytes
+pub overflows_on : (text rest : List ℕ) → RequestOverflows 64 text → RequestOverflows 64 (text ++ rest)
+overflows_on text rest never more head after reads =
+    never (rest ++ more) head after (subst (λ v. ReadsRequest v head after) (append_assoc text rest more) reads)
+
 pub invalid_on : (buffer rest : List ℕ) → IsInvalid buffer → IsInvalid (buffer ++ rest)
-invalid_on buffer rest never more head after reads =
-    never (marked rest ++ more) head after
-    (subst (λ v. ReadsRequest v head after)
-    (ap (λ v. v ++ more) (marked-append buffer rest) ∙ append_assoc (marked buffer) (marked rest) more) reads)
+invalid_on buffer rest never =
+    subst (RequestOverflows 64) (sym (marked-append buffer rest)) (overflows_on (marked buffer) (marked rest) never)
 
 pub invalid_none : (bytes : List ℕ) → IsInvalid bytes → HasNoHead bytes
 invalid_none bytes never head b =
@@ -63,3 +68,34 @@ pub same_fields : (text : List ℕ) (copy : Head) (mark : RequestHead) (rest : L
 same_fields text copy mark rest w reads =
     let same = request_unique text w.head mark (drop copy.length text) rest w.reads reads in
     w.holds.fields ∙ ap pairs_of same.0
+
+same_copy : (one two : Head) → one.method ≡ two.method → one.target ≡ two.target → one.fields ≡ two.fields
+    → one.length ≡ two.length → one ≡ two
+same_copy one two m t f l =
+    ap (λ v. record one { method = v }) m ∙ ap (λ v. record one { method = two.method; target = v }) t
+    ∙ ap (λ v. record two { fields = v; length = one.length }) f ∙ ap (λ v. record two { length = v }) l
+
+-- a complete head is the one parse of the text, whatever bytes follow
+pub complete_kept : (text more : List ℕ) (head : Head) (parse : HeadParse) → IsHeadParse text (Complete head)
+    → IsHeadParse (text ++ more) parse → parse ≡ Complete head
+complete_kept text more one parse w p = by_parse parse p
+  where
+    rest : List ℕ
+    rest = drop one.length text ++ more
+
+    reads : ReadsRequest (text ++ more) w.head rest
+    reads = ReadsRequest-append text w.head (drop one.length text) more w.reads
+
+    by_parse : (parse : HeadParse) → IsHeadParse (text ++ more) parse → parse ≡ Complete one
+    by_parse (Complete two) v =
+        let same = (request_unique (text ++ more) v.head w.head _ rest v.reads reads).0 in
+        ap Complete (same_copy two one
+        (v.holds.method ∙ ap (λ h. h.method) same ∙ sym w.holds.method)
+        (v.holds.target ∙ ap (λ h. h.target) same ∙ sym w.holds.target)
+        (v.holds.fields ∙ ap pairs_of same ∙ sym w.holds.fields)
+        (v.holds.length ∙ ap (λ h. length (print_request h)) same ∙ sym w.holds.length))
+    by_parse Partial v = absurd (v.0 w.head rest reads)
+    by_parse Invalid over =
+        let many : 64 < length w.head.fields = over [] w.head rest
+        (subst (λ v. ReadsRequest v w.head rest) (sym (append-nil (text ++ more))) reads) in
+        absurd (omega (arith, many, w.few))

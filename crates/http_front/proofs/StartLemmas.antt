@@ -19,11 +19,16 @@ use Rattle.httparse.specs.declared.spans.RequestSpans.{RequestSpans}
 use Rattle.httparse.specs.Spans.{RequestExceeds, RequestOverflows, IsRequestOf, IsRequestWithin, header_bytes}
 use Rattle.httparse.specs.Spans.{name_and_value}
 use Rattle.httparse.proofs.GrammarLemmas.{print_request-append, request_pieces, request_tree, request_unique}
+use Rattle.httparse.proofs.GrammarLemmas.{ReadsRequest-append}
 use Rattle.httparse.proofs.PieceLemmas.{Stops_token, RequestStart_deterministic, Section_skip}
 use Rattle.httparse.proofs.PieceLemmas.{newline_not_stopped, colon_ends_token, token_is_no_newline}
 use Rattle.http_front.specs.Head.{Continues, IsPartial, marked, marked_byte}
-use Rattle.http_front.specs.HeadParse.{IsEnding, EndsInTime, HasNoneOver}
-use Rattle.http_front.proofs.EndLemmas.{field_parts, parted, Closes, close_lines, all_front, all_back}
+use Rattle.http_front.specs.HeadParse.{HasNoneOver, StaysWithin}
+use Rattle.http_front.proofs.EndLemmas.{IsEnding, field_parts, parted, Closes, close_lines, all_front, all_back}
+
+-- with either ending the text begins with no head of more than 64 fields
+abbrev EndsInTime : List ℕ → Type 0
+EndsInTime text = (ending : List ℕ) → IsEnding ending → HasNoneOver (text ++ ending)
 
 -- the empty lines and the request line
 abbrev start_of : RequestHead → List ℕ
@@ -153,9 +158,10 @@ target_begun text small (blank, method, target, token, uri, e) =
     regroup : (a b c v : List ℕ) → ((a ++ b) ++ 32 ∷ c) ++ (47 ∷ 32 ∷ v) ≡ a ++ (b ++ 32 ∷ ((c ++ 47 ∷ []) ++ 32 ∷ v))
     regroup a b c v = simp append_assoc
 
-pub continues : (text : List ℕ) → All (λ b. b < 128) text → MayBecomeRequest text → EndsInTime text → Continues 64 text
-continues text small (inr target) fits = target_begun text small target
-continues text small (inl (more, h, reads)) fits =
+-- the text ends inside a head, or at its end
+head_begun : (text more : List ℕ) (h : RequestHead) → ReadsRequest (text ++ more) h [] → EndsInTime text
+    → Continues 64 text
+head_begun text more h reads fits =
     let lines = flat_map print_field h.fields ++ print_end h.last in
     let e : text ++ more ≡ start_of h ++ lines =
     reads.1 ∙ print_parts h [] ∙ ap (λ v. start_of h ++ v) (append-nil lines) in
@@ -326,13 +332,30 @@ pub small_marks : (bytes : List ℕ) → All (λ b. b < 128) (marked bytes)
 small_marks bytes = All-map (λ b. b < 128) marked_byte bytes (λ k d lt. small_mark (get_or bytes k d))
 
 -- what the check of an end says of marked bytes
-pub marks_continue : (bytes : List ℕ) → MayBecomeRequest (marked bytes) → EndsInTime (marked bytes) → IsPartial bytes
-marks_continue bytes may fits = continues (marked bytes) (small_marks bytes) may fits
+pub marks_continue : (bytes : List ℕ) → MayBecomeRequest (marked bytes) → StaysWithin (marked bytes) → IsPartial bytes
+marks_continue bytes (inl (more, h, reads)) fits = fits more h [] reads
+marks_continue bytes (inr target) fits = target_begun (marked bytes) (small_marks bytes) target
 
-pub ends_in_time : (text : List ℕ) → HasNoneOver (text ++ codes ":\n\n") → HasNoneOver (text ++ codes "\n\n")
-    → EndsInTime text
-ends_in_time text a b ending (inl e) = subst (λ v. HasNoneOver (text ++ v)) (sym e) a
-ends_in_time text a b ending (inr e) = subst (λ v. HasNoneOver (text ++ v)) (sym e) b
+-- the two ends show whether the text stays within the limit
+stays_within : (text : List ℕ) → HasNoneOver (text ++ codes ":\n\n") → HasNoneOver (text ++ codes "\n\n")
+    → StaysWithin text
+stays_within text a b more h rest reads =
+    elim (parted text more (print_request h) rest reads.1) [
+      | inl s ↦ head_begun text s.0 h (reads.0, sym s.1 ∙ sym (append-nil (print_request h))) in_time
+      | inr l ↦
+          let own : ReadsRequest text h (l.0 ∷ l.1) = (reads.0, l.2) in
+          record {
+            more = [];
+            head = h;
+            rest = l.0 ∷ l.1;
+            reads = subst (λ v. ReadsRequest v h (l.0 ∷ l.1)) (sym (append-nil text)) own;
+            few = b h ((l.0 ∷ l.1) ++ codes "\n\n") (ReadsRequest-append text h (l.0 ∷ l.1) (codes "\n\n") own);
+          }
+    ]
+  where
+    in_time : EndsInTime text
+    in_time ending (inl e) = subst (λ v. HasNoneOver (text ++ v)) (sym e) a
+    in_time ending (inr e) = subst (λ v. HasNoneOver (text ++ v)) (sym e) b
 
 -- a head that the parser found has no more fields than it had room for
 pub complete_fits : (text : List ℕ) (spans : List HeaderSpan) (found : RequestSpans) → length spans ≡ 64
@@ -354,6 +377,12 @@ over_named text x = exceeds_overflows text (codes ":\n\n") (inl refl) x
 
 pub over_unnamed : (text : List ℕ) → RequestExceeds 64 (text ++ codes "\n\n") → RequestOverflows 64 text
 over_unnamed text x = exceeds_overflows text (codes "\n\n") (inr refl) x
+
+pub stays_ended : {E : Type 0} (text : List ℕ) (result : Result Bool E) → HasNoneOver (text ++ codes ":\n\n")
+    → IfOk result (λ over. over ≡ false → HasNoneOver (text ++ codes "\n\n"))
+    → IfOk result (λ over. over ≡ false → StaysWithin text)
+stays_ended text (Ok over) named fits = λ is. stays_within text named (fits is)
+stays_ended text (Err e) named fits = tt
 
 pub over_ended : {E : Type 0} (text : List ℕ) (result : Result Bool E)
     → IfOk result (λ over. over ≡ true → RequestExceeds 64 (text ++ codes "\n\n"))

@@ -1,23 +1,25 @@
--- What a parse says of a text that may begin with a request's head: the head is complete, partial or invalid.
-use Rattle.std.specs.Prelude.{◌≡◌, ℕ, ◌≤◌, ◌⊎◌, Bool, true, false, List, ◌++◌, length, drop, codes, Option, Some, None}
+-- How much of a request's head begins a text: all of it, a part, or none that more bytes complete. A head is the request
+-- line, the field lines and the empty line after them (RFC 9112, sections 2.1, 3 and 5). Empty lines before it are skipped
+-- (section 2.2). It has at most 64 field lines, since a server limits what it takes (RFC 9110, section 5.4).
+use Rattle.std.specs.Prelude.{◌≡◌, ℕ, ◌≤◌, ◌⊎◌, Bool, true, false, List, ◌++◌, length, drop, Option, Some, None}
 use Rattle.std.specs.Prelude.{Result, Ok, Err}
 use Rattle.httparse.specs.Grammar.{RequestHead, ReadsRequest, HasNoRequest, MayBecomeRequest, print_request}
 use Rattle.httparse.specs.Spans.{RequestOverflows}
-use Rattle.http_front.specs.Head.{marked, extent, pairs_of, Begins, IsInvalid, IsPartial}
+use Rattle.http_front.specs.Head.{marked, extent, pairs_of, Begins, Continues, IsInvalid, IsPartial}
 use Rattle.http_front.specs.declared.fault.FrontFault.{FrontFault}
 use Rattle.http_front.specs.declared.fault.FrontFault.TheVariants.{BadHead, EndedEarly, OutOfMemory}
 use Rattle.http_front.specs.declared.head.Head.{Head}
 use Rattle.http_front.specs.declared.head.HeadParse.{HeadParse}
 use Rattle.http_front.specs.declared.head.HeadParse.TheVariants.{Complete, Partial, Invalid}
 
--- the copy holds what the head of the grammar has
+-- the copy has the head's method, request target and fields, and its length in bytes
 pub record Holds (copy : Head) (head : RequestHead) : Type 0 where
   pub method : copy.method ≡ head.method
   pub target : copy.target ≡ head.target
   pub fields : copy.fields ≡ pairs_of head
   pub length : copy.length ≡ length (print_request head)
 
--- the text begins with a head of at most 64 fields, which the copy holds
+-- The head is complete: the text begins with one of at most 64 field lines, which the copy holds.
 pub record IsComplete (text : List ℕ) (copy : Head) : Type 0 where
   pub head : RequestHead
   pub reads : ReadsRequest text head (drop copy.length text)
@@ -25,27 +27,28 @@ pub record IsComplete (text : List ℕ) (copy : Head) : Type 0 where
   pub few : length head.fields ≤ 64
   pub within : copy.length ≤ length text
 
--- The parse of the text: a complete head; or none yet, but some continuation may be one; or no continuation begins with
--- a head of at most 64 fields.
+-- The head is incomplete (RFC 9112, section 8): none begins the text, and more bytes may complete one. A target is only
+-- known to be UTF-8 once it is complete, so a text that ends inside any target counts.
+abbrev pub IsIncomplete : List ℕ → Type 0
+IsIncomplete text = HasNoRequest text × MayBecomeRequest text
+
+-- The parse of the text. It is invalid only if no continuation begins with a head of at most 64 field lines. A text that
+-- ends inside a 65th field line may be partial too.
 abbrev pub IsHeadParse : List ℕ → HeadParse → Type 0
 IsHeadParse text (Complete head) = IsComplete text head
-IsHeadParse text Partial = HasNoRequest text × MayBecomeRequest text
+IsHeadParse text Partial = IsIncomplete text
 IsHeadParse text Invalid = RequestOverflows 64 text
 
--- What completes a head when it is appended to a text that ends inside a field line, or where a field line may begin:
--- the end of a name, of that line and of the head; or the two line ends without a name's. No field line begins so.
-abbrev pub IsEnding : List ℕ → Type 0
-IsEnding ending = (ending ≡ codes ":\n\n") ⊎ (ending ≡ codes "\n\n")
-
--- no head that begins the text has more than 64 fields
+-- no head that begins the text has more than 64 field lines
 abbrev pub HasNoneOver : List ℕ → Type 0
 HasNoneOver text = (head : RequestHead) (rest : List ℕ) → ReadsRequest text head rest → length head.fields ≤ 64
 
--- With no such ending appended, the text begins with a head of more than 64 fields.
-abbrev pub EndsInTime : List ℕ → Type 0
-EndsInTime text = (ending : List ℕ) → IsEnding ending → HasNoneOver (text ++ ending)
+-- If some continuation of the text begins with a head, some continuation begins with one of at most 64 field lines.
+abbrev pub StaysWithin : List ℕ → Type 0
+StaysWithin text = (more : List ℕ) (head : RequestHead) (rest : List ℕ) → ReadsRequest (text ++ more) head rest
+    → Continues 64 text
 
--- ---- the bytes of a buffer
+-- ---- the bytes that came so far, as a buffer
 
 -- a head of `count` bytes begins the buffer
 pub record HasHeadOf (buffer : List ℕ) (count : ℕ) : Type 0 where
@@ -66,7 +69,8 @@ pub record IsPartialHead (buffer : List ℕ) (more : Bool) (fault : FrontFault) 
   pub none : HasNoRequest (marked buffer)
   pub unfinished : IsPartial buffer
 
--- the parse of a buffer: the length of its head; or none yet, so that more bytes are to be read; or the fault
+-- The head of a connection whose bytes begin with the buffer: its length; or none yet, so that more bytes are to be read;
+-- or the fault. A buffer of 16,384 bytes without a head is too long for one.
 abbrev pub IsParseOfBuffer : List ℕ → Bool → Result (Option ℕ) FrontFault → Type 0
 IsParseOfBuffer buffer more (Ok (Some count)) = HasHeadOf buffer count
 IsParseOfBuffer buffer more (Ok None) = (more ≡ true) × (16384 ≤ length buffer → HasNoRequest (marked buffer))

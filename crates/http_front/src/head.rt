@@ -2,7 +2,7 @@
 ghost use Rattle.std.specs.Prelude.{◌≡◌, ◌≤◌, ◌++◌, ℕ, length, map, take, true, false, All, IfOk};
 ghost use Rattle.httparse.specs.Spans.{IsRequestWithin, IsHeaderWithin, header_bytes, span_bytes};
 ghost use Rattle.httparse.specs.Spans.{RequestExceeds, RequestOverflows};
-ghost use Rattle.http_front.specs.HeadParse.{IsHeadParse, HasNoneOver, EndsInTime};
+ghost use Rattle.http_front.specs.HeadParse.{IsHeadParse, HasNoneOver, StaysWithin};
 
 use httparse::spans::{EMPTY_HEADER_SPAN, HeaderSpan, RequestSpans, parse_request};
 use httparse::{Error, Status};
@@ -56,13 +56,13 @@ fn exceeds_with(alloc: Global, text: &[u8], ending: &[u8]) -> Result<bool, Alloc
     Ok(exceeds(whole.as_slice()))
 }
 
-/// Whether the text has begun one field line more than a head may have. It has if an end of that line completes such a
-/// head.
-#[tactic(auto, using(crate::proofs::StartLemmas::ends_in_time))]
+/// Whether the text has begun one field line more than a head may have. So if it may become a head at all, this says
+/// whether it may become one within the limit.
 pub fn is_over(alloc: Global, text: &[u8]) -> Result<bool, AllocError>
     ensures over { IfOk result (λ over. over ≡ true → RequestOverflows 64 text.now) }
-    ensures fits { IfOk result (λ over. over ≡ false → EndsInTime text.now) }
+    ensures fits { IfOk result (λ over. over ≡ false → StaysWithin text.now) }
 {
+    // One of these two ends completes the last line and the head, wherever in a field line the text ends.
     if exceeds_with(alloc, text, b":\n\n")? {
         return Ok(true);
     }
