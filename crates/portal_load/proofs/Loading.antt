@@ -286,13 +286,13 @@ loads_all own schema whole bytes rest json value state mid after old on new befo
     }
 
 -- the pieces that remain, where input is observable
-pub pieces_are : (resource : List ℕ) (fields : List FieldValue) (whole : List ℕ) (observed : Option (List ℕ))
+pub remaining_pieces : (resource : List ℕ) (fields : List FieldValue) (whole : List ℕ) (observed : Option (List ℕ))
     (remaining : Option Pieces) → observed ≡ Some whole → Begins resource fields observed remaining
     → (pieces : Pieces) × (remaining ≡ Some pieces) × (inserts_of resource fields whole ≡ Ok pieces)
-pieces_are resource fields whole observed None is begins =
+remaining_pieces resource fields whole observed None is begins =
     let e : option_map (inserts_of resource fields) (Some whole) ≡ None =
     subst (λ (o : Option (List ℕ)). option_map (inserts_of resource fields) o ≡ None) is begins in absurd (cc)
-pieces_are resource fields whole observed (Some pieces) is begins =
+remaining_pieces resource fields whole observed (Some pieces) is begins =
     let e : option_map (inserts_of resource fields) (Some whole) ≡ Some (Ok pieces) =
     subst (λ (o : Option (List ℕ)). option_map (inserts_of resource fields) o ≡ Some (Ok pieces)) is begins in
     (pieces, refl, cc)
@@ -334,7 +334,7 @@ pub rows_done : (r : Result Unit Status) (own : Task) (fields : List FieldValue)
 rows_done r own fields observed remaining state after old new begins done =
     on_ok_weaker r (λ (all : (pieces : Pieces) → remaining ≡ Some pieces → (pieces.fault ≡ None)
     × MakesOn state (inserts_for own pieces.pieces) after old new) whole is.
-    let a = pieces_are own.resource.now fields whole observed remaining is begins in
+    let a = remaining_pieces own.resource.now fields whole observed remaining is begins in
     subst (λ (p : Pieces). (p.fault ≡ None) × MakesOn state (inserts_for own p.pieces) after old new)
     (sym (ap pieces_until_fault a.2)) (all a.0 a.1)) done
 
