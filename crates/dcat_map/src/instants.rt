@@ -1,5 +1,5 @@
 //! Dates and times as literals.
-ghost use Rattle.std.specs.Prelude.{◌≡◌, ◌≤◌, length, pos, ◌≤ℤ◌, neg_ℤ, IfSome, option_map, take, drop};
+ghost use Rattle.std.specs.Prelude.{◌≡◌, ◌≤◌, length, pos, ◌≤ℤ◌, ◌-ℤ◌, neg_ℤ, IfSome, option_map, take, drop};
 ghost use Rattle.std.specs.Char.{is_ascii_digit};
 ghost use Rattle.std.specs.List.{prefix_len};
 ghost use Rattle.std.specs.Ordering.{flip_args, int_cmp};
@@ -80,11 +80,12 @@ fn zone_offset(bytes: &[u8]) -> Option<i64>
     offset(skip_fraction(bytes)?)
 }
 
-// The moment this count of seconds after 1970-01-01T00:00:00.
-fn moment_at(seconds: i64) -> Option<Moment>
-    ensures { result ≡ if_moment seconds }
+// The moment in UTC of a local one whose offset is ahead by these seconds.
+fn in_utc(local: Moment, utc_offset: i64) -> Option<Moment>
+    requires { (neg_ℤ (pos 86400) ≤ℤ utc_offset) × (utc_offset ≤ℤ pos 86400) }
+    ensures { result ≡ if_moment (local -ℤ utc_offset) }
 {
-    Moment::from_seconds(seconds)
+    Moment::from_seconds(local.seconds() - utc_offset)
 }
 
 // The moment of a date, a time of day, and what follows it.
@@ -92,9 +93,8 @@ fn moment_at(seconds: i64) -> Option<Moment>
 fn instant_in(date: &[u8], time: &[u8], rest: &[u8]) -> Option<Moment>
     ensures { result ≡ instant_in date.now time.now rest.now }
 {
-    let there = Moment::at(date, time)?;
-    let utc_offset = zone_offset(rest)?;
-    moment_at(there.seconds() - utc_offset)
+    let local = Moment::at(date, time)?;
+    in_utc(local, zone_offset(rest)?)
 }
 
 // The bytes before the position, and those from it on. A shorter text is all before.

@@ -11,7 +11,8 @@ use lib.Utf8.{scalar, scalars, encode, encodes}
 use Rattle.ntriples.specs.declared.term.Term.{Term}
 use Rattle.ntriples.specs.declared.term.Triple.{Triple}
 use Rattle.ntriples.specs.Reading.{◌>>=◌, skip_blanks, following}
-use Rattle.ntriples.specs.Parsing.{subject, object, iriref, triple, is_end, triple_alone, line}
+use Rattle.ntriples.specs.Parsing.{subject, object, iriref, object_end, predicate_object, triple, is_end}
+use Rattle.ntriples.specs.Parsing.{triple_alone, line}
 use Rattle.ntriples.specs.Document.{is_line_end, onto_first, lines}
 use Rattle.ntriples.specs.ParsedLines.{line_of, triples_of, IsParsed}
 use Rattle.ntriples.proofs.Lines.{form_line}
@@ -41,16 +42,29 @@ scalars_skip [] h = refl
 scalars_skip (c ∷ cs) h =
     skip_by ((c == 32) || (c == 9)) c cs h (scalars_skip cs (and_parts (scalar c) (scalars cs) h).1)
 
+object_end_makes : (cs : List ℕ) → scalars cs ≡ true → Makes (TermAgain object) (object_end cs)
+unfolding object_end
+object_end_makes cs h =
+    makes_bind (TermAgain object) (TermAgain object) (object (skip_blanks cs)) _
+    (object_makes (skip_blanks cs) (scalars_skip cs h)) (λ o b n.
+    makes_following (TermAgain object) 46 (skip_blanks o.1) _ (scalars_skip o.1 n) (λ rest r. (b, r)))
+
+PredicateObject : List ℕ × Term → Type 0
+PredicateObject both = IsUtf8 both.0 × TermAgain object both.1
+
+predicate_object_makes : (cs : List ℕ) → scalars cs ≡ true → Makes PredicateObject (predicate_object cs)
+unfolding predicate_object PredicateObject
+predicate_object_makes cs h =
+    makes_bind IsUtf8 PredicateObject (iriref (skip_blanks cs)) _ (iriref_makes (skip_blanks cs) (scalars_skip cs h))
+    (λ p u m. makes_bind (TermAgain object) PredicateObject (object_end p.1) _ (object_end_makes p.1 m)
+    (λ o b n. ((u, b), n)))
+
 triple_makes : (cs : List ℕ) → scalars cs ≡ true → Makes TripleAgain (triple cs)
-unfolding triple
+unfolding triple PredicateObject
 triple_makes cs h =
     makes_bind SubjectAgain TripleAgain (subject cs) _ (subject_makes cs h) (λ s a k.
-    makes_bind IsUtf8 TripleAgain (iriref (skip_blanks s.1)) _ (iriref_makes (skip_blanks s.1) (scalars_skip s.1 k))
-    (λ p u m.
-    makes_bind (TermAgain object) TripleAgain (object (skip_blanks p.1)) _
-    (object_makes (skip_blanks p.1) (scalars_skip p.1 m)) (λ o b n.
-    makes_following TripleAgain 46 (skip_blanks o.1) _ (scalars_skip o.1 n)
-    (λ rest r. (record { subject = a; predicate = iri_again p.0 u; object = b }, r)))))
+    makes_bind PredicateObject TripleAgain (predicate_object s.1) _ (predicate_object_makes s.1 k)
+    (λ p b n. (record { subject = a; predicate = iri_again p.0.0 b.0; object = b.1 }, n)))
 
 IfTriple : Option Triple → Type 0
 IfTriple None = Unit {0}
@@ -116,7 +130,7 @@ solid_shows c cs h = not-true (c == 35) (and_parts (not ((c == 32) || (c == 9)))
 triple_reads : (cs a b : List ℕ) (s : Term) (p : List ℕ) (o : Term) → subject cs ≡ Some (s, 32 ∷ a)
     → skip_blanks a ≡ a → iriref a ≡ Some (p, 32 ∷ b) → skip_blanks b ≡ b → object b ≡ Some (o, 32 ∷ 46 ∷ [])
     → triple cs ≡ Some (record { subject = s; predicate = p; object = o }, [])
-unfolding triple skip_blanks
+unfolding triple predicate_object object_end skip_blanks
 triple_reads cs a b s p o e f g h k = rw (e, f, g, h, k) refl
 
 line_reads : (cs : List ℕ) (value : Triple) → skip_blanks cs ≡ cs → is_end cs ≡ false → triple cs ≡ Some (value, [])

@@ -11,7 +11,8 @@ use Rattle.ntriples.specs.declared.term.Term.{Term}
 use Rattle.ntriples.specs.declared.term.Term.TheVariants.{Iri, Blank, Literal}
 use Rattle.ntriples.specs.declared.term.Triple.{Triple}
 use Rattle.ntriples.specs.Reading.{◌>>=◌, following, skip_blanks}
-use Rattle.ntriples.specs.Parsing.{iriref, subject, object, triple, is_end, triple_alone, line}
+use Rattle.ntriples.specs.Parsing.{iriref, subject, object, object_end, predicate_object, triple, is_end}
+use Rattle.ntriples.specs.Parsing.{triple_alone, line}
 use Rattle.ntriples.specs.Grammar.{is_blank, IsIri, IsString, IsLabel, IsLiteral, IsSubject, IsObject}
 use Rattle.ntriples.specs.Document.{IsLineOf}
 use Rattle.ntriples.specs.ParsedLines.{line_of}
@@ -182,12 +183,14 @@ record TripleAt (cs : List ℕ) (x : Triple × List ℕ) : Type 0 where
   pub form : IsTriple prefix x.1 x.0
 
 triple_some : (cs : List ℕ) (x : Triple × List ℕ) → triple cs ≡ Some x → TripleAt cs x
-unfolding triple
+unfolding triple predicate_object object_end
 triple_some cs x e =
     let a = bind_some (subject cs) _ x e in
-    let b = bind_some (iriref (skip_blanks a.0.1)) _ x a.2 in
-    let c = bind_some (object (skip_blanks b.0.1)) _ x b.2 in
-    let d = bind_some (following 46 (skip_blanks c.0.1)) _ x c.2 in
+    let m = bind_some (predicate_object a.0.1) _ x a.2 in
+    let b = bind_some (iriref (skip_blanks a.0.1)) _ m.0 m.1 in
+    let n = bind_some (object_end b.0.1) _ m.0 b.2 in
+    let c = bind_some (object (skip_blanks b.0.1)) _ n.0 n.1 in
+    let d = bind_some (following 46 (skip_blanks c.0.1)) _ n.0 c.2 in
     let s = subject_some cs a.0 a.1 in
     let p = iriref_some (skip_blanks a.0.1) b.0 b.1 in
     let o = object_some (skip_blanks b.0.1) c.0 c.1 in
@@ -199,8 +202,13 @@ triple_some cs x e =
     ∙ ap (λ (t : List ℕ). h.prefix ++ t) (o.parts ∙ ap (λ (t : List ℕ). o.prefix ++ t) after_object) in
     let after_subject = g.parts
     ∙ ap (λ (t : List ℕ). g.prefix ++ t) (p.parts ∙ ap (λ (t : List ℕ). p.prefix ++ t) after_predicate) in
-    let t : Triple = record { subject = a.0.0; predicate = b.0.0; object = c.0.0 } in
-    subst (TripleAt cs) (same_Some {A = Triple × List ℕ} (t, d.0) x d.2)
+    let made : (List ℕ × Term) × List ℕ → Triple × List ℕ =
+    λ y. (record { subject = a.0.0; predicate = y.0.0; object = y.0.1 }, y.1) in
+    let object_is = same_Some {A = Term × List ℕ} (c.0.0, d.0) n.0 d.2 in
+    let both_are = same_Some {A = (List ℕ × Term) × List ℕ} ((b.0.0, n.0.0), n.0.1) m.0 n.2 in
+    subst (TripleAt cs)
+    (ap (λ (y : Term × List ℕ). made ((b.0.0, y.0), y.1)) object_is ∙ ap made both_are
+    ∙ same_Some {A = Triple × List ℕ} (made m.0) x m.2)
     (record {
       prefix = s.prefix ++ g.prefix ++ p.prefix ++ h.prefix ++ o.prefix ++ k.prefix ++ 46 ∷ [];
       parts = s.parts ∙ ap (λ (l : List ℕ). s.prefix ++ l) after_subject
@@ -234,7 +242,7 @@ triple_read : (cs s g p h o k rest : List ℕ) (t : Triple)
     → skip_blanks (from_predicate s g p h o k rest) ≡ o ++ from_object s g p h o k rest
     → object (o ++ from_object s g p h o k rest) ≡ Some (t.object, from_object s g p h o k rest)
     → skip_blanks (from_object s g p h o k rest) ≡ 46 ∷ rest → triple cs ≡ Some (t, rest)
-unfolding triple
+unfolding triple predicate_object object_end
 triple_read cs s g p h o k rest t e1 e2 e3 e4 e5 e6 = rw (e1, e2, e3, e4, e5, e6) refl
 
 triple_of : (text room comment : List ℕ) (t : Triple) → IsTriple text (room ++ comment) t → AreBlanks room

@@ -11,7 +11,7 @@ use Rattle.ntriples.specs.declared.quoted.QuoteKind.{QuoteKind}
 use Rattle.ntriples.specs.declared.quoted.QuoteKind.TheVariants.{Iri, Literal}
 use Rattle.ntriples.specs.Characters.{is_iri_character}
 use Rattle.ntriples.specs.Reading.{◌>>=◌, character}
-use Rattle.ntriples.specs.Parsing.{hex, hex4, scalar, short_code, long_code, uchar, echar_or, literal_escape, closing}
+use Rattle.ntriples.specs.Parsing.{hex, hex2, hex4, scalar, short_code, long_code, uchar, echar_or, literal_escape, closing}
 use Rattle.ntriples.specs.Parsing.{is_unescaped, escape, quoted_character}
 use Rattle.ntriples.specs.Grammar.{is_hex, is_scalar, is_string_character, hex_number, IsUchar, echar, IsEchar}
 use Rattle.ntriples.specs.Grammar.{IsIriPiece, IsStringPiece}
@@ -55,7 +55,7 @@ hex_of : (c : ℕ) (rest : List ℕ) → is_hex c ≡ true → hex (c ∷ rest) 
 unfolding hex
 hex_of c rest h = rw h refl
 
-four : (a b c d : ℕ) → 4096 * a + 256 * b + 16 * c + d ≡ a * 16 ^ 3 + (b * 16 ^ 2 + (c * 16 ^ 1 + (d * 16 ^ 0 + 0)))
+four : (a b c d : ℕ) → 256 * (16 * a + b) + (16 * c + d) ≡ a * 16 ^ 3 + (b * 16 ^ 2 + (c * 16 ^ 1 + (d * 16 ^ 0 + 0)))
 four a b c d = omega arith
 
 eight : (a b c d e f g h : ℕ)
@@ -96,38 +96,56 @@ record FourAt (cs : List ℕ) (x : ℕ × List ℕ) : Type 0 where
   pub good : AllFour a b c d []
   pub value : x.0 ≡ hex_number (a ∷ b ∷ c ∷ d ∷ [])
 
-hex4_some : (cs : List ℕ) (x : ℕ × List ℕ) → hex4 cs ≡ Some x → FourAt cs x
-unfolding hex4
-hex4_some cs x e =
+record TwoAt (cs : List ℕ) (x : ℕ × List ℕ) : Type 0 where
+  pub a : ℕ
+  pub b : ℕ
+  pub parts : cs ≡ a ∷ b ∷ x.1
+  pub first : is_hex a ≡ true
+  pub second : is_hex b ≡ true
+  pub value : x.0 ≡ 16 * digit_value a + digit_value b
+
+hex2_some : (cs : List ℕ) (x : ℕ × List ℕ) → hex2 cs ≡ Some x → TwoAt cs x
+unfolding hex2
+hex2_some cs x e =
     let p = bind_some (hex cs) _ x e in
     let q = bind_some (hex p.0.1) _ x p.2 in
-    let r = bind_some (hex q.0.1) _ x q.2 in
-    let s = bind_some (hex r.0.1) _ x r.2 in
     let a = hex_some cs p.0 p.1 in
     let b = hex_some p.0.1 q.0 q.1 in
-    let c = hex_some q.0.1 r.0 r.1 in
-    let d = hex_some r.0.1 s.0 s.1 in
-    let same = same_Some {A = ℕ × List ℕ} (4096 * p.0.0 + 256 * q.0.0 + 16 * r.0.0 + s.0.0, s.0.1) x s.2 in
+    let same = same_Some {A = ℕ × List ℕ} (16 * p.0.0 + q.0.0, q.0.1) x q.2 in
     record {
       a = a.digit;
       b = b.digit;
-      c = c.digit;
-      d = d.digit;
-      parts = a.parts ∙ ap (λ (t : List ℕ). a.digit ∷ t) (b.parts ∙ ap (λ (t : List ℕ). b.digit ∷ t)
-          (c.parts ∙ ap (λ (t : List ℕ). c.digit ∷ t) (d.parts ∙ ap (λ (y : ℕ × List ℕ). d.digit ∷ y.1) same)));
-      good = record { one = a.good; two = b.good; three = c.good; last = d.good; others = refl };
-      value = sym (ap (λ (y : ℕ × List ℕ). y.0) same)
-          ∙ ap (λ (n : ℕ). 4096 * n + 256 * q.0.0 + 16 * r.0.0 + s.0.0) a.value
-          ∙ ap (λ (n : ℕ). 4096 * digit_value a.digit + 256 * n + 16 * r.0.0 + s.0.0) b.value
-          ∙ ap (λ (n : ℕ). 4096 * digit_value a.digit + 256 * digit_value b.digit + 16 * n + s.0.0) c.value
-          ∙ ap (λ (n : ℕ). 4096 * digit_value a.digit + 256 * digit_value b.digit + 16 * digit_value c.digit + n)
-          d.value
-          ∙ four (digit_value a.digit) (digit_value b.digit) (digit_value c.digit) (digit_value d.digit);
+      parts = a.parts ∙ ap (λ (t : List ℕ). a.digit ∷ t) (b.parts ∙ ap (λ (y : ℕ × List ℕ). b.digit ∷ y.1) same);
+      first = a.good;
+      second = b.good;
+      value = sym (ap (λ (y : ℕ × List ℕ). y.0) same) ∙ ap (λ (n : ℕ). 16 * n + q.0.0) a.value
+          ∙ ap (λ (n : ℕ). 16 * digit_value a.digit + n) b.value;
+    }
+
+hex4_some : (cs : List ℕ) (x : ℕ × List ℕ) → hex4 cs ≡ Some x → FourAt cs x
+unfolding hex4
+hex4_some cs x e =
+    let p = bind_some (hex2 cs) _ x e in
+    let q = bind_some (hex2 p.0.1) _ x p.2 in
+    let high = hex2_some cs p.0 p.1 in
+    let low = hex2_some p.0.1 q.0 q.1 in
+    let same = same_Some {A = ℕ × List ℕ} (256 * p.0.0 + q.0.0, q.0.1) x q.2 in
+    record {
+      a = high.a;
+      b = high.b;
+      c = low.a;
+      d = low.b;
+      parts = high.parts ∙ ap (λ (t : List ℕ). high.a ∷ high.b ∷ t)
+          (low.parts ∙ ap (λ (y : ℕ × List ℕ). low.a ∷ low.b ∷ y.1) same);
+      good = record { one = high.first; two = high.second; three = low.first; last = low.second; others = refl };
+      value = sym (ap (λ (y : ℕ × List ℕ). y.0) same) ∙ ap (λ (n : ℕ). 256 * n + q.0.0) high.value
+          ∙ ap (λ (n : ℕ). 256 * (16 * digit_value high.a + digit_value high.b) + n) low.value
+          ∙ four (digit_value high.a) (digit_value high.b) (digit_value low.a) (digit_value low.b);
     }
 
 hex4_of : (a b c d : ℕ) (more rest : List ℕ) → AllFour a b c d more
     → hex4 (a ∷ b ∷ c ∷ d ∷ rest) ≡ Some (hex_number (a ∷ b ∷ c ∷ d ∷ []), rest)
-unfolding hex4
+unfolding hex2 hex4
 hex4_of a b c d more rest h =
     rw (
       hex_of a (b ∷ c ∷ d ∷ rest) h.one,

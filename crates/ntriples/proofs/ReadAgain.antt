@@ -8,7 +8,7 @@ use Rattle.ntriples.specs.declared.quoted.QuoteKind.{QuoteKind}
 use Rattle.ntriples.specs.declared.quoted.QuoteKind.TheVariants.{Iri, Literal}
 use Rattle.ntriples.specs.Characters.{is_iri_character}
 use Rattle.ntriples.specs.Reading.{prepended}
-use Rattle.ntriples.specs.Parsing.{hex, hex4, short_code, uchar, literal_escape, closing, is_unescaped}
+use Rattle.ntriples.specs.Parsing.{hex, hex2, hex4, short_code, uchar, literal_escape, closing, is_unescaped}
 use Rattle.ntriples.specs.Grammar.{is_scalar, echar}
 use Rattle.ntriples.specs.Parsing.{quoted_character, quoted}
 use Rattle.ntriples.specs.Written.{upper_digit, code_escape, iri_byte, literal_byte}
@@ -33,7 +33,7 @@ hex_again d rest h = hex_again_at (upper_digit d) d rest (digit_again d h) h
 hex4_again : (p q r s : ℕ) (rest : List ℕ) → hex (p ∷ q ∷ r ∷ s ∷ rest) ≡ Some (0, q ∷ r ∷ s ∷ rest)
     → hex (q ∷ r ∷ s ∷ rest) ≡ Some (0, r ∷ s ∷ rest) → (c d : ℕ) → hex (r ∷ s ∷ rest) ≡ Some (c, s ∷ rest)
     → hex (s ∷ rest) ≡ Some (d, rest) → hex4 (p ∷ q ∷ r ∷ s ∷ rest) ≡ Some (16 * c + d, rest)
-unfolding hex4
+unfolding hex2 hex4
 hex4_again p q r s rest hp hq c d hr hs = rw (hp, hq, hr, hs) (ap (λ (n : ℕ). Some (n, rest)) (omega arith))
 
 small_scalar : (c : ℕ) → c < 128 → is_scalar c ≡ true

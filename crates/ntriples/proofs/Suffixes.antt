@@ -5,7 +5,7 @@ use Rattle.std.proofs.lemmas.List.{drop_at, length-append}
 use Rattle.std.specs.Prelude.{nat_lt, nat_eq}
 use Rattle.std.specs.Char.{digit_value}
 use Rattle.ntriples.specs.Reading.{◌>>=◌, character}
-use Rattle.ntriples.specs.Parsing.{hex, hex4, scalar, short_code, long_code, uchar, echar_or}
+use Rattle.ntriples.specs.Parsing.{hex, hex2, hex4, scalar, short_code, long_code, uchar, echar_or}
 use Rattle.ntriples.specs.Grammar.{is_scalar, echar}
 use Rattle.ntriples.specs.Parsing.{literal_escape}
 
@@ -68,13 +68,15 @@ hex_ends cs =
     ends_bind cs (character cs) _ (character_ends cs)
     (λ c. ends_cond c.1 (nat_lt (digit_value c.0) 16) (Some (digit_value c.0, c.1)) None (ends_same c.1) tt)
 
+hex2_ends : (cs : List ℕ) → Ends cs (hex2 cs)
+unfolding hex2
+hex2_ends cs =
+    ends_bind cs (hex cs) _ (hex_ends cs) (λ a. ends_bind a.1 (hex a.1) _ (hex_ends a.1) (λ b. ends_same b.1))
+
 pub hex4_ends : (cs : List ℕ) → Ends cs (hex4 cs)
 unfolding hex4
 hex4_ends cs =
-    ends_bind cs (hex cs) _ (hex_ends cs) (λ a.
-    ends_bind a.1 (hex a.1) _ (hex_ends a.1) (λ b.
-    ends_bind b.1 (hex b.1) _ (hex_ends b.1) (λ c.
-    ends_bind c.1 (hex c.1) _ (hex_ends c.1) (λ d. ends_same d.1))))
+    ends_bind cs (hex2 cs) _ (hex2_ends cs) (λ a. ends_bind a.1 (hex2 a.1) _ (hex2_ends a.1) (λ b. ends_same b.1))
 
 pub scalar_ends : (c : ℕ) (cs : List ℕ) → Ends cs (scalar c cs)
 scalar_ends c cs = ends_cond cs (is_scalar c) (Some (c, cs)) None (ends_same cs) tt

@@ -23,14 +23,18 @@ hex cs = do
   c ← character cs
   if nat_lt (digit_value c.0) 16 then Some (digit_value c.0, c.1) else None
 
--- four of them
-unfoldable pub hex4 : List ℕ → Option (ℕ × List ℕ)
-hex4 cs = do
+-- two and four of them
+unfoldable pub hex2 : List ℕ → Option (ℕ × List ℕ)
+hex2 cs = do
   a ← hex cs
   b ← hex a.1
-  c ← hex b.1
-  d ← hex c.1
-  Some (4096 * a.0 + 256 * b.0 + 16 * c.0 + d.0, d.1)
+  Some (16 * a.0 + b.0, b.1)
+
+unfoldable pub hex4 : List ℕ → Option (ℕ × List ℕ)
+hex4 cs = do
+  a ← hex2 cs
+  b ← hex2 a.1
+  Some (256 * a.0 + b.0, b.1)
 
 -- the scalar value that four and that eight of them name
 unfoldable pub short_code : List ℕ → Option (ℕ × List ℕ)
@@ -74,12 +78,16 @@ abbrev pub escape : QuoteKind → List ℕ → Option (ℕ × List ℕ)
 escape Iri cs = uchar cs
 escape Literal cs = literal_escape cs
 
+-- what an escape stands for, as the next character of the value
+abbrev pub escaped_character : QuoteKind → List ℕ → Option (Option ℕ × List ℕ)
+escaped_character kind cs = escape kind cs >>= λ e. Some (Some e.0, e.1)
+
 -- the next character of the value, or none at the closing one
 unfoldable pub quoted_character : QuoteKind → List ℕ → Option (Option ℕ × List ℕ)
 quoted_character kind cs = do
   c ← character cs
   if c.0 == closing kind then Some (None, c.1)
-      else if c.0 == 92 then (escape kind c.1 >>= λ e. Some (Some e.0, e.1))
+      else if c.0 == 92 then escaped_character kind c.1
       else if is_unescaped kind c.0 then Some (Some c.0, c.1)
       else None
 
@@ -169,12 +177,19 @@ datatype cs = do
   rest ← following 94 cs
   iriref rest
 
+-- the literal of a language, after its `@`, and that of a datatype, after its first `^`
+abbrev pub language_tagged : List ℕ → List ℕ → Option (Term × List ℕ)
+language_tagged text cs = langtag cs >>= λ tag. Some (term.Literal text rdf_lang_string (Some tag.0), tag.1)
+
+abbrev pub typed : List ℕ → List ℕ → Option (Term × List ℕ)
+typed text cs = datatype cs >>= λ iri. Some (term.Literal text iri.0 None, iri.1)
+
 -- of a literal what follows its closing quote: `@` and LANGTAG, `^^` and IRIREF, or nothing
 unfoldable pub literal_suffix : List ℕ → List ℕ → Option (Term × List ℕ)
 literal_suffix text [] = Some (term.Literal text xsd_string None, [])
 literal_suffix text (c ∷ cs) =
-    if c == 64 then (langtag cs >>= λ tag. Some (term.Literal text rdf_lang_string (Some tag.0), tag.1))
-    else if c == 94 then (datatype cs >>= λ iri. Some (term.Literal text iri.0 None, iri.1))
+    if c == 64 then language_tagged text cs
+    else if c == 94 then typed text cs
     else Some (term.Literal text xsd_string None, c ∷ cs)
 
 -- literal: STRING_LITERAL_QUOTE, and what may follow
@@ -185,11 +200,16 @@ literal cs = do
   literal_suffix text.0 text.1
 
 -- subject: IRIREF or BLANK_NODE_LABEL
+abbrev pub iri_term : List ℕ → Option (Term × List ℕ)
+iri_term cs = iriref cs >>= λ iri. Some (term.Iri iri.0, iri.1)
+
+abbrev pub blank_node : List ℕ → Option (Term × List ℕ)
+blank_node cs = blank_node_label cs >>= λ label. Some (term.Blank label.0, label.1)
+
 unfoldable pub subject : List ℕ → Option (Term × List ℕ)
 subject cs = do
   c ← character cs
-  if c.0 == 95 then (blank_node_label cs >>= λ label. Some (term.Blank label.0, label.1))
-      else (iriref cs >>= λ iri. Some (term.Iri iri.0, iri.1))
+  if c.0 == 95 then blank_node cs else iri_term cs
 
 -- object: IRIREF, BLANK_NODE_LABEL or literal
 unfoldable pub object : List ℕ → Option (Term × List ℕ)
@@ -198,13 +218,23 @@ object cs = do
   if c.0 == 34 then literal cs else subject cs
 
 -- triple: subject, predicate, object and `.`, with spaces and tabs allowed between
+unfoldable pub object_end : List ℕ → Option (Term × List ℕ)
+object_end cs = do
+  o ← object (skip_blanks cs)
+  rest ← following 46 (skip_blanks o.1)
+  Some (o.0, rest)
+
+unfoldable pub predicate_object : List ℕ → Option ((List ℕ × Term) × List ℕ)
+predicate_object cs = do
+  p ← iriref (skip_blanks cs)
+  o ← object_end p.1
+  Some ((p.0, o.0), o.1)
+
 unfoldable pub triple : List ℕ → Option (Triple × List ℕ)
 triple cs = do
   s ← subject cs
-  p ← iriref (skip_blanks s.1)
-  o ← object (skip_blanks p.1)
-  rest ← following 46 (skip_blanks o.1)
-  Some (record { subject = s.0; predicate = p.0; object = o.0 }, rest)
+  p ← predicate_object s.1
+  Some (record { subject = s.0; predicate = p.0.0; object = p.0.1 }, p.1)
 
 -- nothing more, or a comment
 abbrev pub is_end : List ℕ → Bool

@@ -1,6 +1,6 @@
 //! Documents.
 ghost use Rattle.std.specs.Prelude.{All, ◌≡◌, ◌⊎◌, ◌≤◌, ◌<◌, ℕ, List, ◌∷◌, ◌++◌, true, false, length, slice_index};
-ghost use Rattle.std.specs.Prelude.{drop, option_map, Ok, Err, IfOk, IfErr, IfSome};
+ghost use Rattle.std.specs.Prelude.{drop, option_map, Some, Ok, Err, IfOk, IfErr, IfSome};
 ghost use Rattle.ntriples.specs.declared.term.Triple.{Triple as Triples};
 ghost use Rattle.ntriples.specs.Reading.{Gives};
 ghost use Rattle.ntriples.specs.Document.{is_line_end, begins_with_feed, lines, given, lines_after, after_end};
@@ -69,12 +69,20 @@ fn line_of(alloc: Global, bytes: &[u8]) -> Result<Option<Triple>, Refusal>
 fn push_line(alloc: Global, triples: &mut Seq<Triple>, bytes: &[u8]) -> Result<(), Refusal>
     ensures { Gives (λ _. triples.new) result (option_map (λ t. triples.old ++ given t) (line_of bytes.now)) }
 {
-    if let Some(triple) = line_of(alloc, bytes)? {
-        if triples.push(triple).is_err() {
-            return Err(Refusal::OutOfMemory);
-        }
+    let triple = line_of(alloc, bytes)?;
+    push_given(triples, triple)
+}
+
+// Adds the triple, if there is one.
+fn push_given(triples: &mut Seq<Triple>, triple: Option<Triple>) -> Result<(), Refusal>
+    ensures { Gives (λ _. triples.new) result (Some (triples.old ++ given triple)) }
+{
+    match triple {
+        Some(triple) => triples
+            .push(triple)
+            .map_err(|_refused| Refusal::OutOfMemory),
+        None => Ok(()),
     }
-    Ok(())
 }
 
 // Reads a document, or reports the first bad line.

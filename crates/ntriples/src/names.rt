@@ -1,5 +1,6 @@
 //! Labels of blank nodes, and language tags.
 ghost use Rattle.std.specs.Prelude.{◌≡◌, ◌<◌, ◌∷◌, ◌++◌, true, false, length, string_bytes, OnOk, IfOk, IfNone, IfSome};
+ghost use Rattle.std.specs.Char.{encode_utf8};
 ghost use Rattle.std.specs.Str.{chars};
 ghost use Rattle.ntriples.specs.Reading.{Gives, onto, prepended, character, following};
 ghost use Rattle.ntriples.specs.Parsing.{is_in, begins_in, tag_part, run, some_of, subtags_from, langtag, label_rest};
@@ -146,8 +147,15 @@ pub(crate) fn blank_node_label(alloc: Global, text: &str) -> Result<(Text, &str)
     if !is_pn_chars_u(character) && !is_digit(character) {
         return Err(Refusal::Malformed);
     }
+    Ok(label_from(alloc, character, rest)?)
+}
+
+// The label that begins with the character, and the text after it.
+fn label_from(alloc: Global, character: char, text: &str) -> Result<(Text, &str), AllocError>
+    ensures { IfOk result (λ x. (x.0, chars x.1.now) ≡ onto (encode_utf8 character) (label_rest (chars text.now))) }
+{
     let mut label = String::new(alloc);
     label.push(character)?;
-    let rest = push_label(&mut label, rest)?;
+    let rest = push_label(&mut label, text)?;
     Ok((Text::from(label), rest))
 }

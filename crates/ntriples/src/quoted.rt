@@ -2,9 +2,10 @@
 ghost use Rattle.std.specs.Prelude.{◌≡◌, ◌<◌, ◌^◌, IfOk};
 ghost use Rattle.std.specs.Str.{chars};
 ghost use Rattle.ntriples.specs.Reading.{Gives, character};
-ghost use Rattle.ntriples.specs.Parsing.{hex, hex4, scalar, short_code, long_code, uchar, literal_escape};
+ghost use Rattle.ntriples.specs.Parsing.{hex, hex2, hex4, scalar, short_code, long_code, uchar, literal_escape};
 ghost use Rattle.ntriples.specs.Grammar.{echar};
-ghost use Rattle.ntriples.specs.Parsing.{closing, is_unescaped, escape, quoted_character, quoted, iriref};
+ghost use Rattle.ntriples.specs.Parsing.{closing, is_unescaped, escape, escaped_character, quoted_character};
+ghost use Rattle.ntriples.specs.Parsing.{quoted, iriref};
 
 use crate::characters::is_iri_character;
 use crate::fault::Refusal;
@@ -32,17 +33,26 @@ fn hex(text: &str) -> Result<(u32, &str), Refusal>
     }
 }
 
+// The number of two digits.
+#[tactic(auto, unfolding(crate::specs::Parsing::hex2))]
+fn hex2(text: &str) -> Result<(u32, &str), Refusal>
+    ensures number { Gives (λ x. (x.0, chars x.1.now)) result (hex2 (chars text.now)) }
+    ensures below { IfOk result (λ x. x.0 < 2 ^ 8) }
+{
+    let (first, rest) = hex(text)?;
+    let (second, rest) = hex(rest)?;
+    Ok((16 * first + second, rest))
+}
+
 // The number of four digits.
 #[tactic(auto, unfolding(crate::specs::Parsing::hex4))]
 fn hex4(text: &str) -> Result<(u32, &str), Refusal>
     ensures number { Gives (λ x. (x.0, chars x.1.now)) result (hex4 (chars text.now)) }
     ensures below { IfOk result (λ x. x.0 < 2 ^ 16) }
 {
-    let (first, rest) = hex(text)?;
-    let (second, rest) = hex(rest)?;
-    let (third, rest) = hex(rest)?;
-    let (fourth, rest) = hex(rest)?;
-    Ok((4096 * first + 256 * second + 16 * third + fourth, rest))
+    let (high, rest) = hex2(text)?;
+    let (low, rest) = hex2(rest)?;
+    Ok((256 * high + low, rest))
 }
 
 fn scalar(code: u32, rest: &str) -> Result<(char, &str), Refusal>
@@ -147,6 +157,14 @@ impl QuoteKind {
     }
 }
 
+// What an escape of what is quoted stands for, after its backslash.
+fn escaped_character(kind: QuoteKind, text: &str) -> Result<(Option<char>, &str), Refusal>
+    ensures { Gives (λ x. (x.0, chars x.1.now)) result (escaped_character kind (chars text.now)) }
+{
+    let (character, rest) = kind.escape(text)?;
+    Ok((Some(character), rest))
+}
+
 // The next character of what is quoted, or none at the closing one.
 #[tactic(auto, unfolding(crate::specs::Parsing::quoted_character))]
 fn quoted_character(kind: QuoteKind, text: &str) -> Result<(Option<char>, &str), Refusal>
@@ -156,8 +174,7 @@ fn quoted_character(kind: QuoteKind, text: &str) -> Result<(Option<char>, &str),
     if character == kind.closing() {
         Ok((None, rest))
     } else if character == '\\' {
-        let (character, rest) = kind.escape(rest)?;
-        Ok((Some(character), rest))
+        escaped_character(kind, rest)
     } else if kind.is_unescaped(character) {
         Ok((Some(character), rest))
     } else {

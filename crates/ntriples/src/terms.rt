@@ -2,7 +2,8 @@
 ghost use Rattle.std.specs.Prelude.{◌≡◌};
 ghost use Rattle.std.specs.Str.{chars};
 ghost use Rattle.ntriples.specs.Reading.{Gives, character, skip_blanks};
-ghost use Rattle.ntriples.specs.Parsing.{datatype, literal_suffix, literal, subject, object, triple, is_end};
+ghost use Rattle.ntriples.specs.Parsing.{datatype, language_tagged, typed, literal_suffix, literal, blank_node, iri_term};
+ghost use Rattle.ntriples.specs.Parsing.{subject, object, object_end, predicate_object, triple, is_end};
 ghost use Rattle.ntriples.specs.Parsing.{triple_alone, line, quoted};
 ghost use Rattle.ntriples.specs.Grammar.{xsd_string, rdf_lang_string};
 
@@ -30,21 +31,31 @@ fn datatype(alloc: Global, text: &str) -> Result<(Text, &str), Refusal>
     iriref(alloc, rest)
 }
 
+// The literal of a language, after its `@`.
+fn language_tagged(alloc: Global, lexical: Text, text: &str) -> Result<(Term, &str), Refusal>
+    ensures { Gives (λ x. (x.0, chars x.1.now)) result (language_tagged lexical (chars text.now)) }
+{
+    let (tag, rest) = langtag(alloc, text)?;
+    let lang_string = Text::from_static(RDF_LANG_STRING);
+    Ok((Term::Literal(lexical, lang_string, Some(tag)), rest))
+}
+
+// The literal of a datatype, after its first `^`.
+fn typed(alloc: Global, lexical: Text, text: &str) -> Result<(Term, &str), Refusal>
+    ensures { Gives (λ x. (x.0, chars x.1.now)) result (typed lexical (chars text.now)) }
+{
+    let (datatype, rest) = datatype(alloc, text)?;
+    Ok((Term::Literal(lexical, datatype, None), rest))
+}
+
 // What may follow a literal's closing quote.
 #[tactic(auto, unfolding(crate::specs::Parsing::literal_suffix))]
 fn literal_suffix(alloc: Global, lexical: Text, text: &str) -> Result<(Term, &str), Refusal>
     ensures { Gives (λ x. (x.0, chars x.1.now)) result (literal_suffix lexical (chars text.now)) }
 {
     match split_first(text) {
-        Some(('@', rest)) => {
-            let (tag, rest) = langtag(alloc, rest)?;
-            let lang_string = Text::from_static(RDF_LANG_STRING);
-            Ok((Term::Literal(lexical, lang_string, Some(tag)), rest))
-        }
-        Some(('^', rest)) => {
-            let (datatype, rest) = datatype(alloc, rest)?;
-            Ok((Term::Literal(lexical, datatype, None), rest))
-        }
+        Some(('@', rest)) => language_tagged(alloc, lexical, rest),
+        Some(('^', rest)) => typed(alloc, lexical, rest),
         _ => {
             let string = Text::from_static(XSD_STRING);
             Ok((Term::Literal(lexical, string, None), text))
@@ -67,12 +78,24 @@ fn subject(alloc: Global, text: &str) -> Result<(Term, &str), Refusal>
 {
     let (character, _) = first(text)?;
     if character == '_' {
-        let (label, rest) = blank_node_label(alloc, text)?;
-        Ok((Term::Blank(label), rest))
+        blank_node(alloc, text)
     } else {
-        let (iri, rest) = iriref(alloc, text)?;
-        Ok((Term::Iri(iri), rest))
+        iri_term(alloc, text)
     }
+}
+
+fn blank_node(alloc: Global, text: &str) -> Result<(Term, &str), Refusal>
+    ensures { Gives (λ x. (x.0, chars x.1.now)) result (blank_node (chars text.now)) }
+{
+    let (label, rest) = blank_node_label(alloc, text)?;
+    Ok((Term::Blank(label), rest))
+}
+
+fn iri_term(alloc: Global, text: &str) -> Result<(Term, &str), Refusal>
+    ensures { Gives (λ x. (x.0, chars x.1.now)) result (iri_term (chars text.now)) }
+{
+    let (iri, rest) = iriref(alloc, text)?;
+    Ok((Term::Iri(iri), rest))
 }
 
 #[tactic(auto, unfolding(crate::specs::Parsing::object))]
@@ -87,14 +110,32 @@ fn object(alloc: Global, text: &str) -> Result<(Term, &str), Refusal>
     }
 }
 
+// The object, up to the triple's full stop.
+#[tactic(auto, unfolding(crate::specs::Parsing::object_end))]
+fn object_end(alloc: Global, text: &str) -> Result<(Term, &str), Refusal>
+    ensures { Gives (λ x. (x.0, chars x.1.now)) result (object_end (chars text.now)) }
+{
+    let (object, rest) = object(alloc, skip_blanks(text))?;
+    let rest = after(skip_blanks(rest), '.')?;
+    Ok((object, rest))
+}
+
+// The predicate and the object, up to the triple's full stop.
+#[tactic(auto, unfolding(crate::specs::Parsing::predicate_object))]
+fn predicate_object(alloc: Global, text: &str) -> Result<((Text, Term), &str), Refusal>
+    ensures { Gives (λ x. (x.0, chars x.1.now)) result (predicate_object (chars text.now)) }
+{
+    let (predicate, rest) = iriref(alloc, skip_blanks(text))?;
+    let (object, rest) = object_end(alloc, rest)?;
+    Ok(((predicate, object), rest))
+}
+
 #[tactic(auto, unfolding(crate::specs::Parsing::triple))]
 fn triple(alloc: Global, text: &str) -> Result<(Triple, &str), Refusal>
     ensures { Gives (λ x. (x.0, chars x.1.now)) result (triple (chars text.now)) }
 {
     let (subject, rest) = subject(alloc, text)?;
-    let (predicate, rest) = iriref(alloc, skip_blanks(rest))?;
-    let (object, rest) = object(alloc, skip_blanks(rest))?;
-    let rest = after(skip_blanks(rest), '.')?;
+    let ((predicate, object), rest) = predicate_object(alloc, rest)?;
     let triple = Triple {
         subject,
         predicate,
@@ -118,11 +159,9 @@ fn triple_alone(alloc: Global, text: &str) -> Result<Triple, Refusal>
     ensures { Gives (λ t. t) result (triple_alone (chars text.now)) }
 {
     let (triple, rest) = triple(alloc, text)?;
-    if is_end(skip_blanks(rest)) {
-        Ok(triple)
-    } else {
-        Err(Refusal::Malformed)
-    }
+    is_end(skip_blanks(rest))
+        .then_some(triple)
+        .ok_or(Refusal::Malformed)
 }
 
 /// The triple of a line, if it has one.
