@@ -15,7 +15,8 @@ use Rattle.ntriples.specs.declared.fault.NtFault.TheVariants.{Line, OutOfMemory}
 use Rattle.ntriples.specs.declared.term.Triple.{Triple}
 use Rattle.ntriples.specs.Reading.{◌>>=◌, skip_blanks}
 use Rattle.ntriples.specs.Parsing.{line}
-use Rattle.ntriples.specs.Document.{is_line_end, onto_first, lines, given, lines_after, after_end, begins_with_feed}
+use Rattle.ntriples.specs.Document.{is_line_end, onto_first, lines, given, begins_with_feed}
+use Rattle.ntriples.specs.ParsedLines.{lines_after, after_end}
 use Rattle.ntriples.specs.ParsedLines.{line_of, triples_of, IsParsed, IsFirstUnparsed, IsParseFault}
 use Rattle.ntriples.specs.Written.{CanBeRead}
 use Rattle.ntriples.proofs.Lines.{line_form}

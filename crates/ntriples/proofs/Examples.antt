@@ -34,7 +34,8 @@ two_triples = about (codes "a") (codes "b") (Literal (codes "x") xsd_string None
 -- two lines, the first with a comment and ended by CR LF, the last without an end
 two_lines : IsDocument (codes "<a> <b> \"x\" . # note\r\n<a> <b> \"\\U0001F600\" .") two_triples
 unfolding lines line_of triples_of is_utf8 chars encode_utf8 skip_blanks is_iri_character hex hex2 hex4 long_code uchar
-    echar literal_escape quoted_character quoted_from iriref literal_suffix literal subject object object_end predicate_object triple triple_alone
+    echar literal_escape quoted_character quoted_from iriref literal_suffix literal subject object object_end
+    predicate_object triple triple_alone
     line
 two_lines = triples_form (lines (codes "<a> <b> \"x\" . # note\r\n<a> <b> \"\\U0001F600\" .")) two_triples refl
 
@@ -52,7 +53,8 @@ HasNoForm bytes = (t : Option Triple) → IsLineOf bytes t → ⊥
 
 surrogate : HasNoForm (codes "<a> <b> \"\\uD800\" .")
 unfolding line_of is_utf8 chars encode_utf8 skip_blanks is_iri_character hex hex2 hex4 short_code uchar echar
-    literal_escape quoted_character quoted_from iriref literal subject object object_end predicate_object triple triple_alone line
+    literal_escape quoted_character quoted_from iriref literal subject object object_end predicate_object triple
+    triple_alone line
 surrogate = line_no_form (codes "<a> <b> \"\\uD800\" .") refl
 
 -- a dot inside a label belongs to it, and one after it doesn't
@@ -61,18 +63,21 @@ dotted_label = record { subject = Blank (codes "a"); predicate = codes "p"; obje
 
 label_with_dot : IsLineOf (codes "_:a <p> _:b.c .") (Some dotted_label)
 unfolding line_of is_utf8 chars encode_utf8 skip_blanks is_iri_character is_pn_chars_base is_pn_chars_u is_pn_chars
-    quoted_character quoted_from iriref label_rest blank_node_label subject object object_end predicate_object triple triple_alone line
+    quoted_character quoted_from iriref label_rest blank_node_label subject object object_end predicate_object triple
+    triple_alone line
 label_with_dot = line_form (codes "_:a <p> _:b.c .") (Some dotted_label) refl
 
 dot_after_label : HasNoForm (codes "_:a <p> _:b. .")
 unfolding line_of is_utf8 chars encode_utf8 skip_blanks is_iri_character is_pn_chars_base is_pn_chars_u is_pn_chars
-    quoted_character quoted_from iriref label_rest blank_node_label subject object object_end predicate_object triple triple_alone line
+    quoted_character quoted_from iriref label_rest blank_node_label subject object object_end predicate_object triple
+    triple_alone line
 dot_after_label = line_no_form (codes "_:a <p> _:b. .") refl
 
 language : IsLineOf (codes "<a> <p> \"x\"@en-GB.")
     (Some (about (codes "a") (codes "p") (Literal (codes "x") rdf_lang_string (Some (codes "en-GB")))))
 unfolding line_of is_utf8 chars encode_utf8 skip_blanks is_iri_character quoted_character quoted_from iriref run
-    tag_part subtags_from langtag literal_suffix literal subject object object_end predicate_object triple triple_alone line
+    tag_part subtags_from langtag literal_suffix literal subject object object_end predicate_object triple triple_alone
+    line
 language = line_form (codes "<a> <p> \"x\"@en-GB.")
     (Some (about (codes "a") (codes "p") (Literal (codes "x") rdf_lang_string (Some (codes "en-GB"))))) refl
 

@@ -16,7 +16,7 @@ use Rattle.ntriples.specs.Parsing.{triple_alone, line}
 use Rattle.ntriples.specs.Grammar.{is_blank, IsIri, IsString, IsLabel, IsLiteral, IsSubject, IsObject}
 use Rattle.ntriples.specs.Document.{IsLineOf}
 use Rattle.ntriples.specs.ParsedLines.{line_of}
-use Rattle.ntriples.specs.Grammar.{IsRead, AreBlanks, IsTriple, IsComment, IsLine}
+use Rattle.ntriples.specs.Grammar.{IsLongestMatch, AreBlanks, IsTriple, IsComment, IsLine}
 use Rattle.ntriples.proofs.NameLemmas.{following_ends}
 use Rattle.ntriples.proofs.Pieces.{bind_some}
 use Rattle.ntriples.proofs.Quotes.{iriref_some, iriref_of}
@@ -222,13 +222,13 @@ triple_some cs x e =
             after_predicate = h.prefix;
             after_object = k.prefix;
             form = refl;
-            is_subject = subst (λ (l : List ℕ). IsRead IsSubject s.prefix l a.0.0)
+            is_subject = subst (λ (l : List ℕ). IsLongestMatch IsSubject s.prefix l a.0.0)
                 (after_subject ∙ sym (suffix_subject s.prefix g.prefix p.prefix h.prefix o.prefix k.prefix d.0))
                 (read_whole IsSubject subject subject_longest cs a.0 a.1 s);
-            is_predicate = subst (λ (l : List ℕ). IsRead IsIri p.prefix l b.0.0)
+            is_predicate = subst (λ (l : List ℕ). IsLongestMatch IsIri p.prefix l b.0.0)
                 (after_predicate ∙ sym (suffix_predicate s.prefix g.prefix p.prefix h.prefix o.prefix k.prefix d.0))
                 (read_whole IsIri iriref iriref_longest (skip_blanks a.0.1) b.0 b.1 p);
-            is_object = subst (λ (l : List ℕ). IsRead IsObject o.prefix l c.0.0)
+            is_object = subst (λ (l : List ℕ). IsLongestMatch IsObject o.prefix l c.0.0)
                 (after_object ∙ sym (suffix_object s.prefix g.prefix p.prefix h.prefix o.prefix k.prefix d.0))
                 (read_whole IsObject object object_longest (skip_blanks b.0.1) c.0 c.1 o);
             blank = both_blanks (g.prefix ++ h.prefix) k.prefix (both_blanks g.prefix h.prefix g.blank h.blank) k.blank;
@@ -288,14 +288,14 @@ empty_line : (cs : List ℕ) → is_end (skip_blanks cs) ≡ true → IsLine cs 
 empty_line cs h =
     let b = blanks_at cs in
     record {
-      indent = b.prefix;
-      statement = [];
-      room = [];
+      before_triple = b.prefix;
+      triple = [];
+      after_triple = [];
       comment = skip_blanks cs;
       form = b.parts ∙ ap (λ (t : List ℕ). t ++ skip_blanks cs)
           (sym (append-nil b.prefix) ∙ sym (append-nil (b.prefix ++ [])));
       blank = both_blanks b.prefix [] b.blank refl;
-      is_statement = refl;
+      is_triple = refl;
       is_comment = is_comment (skip_blanks cs) h;
     }
 
@@ -306,14 +306,14 @@ triple_line cs x e h =
     let t = triple_some (skip_blanks cs) x e in
     let r = blanks_at x.1 in
     record {
-      indent = b.prefix;
-      statement = t.prefix;
-      room = r.prefix;
+      before_triple = b.prefix;
+      triple = t.prefix;
+      after_triple = r.prefix;
       comment = skip_blanks x.1;
       form = b.parts ∙ ap (λ (l : List ℕ). b.prefix ++ l) (t.parts ∙ ap (λ (l : List ℕ). t.prefix ++ l) r.parts)
           ∙ simp append_assoc;
       blank = both_blanks b.prefix r.prefix b.blank r.blank;
-      is_statement = subst (λ (l : List ℕ). IsTriple t.prefix l x.0) r.parts t.form;
+      is_triple = subst (λ (l : List ℕ). IsTriple t.prefix l x.0) r.parts t.form;
       is_comment = is_comment (skip_blanks x.1) h;
     }
 
@@ -344,9 +344,9 @@ line_empty : (cs comment : List ℕ) → skip_blanks cs ≡ comment → IsCommen
 unfolding line
 line_empty cs comment e c = rw (e, comment_is comment c) refl
 
-no_statement : (text indent room comment : List ℕ) → text ≡ indent ++ [] ++ room ++ comment
+no_triple : (text indent room comment : List ℕ) → text ≡ indent ++ [] ++ room ++ comment
     → AreBlanks (indent ++ room) → IsComment comment → line text ≡ Some None
-no_statement text indent room comment e b c =
+no_triple text indent room comment e b c =
     let p = two_blanks indent room b in
     let at : text ≡ indent ++ (room ++ comment) =
     e ∙ ap (λ (t : List ℕ). t ++ room ++ comment) (append-nil indent) ∙ append_assoc indent room comment in
@@ -370,10 +370,10 @@ triple_begins text following t i =
     (i.form ∙ simp append_assoc)
     (subject_begins i.subject t.subject i.is_subject.form)
 
-one_statement : (text indent statement room comment : List ℕ) (t : Triple)
+one_triple : (text indent statement room comment : List ℕ) (t : Triple)
     → text ≡ indent ++ statement ++ room ++ comment → AreBlanks (indent ++ room)
     → IsTriple statement (room ++ comment) t → IsComment comment → line text ≡ Some (Some t)
-one_statement text indent statement room comment t e b i c =
+one_triple text indent statement room comment t e b i c =
     let p = two_blanks indent room b in
     let begins = triple_begins statement (room ++ comment) t i in
     line_triple text statement (room ++ comment) comment t
@@ -383,10 +383,10 @@ one_statement text indent statement room comment t e b i c =
 -- a line of the form is read
 pub line_is : (text : List ℕ) (t : Option Triple) → IsLine text t → line text ≡ Some t
 line_is text None i =
-    no_statement text i.indent i.room i.comment
-    (i.form ∙ ap (λ (s : List ℕ). i.indent ++ s ++ i.room ++ i.comment) i.is_statement) i.blank i.is_comment
+    no_triple text i.before_triple i.after_triple i.comment
+    (i.form ∙ ap (λ (s : List ℕ). i.before_triple ++ s ++ i.after_triple ++ i.comment) i.is_triple) i.blank i.is_comment
 line_is text (Some t) i =
-    one_statement text i.indent i.statement i.room i.comment t i.form i.blank i.is_statement i.is_comment
+    one_triple text i.before_triple i.triple i.after_triple i.comment t i.form i.blank i.is_triple i.is_comment
 
 -- ---- lines of bytes
 

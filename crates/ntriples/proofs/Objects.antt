@@ -12,7 +12,7 @@ use Rattle.ntriples.specs.Reading.{◌>>=◌, following}
 use Rattle.ntriples.specs.Parsing.{quoted, iriref, blank_node_label, langtag, datatype, literal_suffix, literal}
 use Rattle.ntriples.specs.Parsing.{subject, object}
 use Rattle.ntriples.specs.Grammar.{IsString, IsIri, IsLabel, xsd_string, rdf_lang_string, IsTagged, IsTyped, IsLiteral}
-use Rattle.ntriples.specs.Grammar.{IsSubject, IsObject, IsRead, hyphened}
+use Rattle.ntriples.specs.Grammar.{IsSubject, IsObject, IsLongestMatch, hyphened}
 use Rattle.ntriples.proofs.NameLemmas.{following_ends}
 use Rattle.ntriples.proofs.Pieces.{Takes, bind_some}
 use Rattle.ntriples.proofs.Quotes.{quoted_some, enclosed, iriref_some, quoted_of, iriref_of}
@@ -345,7 +345,8 @@ nothing [] rest h = refl
 nothing (c ∷ more) rest h = absurd (omega (arith, length-append more rest))
 
 pub read_whole : {A : Type 0} (Form : List ℕ → A → Type 0) (read : List ℕ → Option (A × List ℕ)) → Longest Form read
-    → (cs : List ℕ) (x : A × List ℕ) → read cs ≡ Some x → (t : Takes Form cs x.0 x.1) → IsRead Form t.prefix x.1 x.0
+    → (cs : List ℕ) (x : A × List ℕ) → read cs ≡ Some x → (t : Takes Form cs x.0 x.1)
+    → IsLongestMatch Form t.prefix x.1 x.0
 read_whole Form read longest cs x e t =
     record {
       form = t.form;

@@ -11,7 +11,8 @@ use Rattle.ntriples.specs.declared.quoted.QuoteKind.{QuoteKind}
 use Rattle.ntriples.specs.declared.quoted.QuoteKind.TheVariants.{Iri, Literal}
 use Rattle.ntriples.specs.Characters.{is_iri_character}
 use Rattle.ntriples.specs.Reading.{◌>>=◌, character}
-use Rattle.ntriples.specs.Parsing.{hex, hex2, hex4, scalar, short_code, long_code, uchar, echar_or, literal_escape, closing}
+use Rattle.ntriples.specs.Parsing.{hex, hex2, hex4, scalar, short_code, long_code, uchar, echar_or, literal_escape}
+use Rattle.ntriples.specs.Parsing.{closing}
 use Rattle.ntriples.specs.Parsing.{is_unescaped, escape, quoted_character}
 use Rattle.ntriples.specs.Grammar.{is_hex, is_scalar, is_string_character, hex_number, IsUchar, echar, IsEchar}
 use Rattle.ntriples.specs.Grammar.{IsIriPiece, IsStringPiece}

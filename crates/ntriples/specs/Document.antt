@@ -60,13 +60,3 @@ pub record IsFirstBadLine (bytes : List ℕ) (number : ℕ) : Type 0 where
 abbrev pub IsFault : List ℕ → NtFault → Type 0
 IsFault bytes (Line number) = IsFirstBadLine bytes number
 IsFault bytes OutOfMemory = ⊤
-
--- what follows the first line
-abbrev pub lines_after : Option (List ℕ) → List (List ℕ)
-lines_after None = []
-lines_after (Some rest) = lines rest
-
--- what follows a line end, from it on, or nothing at the end of the bytes
-abbrev pub after_end : List ℕ → Option (List ℕ)
-after_end [] = None
-after_end (b ∷ bs) = if (b == 13) && begins_with_feed bs then Some (drop 1 bs) else Some bs

@@ -171,8 +171,8 @@ IsObject text (Iri iri) = IsIri text iri
 IsObject text (Blank label) = IsLabel text label
 IsObject text (Literal lexical datatype tag) = IsLiteral text lexical datatype tag
 
--- A term is read as long as it can be: with what follows it is no longer one.
-pub record IsRead {A : Type 0} (IsTerm : List ℕ → A → Type 0) (text following : List ℕ) (term : A) : Type 0 where
+-- A term is the longest match of its production: with more of what follows it is no longer of the production.
+pub record IsLongestMatch {A : Type 0} (IsTerm : List ℕ → A → Type 0) (text following : List ℕ) (term : A) : Type 0 where
   pub form : IsTerm text term
   pub longest : (more rest : List ℕ) (other : A) → following ≡ more ++ rest → IsTerm (text ++ more) other → more ≡ []
 
@@ -193,16 +193,17 @@ pub record IsTriple (text following : List ℕ) (t : Triple) : Type 0 where
   pub after_object : List ℕ
   pub form : text
       ≡ subject ++ after_subject ++ predicate ++ after_predicate ++ object ++ after_object ++ codes "."
-  pub is_subject : IsRead IsSubject subject
+  pub is_subject : IsLongestMatch IsSubject subject
       (after_subject ++ predicate ++ after_predicate ++ object ++ after_object ++ codes "." ++ following) t.subject
-  pub is_predicate : IsRead IsIri predicate
+  pub is_predicate : IsLongestMatch IsIri predicate
       (after_predicate ++ object ++ after_object ++ codes "." ++ following) t.predicate
-  pub is_object : IsRead IsObject object (after_object ++ codes "." ++ following) t.object
+  pub is_object : IsLongestMatch IsObject object (after_object ++ codes "." ++ following) t.object
   pub blank : AreBlanks (after_subject ++ after_predicate ++ after_object)
 
-abbrev pub IsStatement : List ℕ → List ℕ → Option Triple → Type 0
-IsStatement text following None = text ≡ []
-IsStatement text following (Some t) = IsTriple text following t
+-- triple?
+abbrev pub IsOptionalTriple : List ℕ → List ℕ → Option Triple → Type 0
+IsOptionalTriple text following None = text ≡ []
+IsOptionalTriple text following (Some t) = IsTriple text following t
 
 -- nothing, or `#` and the rest of the line
 abbrev pub IsComment : List ℕ → Type 0
@@ -212,11 +213,11 @@ IsComment (c ∷ cs) = c ≡ 35
 -- a line of a document (section 2, and ntriplesDoc of section 7): spaces and tabs, at most one triple, spaces and
 -- tabs, and at most a comment
 pub record IsLine (text : List ℕ) (t : Option Triple) : Type 0 where
-  pub indent : List ℕ
-  pub statement : List ℕ
-  pub room : List ℕ
+  pub before_triple : List ℕ
+  pub triple : List ℕ
+  pub after_triple : List ℕ
   pub comment : List ℕ
-  pub form : text ≡ indent ++ statement ++ room ++ comment
-  pub blank : AreBlanks (indent ++ room)
-  pub is_statement : IsStatement statement (room ++ comment) t
+  pub form : text ≡ before_triple ++ triple ++ after_triple ++ comment
+  pub blank : AreBlanks (before_triple ++ after_triple)
+  pub is_triple : IsOptionalTriple triple (after_triple ++ comment) t
   pub is_comment : IsComment comment

@@ -1,12 +1,23 @@
 -- How lines are read, each by the functions that read its productions.
-use Rattle.std.specs.Prelude.{◌≡◌, ℕ, ◌+◌, if◌then◌else◌, List, [], ◌∷◌, ◌++◌, length, Option, Some, None, IsSome, ⊤}
+use Rattle.std.specs.Prelude.{◌≡◌, ℕ, ◌+◌, ◌==◌, ◌&&◌, if◌then◌else◌, List, [], ◌∷◌, ◌++◌, length, drop, Option, Some}
+use Rattle.std.specs.Prelude.{None, IsSome, ⊤}
 use Rattle.std.specs.Str.{is_utf8, chars}
 use Rattle.ntriples.specs.declared.fault.NtFault.{NtFault}
 use Rattle.ntriples.specs.declared.fault.NtFault.TheVariants.{Line, OutOfMemory}
 use Rattle.ntriples.specs.declared.term.Triple.{Triple}
 use Rattle.ntriples.specs.Reading.{◌>>=◌}
 use Rattle.ntriples.specs.Parsing.{line}
-use Rattle.ntriples.specs.Document.{lines, given}
+use Rattle.ntriples.specs.Document.{begins_with_feed, lines, given}
+
+-- what follows the first line
+abbrev pub lines_after : Option (List ℕ) → List (List ℕ)
+lines_after None = []
+lines_after (Some rest) = lines rest
+
+-- what follows a line end, from it on, or nothing at the end of the bytes
+abbrev pub after_end : List ℕ → Option (List ℕ)
+after_end [] = None
+after_end (b ∷ bs) = if (b == 13) && begins_with_feed bs then Some (drop 1 bs) else Some bs
 
 -- what a line stands for: a triple or none, where it is UTF-8 and of the grammar
 unfoldable pub line_of : List ℕ → Option (Option Triple)

@@ -1,4 +1,5 @@
--- The text of triples in RDF 1.1 N-Triples, one line each, with as few escapes as the grammar allows.
+-- The text of triples in RDF 1.1 N-Triples, one line each, with as few escapes as the grammar allows: the canonical form
+-- of section 4, except that a character that IRIREF does not allow is written as UCHAR.
 use Rattle.std.specs.Prelude.{ℕ, ◌+◌, ◌/◌, ◌%◌, ◌==◌, nat_lt, if◌then◌else◌, List, [], ◌∷◌, ◌++◌, Option, Some}
 use Rattle.std.specs.Prelude.{None, codes}
 use Rattle.std.specs.List.{flat_map}

@@ -3,9 +3,9 @@ ghost use Rattle.std.specs.Prelude.{All, ◌≡◌, ◌⊎◌, ◌≤◌, ◌<�
 ghost use Rattle.std.specs.Prelude.{drop, option_map, Some, Ok, Err, IfOk, IfErr, IfSome};
 ghost use Rattle.ntriples.specs.declared.term.Triple.{Triple as Triples};
 ghost use Rattle.ntriples.specs.Reading.{Gives};
-ghost use Rattle.ntriples.specs.Document.{is_line_end, begins_with_feed, lines, given, lines_after, after_end};
+ghost use Rattle.ntriples.specs.Document.{is_line_end, begins_with_feed, lines, given};
 ghost use Rattle.ntriples.specs.Document.{IsDocument, IsFirstBadLine, IsFault};
-ghost use Rattle.ntriples.specs.ParsedLines.{line_of, IsParsed, IsParseFault};
+ghost use Rattle.ntriples.specs.ParsedLines.{lines_after, after_end, line_of, IsParsed, IsParseFault};
 ghost use Rattle.ntriples.specs.Written.{CanBeRead};
 
 use crate::fault::{NtFault, Refusal};

@@ -2,7 +2,8 @@
 ghost use Rattle.std.specs.Prelude.{◌≡◌};
 ghost use Rattle.std.specs.Str.{chars};
 ghost use Rattle.ntriples.specs.Reading.{Gives, character, skip_blanks};
-ghost use Rattle.ntriples.specs.Parsing.{datatype, language_tagged, typed, literal_suffix, literal, blank_node, iri_term};
+ghost use Rattle.ntriples.specs.Parsing.{datatype, language_tagged, typed, literal_suffix, literal, blank_node};
+ghost use Rattle.ntriples.specs.Parsing.{iri_term};
 ghost use Rattle.ntriples.specs.Parsing.{subject, object, object_end, predicate_object, triple, is_end};
 ghost use Rattle.ntriples.specs.Parsing.{triple_alone, line, quoted};
 ghost use Rattle.ntriples.specs.Grammar.{xsd_string, rdf_lang_string};

@@ -1,5 +1,5 @@
 use Rattle.std.proofs.Common.{ap, sym, ◌∙◌, take, ◌∷◌}
-use Rattle.ntriples.specs.Document.{lines_after, after_end}
+use Rattle.ntriples.specs.ParsedLines.{lines_after, after_end}
 use Rattle.ntriples.proofs.DocumentLemmas.{lines_cut}
 use Rattle.ntriples.proofs.document.split_line.Goals as goal
 
