@@ -8,7 +8,7 @@ use Rattle.ntriples.specs.declared.term.Term.{Term}
 use Rattle.ntriples.specs.declared.term.Triple.{Triple}
 use Rattle.dcat_map.specs.declared.record.Distribution.{Distribution}
 use Rattle.dcat_map.specs.Terms.{text_cmp}
-use Rattle.dcat_map.specs.Distributions.{distribution_in, distribution_cmp, distributions_in, is_node}
+use Rattle.dcat_map.specs.Distributions.{distribution_in, distribution_cmp, distributions_in, is_iri_or_blank}
 use Rattle.dcat_map.proofs.Orders.{then_equal, same_text}
 use Rattle.dcat_map.proofs.SetLemmas.{TellsApart}
 
@@ -17,9 +17,9 @@ pub distributions_in-append : (g xs ys : List Triple)
 unfolding distributions_in
 distributions_in-append g xs ys =
     let objects : List Triple → List Term = map (λ (t : Triple). t.object) in
-    ap (λ l. map (distribution_in g) (filter is_node l)) (map-append (λ (t : Triple). t.object) xs ys)
-    ∙ ap (map (distribution_in g)) (filter-append is_node (objects xs) (objects ys))
-    ∙ map-append (distribution_in g) (filter is_node (objects xs)) (filter is_node (objects ys))
+    ap (λ l. map (distribution_in g) (filter is_iri_or_blank l)) (map-append (λ (t : Triple). t.object) xs ys)
+    ∙ ap (map (distribution_in g)) (filter-append is_iri_or_blank (objects xs) (objects ys))
+    ∙ map-append (distribution_in g) (filter is_iri_or_blank (objects xs)) (filter is_iri_or_blank (objects ys))
 
 pub distributions_in-nil : (g : List Triple) → distributions_in g [] ≡ []
 unfolding distributions_in

@@ -1,6 +1,7 @@
 mod Examples
 pub mod DistributionLemmas
 pub mod InOrder
+pub mod InstantLemmas
 pub mod LawLemmas
 pub mod Leasts
 pub mod ListingLemmas

@@ -1,5 +1,6 @@
 -- What follows the last mark of a text, and what follows a front.
-use Rattle.std.proofs.Common.{◌≡◌, ◌≢◌, ℕ, suc, ◌<◌, length, get_or, take, drop, Bool, true, false, ◌||◌, eqb, List}
+use Rattle.std.proofs.Common.{◌≡◌, ◌≢◌, ℕ, suc, cond, ◌<◌, length, get_or, take, drop, Bool, true, false, ◌||◌, eqb}
+use Rattle.std.proofs.Common.{List}
 use Rattle.std.proofs.Common.{[], ◌∷◌, ◌++◌, Option, Some, None, Bor, refl, sym, ap, ◌∙◌, subst, arith}
 use Rattle.std.specs.List.{list_any, starts_with}
 use Rattle.std.specs.Option.{MatchOption, option_copied}
@@ -8,7 +9,8 @@ use Rattle.std.specs.Str.Pattern.{RFindsChar, SplitsAroundMatch, FindsTextPrefix
 use Rattle.std.proofs.lemmas.Bool.{eqb-true, eq-eqb}
 use Rattle.std.proofs.lemmas.List.{take-append-drop}
 use Rattle.std.proofs.lemmas.Str.Pattern.{NoCharPasses-char, drop_at_char, starts_text}
-use Rattle.dcat_map.specs.Distributions.{after_mark, stripped}
+use Rattle.std.proofs.lemmas.List.Folds.{list_any-append}
+use Rattle.dcat_map.specs.Distributions.{after_mark, last_part, stripped}
 
 none_of : (c : ℕ) (bs : List ℕ) → ((i : ℕ) → i < length bs → get_or bs i 0 ≢ c) → list_any (λ d. eqb d c) bs ≡ false
 none_of c [] h = refl
@@ -43,6 +45,44 @@ pub after_mark-last : (c : ℕ) (front rest : List ℕ) → list_any (λ d. eqb 
 unfolding after_mark
 after_mark-last c [] rest h = rw (h, eq-eqb c c refl) refl
 after_mark-last c (f ∷ fs) rest h = rw (any_later c fs rest) (after_mark-last c fs rest h)
+
+-- What has no mark stays as it is, after what follows the last mark before it.
+after_mark-unmarked : (c : ℕ) (front rest : List ℕ) → list_any (λ d. eqb d c) rest ≡ false
+    → after_mark c (front ++ rest) ≡ after_mark c front ++ rest
+unfolding after_mark
+after_mark-unmarked c [] rest h = after_mark-none c rest h
+after_mark-unmarked c (f ∷ fs) rest h =
+    let P : Bool → Type 0 = λ v. cond v (after_mark c fs ++ rest) (cond (eqb f c) (fs ++ rest) (f ∷ fs ++ rest))
+    ≡ cond v (after_mark c fs) (cond (eqb f c) fs (f ∷ fs)) ++ rest in
+    let Q : Bool → Type 0 = λ v. cond v (fs ++ rest) (f ∷ fs ++ rest) ≡ cond v fs (f ∷ fs) ++ rest in
+    let marked : list_any (λ d. eqb d c) (fs ++ rest) ≡ list_any (λ d. eqb d c) fs =
+    list_any-append (λ d. eqb d c) fs rest ∙ ap (λ v. list_any (λ d. eqb d c) fs || v) h ∙ or_false _ in
+    ap (λ v. cond v (after_mark c (fs ++ rest)) (cond (eqb f c) (fs ++ rest) (f ∷ fs ++ rest))) marked
+    ∙ ap (λ (l : List ℕ). cond (list_any (λ d. eqb d c) fs) l (cond (eqb f c) (fs ++ rest) (f ∷ fs ++ rest)))
+    (after_mark-unmarked c fs rest h)
+    ∙ elim (list_any (λ d. eqb d c) fs) as P [
+      | true ↦ refl
+      | false ↦ elim (eqb f c) as Q [ true ↦ refl | false ↦ refl ]
+    ]
+  where
+    or_false : (v : Bool) → (v || false) ≡ v
+    or_false true = refl
+    or_false false = refl
+
+-- The last part follows the last slash or number sign.
+pub last_part-slash : (front rest : List ℕ) → list_any (λ c. eqb c 47) rest ≡ false
+    → list_any (λ c. eqb c 35) rest ≡ false → last_part (front ++ 47 ∷ rest) ≡ rest
+last_part-slash front rest slash sign = ap (after_mark 35) (after_mark-last 47 front rest slash)
+    ∙ after_mark-none 35 rest sign
+
+pub last_part-sign : (front rest : List ℕ) → list_any (λ c. eqb c 47) rest ≡ false
+    → list_any (λ c. eqb c 35) rest ≡ false → last_part (front ++ 35 ∷ rest) ≡ rest
+last_part-sign front rest slash sign = ap (after_mark 35) (after_mark-unmarked 47 front (35 ∷ rest) slash)
+    ∙ after_mark-last 35 (after_mark 47 front) rest sign
+
+pub last_part-none : (text : List ℕ) → list_any (λ c. eqb c 47) text ≡ false → list_any (λ c. eqb c 35) text ≡ false
+    → last_part text ≡ text
+last_part-none text slash sign = ap (after_mark 35) (after_mark-none 47 text slash) ∙ after_mark-none 35 text sign
 
 -- What `rsplit_once` gives.
 pub after_mark-split : (c : ℕ) (s front back : List ℕ) → SplitsAroundMatch (RFindsChar c) s front back → c < 128

@@ -68,15 +68,15 @@ distribution_cmp =
     (then_cmp (on (λ d. d.format) text_cmp)
     (then_cmp (on (λ d. d.mimetype) text_cmp) (on (λ d. d.description) text_cmp))))
 
--- what may be a distribution
-abbrev pub is_node : Term → Bool
-is_node (Iri iri) = true
-is_node (Blank label) = true
-is_node (Literal text datatype tag) = false
+-- an IRI or a blank node, which may be the subject of triples (RDF 1.1 Concepts, section 3.1)
+abbrev pub is_iri_or_blank : Term → Bool
+is_iri_or_blank (Iri iri) = true
+is_iri_or_blank (Blank label) = true
+is_iri_or_blank (Literal text datatype tag) = false
 
 -- one for each object that is no literal
 unfoldable pub distributions_in : List Triple → List Triple → List Distribution
-distributions_in g ts = map (distribution_in g) (filter is_node (map (λ t. t.object) ts))
+distributions_in g ts = map (distribution_in g) (filter is_iri_or_blank (map (λ t. t.object) ts))
 
 -- in order, of which the first 200 are taken
 unfoldable pub resources_in : List Triple → Term → List Distribution

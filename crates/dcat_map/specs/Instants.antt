@@ -1,8 +1,9 @@
 -- Dates and times as literals: `YYYY-MM-DD`, or `YYYY-MM-DDThh:mm:ss` with a fraction of a second, which is dropped,
 -- and with `Z` or an offset from UTC (XML Schema part 2, sections 3.3.7 and 3.3.9, with years of four digits).
-use Rattle.std.specs.Prelude.{ℕ, ◌*◌, ◌==◌, nat_lt, if◌then◌else◌, List, [], ◌∷◌, ◌&&◌, length, take, drop, codes}
-use Rattle.std.specs.Prelude.{Option, Some, None, option_map, ℤ, pos, ◌-ℤ◌, neg_ℤ, int_le}
-use Rattle.std.specs.List.{filter_map, prefix_len}
+use Rattle.std.specs.Prelude.{◌≡◌, ◌⊎◌, ℕ, ◌*◌, ◌==◌, nat_lt, if◌then◌else◌, Bool, true, false, List, [], ◌∷◌, ◌++◌}
+use Rattle.std.specs.Prelude.{◌&&◌, length, take, drop, codes, Option, Some, None, option_map, ℤ, pos, ◌-ℤ◌, neg_ℤ}
+use Rattle.std.specs.Prelude.{int_le}
+use Rattle.std.specs.List.{filter_map, list_all, prefix_len}
 use Rattle.std.specs.Char.{is_ascii_digit}
 use Rattle.std.specs.Ordering.{flip_args, int_cmp}
 use Rattle.portal_base.specs.Calendar.{moment_at, minute_reading}
@@ -13,15 +14,16 @@ use Rattle.ntriples.specs.declared.term.Triple.{Triple}
 use Rattle.ntriples.specs.Reading.{◌>>=◌}
 use Rattle.dcat_map.specs.Sets.{least}
 
--- what follows the leading digits, of which there must be one
-abbrev pub skip_digits : List ℕ → Option (List ℕ)
-skip_digits bs =
-    if nat_lt 0 (prefix_len is_ascii_digit bs) then Some (drop (prefix_len is_ascii_digit bs) bs) else None
+-- ---- the lexical forms
 
--- what follows the fraction of a second, if there is one: `.` and at least one digit
-unfoldable pub skip_fraction : List ℕ → Option (List ℕ)
-skip_fraction [] = Some []
-skip_fraction (b ∷ bs) = if b == 46 then skip_digits bs else Some (b ∷ bs)
+-- at least one digit, and nothing else
+abbrev pub are_digits : List ℕ → Bool
+are_digits [] = false
+are_digits (c ∷ cs) = list_all is_ascii_digit (c ∷ cs)
+
+-- a fraction of a second: nothing, or `.` and digits
+abbrev pub IsFraction : List ℕ → Type 0
+IsFraction text = (text ≡ []) ⊎ ((digits : List ℕ) × (text ≡ codes "." ++ digits) × (are_digits digits ≡ true))
 
 -- `hh:mm`, in seconds
 abbrev pub offset_size : List ℕ → Option ℕ
@@ -36,6 +38,41 @@ offset (b ∷ bs) =
     else if b == 90 then (if nat_lt 0 (length bs) then None else Some (pos 0))
     else None
 
+-- the seconds are those of a moment
+abbrev pub is_moment : ℤ → Bool
+is_moment seconds = int_le first_moment seconds && int_le seconds last_moment
+
+-- The text is a date and a time (xsd:dateTime), of this moment in UTC.
+pub record IsDateTime (text : List ℕ) (moment : ℤ) : Type 0 where
+  pub date : List ℕ
+  pub time : List ℕ
+  pub fraction : List ℕ
+  pub zone : List ℕ
+  pub local : ℤ
+  pub utc_offset : ℤ
+  pub form : text ≡ date ++ codes "T" ++ time ++ fraction ++ zone
+  pub is_local : moment_at date time ≡ Some local
+  pub is_fraction : IsFraction fraction
+  pub is_offset : offset zone ≡ Some utc_offset
+  pub named : moment ≡ local -ℤ utc_offset
+  pub within : is_moment moment ≡ true
+
+-- The text is a date (xsd:date without an offset), whose midnight the moment is, or a date and a time.
+abbrev pub IsInstant : List ℕ → ℤ → Type 0
+IsInstant text moment = (moment_at text (codes "00:00:00") ≡ Some moment) ⊎ IsDateTime text moment
+
+-- ---- how they are read from the left
+
+-- what follows the leading digits, of which there must be one
+abbrev pub skip_digits : List ℕ → Option (List ℕ)
+skip_digits bs =
+    if nat_lt 0 (prefix_len is_ascii_digit bs) then Some (drop (prefix_len is_ascii_digit bs) bs) else None
+
+-- what follows the fraction of a second, if there is one
+unfoldable pub skip_fraction : List ℕ → Option (List ℕ)
+skip_fraction [] = Some []
+skip_fraction (b ∷ bs) = if b == 46 then skip_digits bs else Some (b ∷ bs)
+
 -- the offset from UTC after the fraction of a second
 abbrev pub zone_offset : List ℕ → Option ℤ
 zone_offset bs = do
@@ -44,9 +81,9 @@ zone_offset bs = do
 
 -- the seconds, if they are those of a moment
 abbrev pub if_moment : ℤ → Option ℤ
-if_moment seconds = if int_le first_moment seconds && int_le seconds last_moment then Some seconds else None
+if_moment seconds = if is_moment seconds then Some seconds else None
 
--- the moment of a date, a time of day, and what follows it: a fraction of a second and an offset from UTC
+-- the moment of a date, a time of day, and what follows it
 unfoldable pub instant_in : List ℕ → List ℕ → List ℕ → Option ℤ
 instant_in date time rest = do
   there ← moment_at date time
@@ -61,6 +98,8 @@ instant_of date (b ∷ bs) = if b == 84 then instant_in date (take 8 bs) (drop 8
 -- the moment that the text gives
 abbrev pub instant : List ℕ → Option ℤ
 instant bs = instant_of (take 10 bs) (drop 10 bs)
+
+-- ---- the moments of literals
 
 -- the moment that the literal gives
 abbrev pub moment_of : Term → Option ℤ

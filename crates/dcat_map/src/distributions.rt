@@ -2,7 +2,7 @@
 ghost use Rattle.std.specs.Prelude.{◌≡◌, ◌∷◌, [], ◌++◌, ◌<◌, map, IfOk, OnOk};
 ghost use Rattle.std.specs.Option.{option_copied};
 ghost use Rattle.dcat_map.specs.Distributions.{after_mark, last_part, stripped, media_type, or_other, or_last_part};
-ghost use Rattle.dcat_map.specs.Distributions.{distribution_in, distribution_cmp, is_node, distributions_in};
+ghost use Rattle.dcat_map.specs.Distributions.{distribution_in, distribution_cmp, is_iri_or_blank, distributions_in};
 ghost use Rattle.dcat_map.specs.Distributions.{resources_in};
 ghost use Rattle.dcat_map.specs.Graphs.{about};
 ghost use Rattle.dcat_map.specs.Picks.{picked, least_named, least_iri, or_empty};
@@ -233,15 +233,15 @@ fn push_distribution(
     ensures { OnOk result (distributions.new.items ≡
         distributions.old.items ++ distributions_in graph.now (triple.now ∷ [])) }
 {
-    if is_node(&triple.object) {
+    if is_iri_or_blank(&triple.object) {
         distributions.push(known_or_described(alloc, graph, &triple.object)?)?;
     }
     Ok(())
 }
 
 /// Whether the term may be a distribution.
-pub(crate) fn is_node(term: &Term) -> bool
-    ensures { result ≡ is_node term.now }
+pub(crate) fn is_iri_or_blank(term: &Term) -> bool
+    ensures { result ≡ is_iri_or_blank term.now }
 {
     !matches!(term, Term::Literal(_, _, _))
 }

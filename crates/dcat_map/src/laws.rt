@@ -1,6 +1,7 @@
 //! Laws of listings and records: functions with an empty body, whose contracts are the laws.
-ghost use Rattle.std.specs.Prelude.{◌≡◌, ◌≢◌, ◌↔◌, ℕ, ℤ, ◌<ℤ◌, true, false, List, [], length, Some, None};
-ghost use Rattle.std.specs.List.{Contains};
+ghost use Rattle.std.specs.Prelude.{◌≡◌, ◌≢◌, ◌↔◌, ℕ, ℤ, ◌<ℤ◌, ◌==◌, true, false, List, [], ◌∷◌, ◌++◌, length};
+ghost use Rattle.std.specs.Prelude.{Some, None};
+ghost use Rattle.std.specs.List.{Contains, list_any};
 ghost use Rattle.std.specs.List.Sorted.{IsStrictlySortedBy};
 ghost use Rattle.std.specs.Ordering.{flip_args, int_cmp};
 ghost use Rattle.std.specs.declared.cmp.Ordering.TheVariants.{Less};
@@ -8,11 +9,13 @@ ghost use Rattle.ntriples.specs.declared.term.Term.{Term};
 ghost use Rattle.ntriples.specs.declared.term.Triple.{Triple};
 ghost use Rattle.dcat_map.specs.declared.listing.Listing.{Listing};
 ghost use Rattle.dcat_map.specs.Sets.{HaveSameItems, least};
+ghost use Rattle.dcat_map.specs.Instants.{instant, IsInstant};
 ghost use Rattle.dcat_map.specs.Graphs.{graph_of, about, is_described, IsObject};
 ghost use Rattle.dcat_map.specs.Listings.{listing_of, IsListed, IsCatalogue, AreUnnamed};
 ghost use Rattle.dcat_map.specs.Picks.{is_filled, pick, picked, IsPick};
 ghost use Rattle.dcat_map.specs.Terms.{term_cmp, text_cmp, text_of};
 ghost use Rattle.dcat_map.specs.Records.{description_of};
+ghost use Rattle.dcat_map.specs.Distributions.{last_part};
 
 /// Lists of triples with the same members are of one graph, whatever their order and their repeats.
 pub fn lists_of_a_set_are_one_graph()
@@ -86,4 +89,19 @@ pub fn the_least_has_none_below()
     ensures moment { (moments : List ℤ) (last : ℤ) → Contains moments last →
         ((other : ℤ) → Contains moments other → ¬ (last <ℤ other)) →
         least (flip_args int_cmp) moments ≡ Some last }
+{}
+
+/// A text gives a moment exactly where it is a date, or a date and a time, of that moment.
+pub fn a_text_gives_a_moment_exactly_where_it_is_of_the_form()
+    ensures { (text : List ℕ) (moment : ℤ) → (instant text ≡ Some moment) ↔ IsInstant text moment }
+{}
+
+/// The last part of an IRI is what follows its last `/` or `#`, or all of it where it has neither.
+pub fn the_last_part_follows_the_last_mark()
+    ensures slash { (front rest : List ℕ) → list_any (λ c. c == 47) rest ≡ false →
+        list_any (λ c. c == 35) rest ≡ false → last_part (front ++ 47 ∷ rest) ≡ rest }
+    ensures number_sign { (front rest : List ℕ) → list_any (λ c. c == 47) rest ≡ false →
+        list_any (λ c. c == 35) rest ≡ false → last_part (front ++ 35 ∷ rest) ≡ rest }
+    ensures none { (iri : List ℕ) → list_any (λ c. c == 47) iri ≡ false → list_any (λ c. c == 35) iri ≡ false →
+        last_part iri ≡ iri }
 {}

@@ -3,7 +3,7 @@ ghost use Rattle.std.specs.Prelude.{◌≡◌, List, IfOk, IfSome, OnOk};
 ghost use Rattle.ntriples.specs.declared.term.Triple.{Triple};
 ghost use Rattle.dcat_map.specs.Distributions.{distribution_in, AreDescribed};
 
-use crate::distributions::{distribution_of, is_node};
+use crate::distributions::{distribution_of, is_iri_or_blank};
 use crate::graph::Graph;
 use crate::record::Distribution;
 use crate::sets::make_term_set;
@@ -135,7 +135,7 @@ fn push_node<'a>(
     nodes: &mut Vec<Borrowed<'a, Term>>,
     triple: &'a Triple,
 ) -> Result<(), AllocError> {
-    if triple.predicate.as_str() == DISTRIBUTION && is_node(&triple.object) {
+    if triple.predicate.as_str() == DISTRIBUTION && is_iri_or_blank(&triple.object) {
         nodes.push(Borrowed::new(&triple.object))?;
     }
     Ok(())
