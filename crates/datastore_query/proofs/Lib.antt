@@ -1,5 +1,7 @@
 pub mod DistinctLemmas
 mod Examples
+pub mod FilterLemmas
+pub mod LeastLemmas
 pub mod ListedLemmas
 pub mod OrderLemmas
 pub mod PartLemmas

@@ -1,8 +1,8 @@
 -- Filters: which rows have one of the given values in a column.
-use Rattle.std.specs.Prelude.{ℕ, Bool, true, false, ◌&&◌, if◌then◌else◌, List, [], ◌∷◌, ◌++◌, codes, flat_map, fold}
-use Rattle.std.specs.Prelude.{Option, Some, None, is_none, option_map, option_to_list, Result, Ok, Err, pos}
-use Rattle.std.specs.List.{list_all, list_any}
-use Rattle.std.specs.Ordering.{int_eq, is_lt, nat_cmp}
+use Rattle.std.specs.Prelude.{◌≡◌, ℕ, Bool, false, List, [], ◌∷◌, ◌++◌, All, Contains, codes, filter, map}
+use Rattle.std.specs.Prelude.{Option, Some, None, is_none, option_map, Result, Ok, Err, pos}
+use Rattle.std.specs.List.{filter_map, list_all, list_any, reduce}
+use Rattle.std.specs.Ordering.{int_eq, is_lt, nat_cmp, ord_min}
 use Rattle.std.specs.Cmp.Lexicographic.{slice_cmp}
 use Rattle.portal_base.specs.Kinds.{all_of}
 use Rattle.portal_base.specs.declared.json_value.Json.{Json, out-Json}
@@ -19,6 +19,7 @@ use Rattle.datastore_query.specs.declared.column.Column.{Column}
 use Rattle.datastore_query.specs.declared.column.Column.TheVariants as column
 use Rattle.datastore_query.specs.declared.filter.Filter.{Filter}
 use Rattle.datastore_query.specs.Column.{column_kind, column_of, no_field_error}
+use Rattle.datastore_query.specs.Results.{unless_error}
 
 -- ---- one filter: a column's name with a value or a list of values, of which a row has one
 
@@ -63,35 +64,49 @@ is_unknown fields entry = is_none (column_of fields entry.0)
 abbrev pub is_unreadable : List FieldValue → Entry → Bool
 is_unreadable fields entry = is_none (entry_reading fields entry)
 
-abbrev pub is_earlier : List ℕ → Option (List ℕ) → Bool
-is_earlier name None = true
-is_earlier name (Some least) = is_lt (slice_cmp nat_cmp name least)
+-- the keys of the entries that pass the test
+abbrev pub keys_where : (Entry → Bool) → List Entry → List (List ℕ)
+keys_where test entries = map (λ entry. entry.0) (filter test entries)
 
-abbrev pub with_earlier : (Entry → Bool) → Option (List ℕ) → Entry → Option (List ℕ)
-with_earlier test least entry = if test entry && is_earlier entry.0 least then Some entry.0 else least
+-- the keys that name no column
+abbrev pub unknown_keys : List FieldValue → List Entry → List (List ℕ)
+unknown_keys fields entries = keys_where (is_unknown fields) entries
 
--- the least key, in the order of bytes, of the entries that pass the test
-abbrev pub least_such : (Entry → Bool) → List Entry → Option (List ℕ)
-least_such test entries = fold (with_earlier test) None entries
+-- the keys whose filter can't be read
+abbrev pub unreadable_keys : List FieldValue → List Entry → List (List ℕ)
+unreadable_keys fields entries = keys_where (is_unreadable fields) entries
 
+-- the least of these keys in the order of bytes, if there is one
+abbrev pub least : List (List ℕ) → Option (List ℕ)
+least keys = reduce (ord_min (slice_cmp nat_cmp)) keys
+
+-- The key is one of these, and none of these is less in the order of bytes.
+pub record IsLeast (keys : List (List ℕ)) (key : List ℕ) : Type 0 where
+  pub among : Contains keys key
+  pub none_less : All (λ other. is_lt (slice_cmp nat_cmp other key) ≡ false) keys
+
+-- the filters of the entries that can be read
 abbrev pub filters_in : List FieldValue → List Entry → List Filter
-filters_in fields entries = flat_map (λ entry. option_to_list (entry_reading fields entry)) entries
+filters_in fields entries = filter_map (entry_reading fields) entries
 
 abbrev pub type_error : List ℕ → List ℕ
 type_error name = name ++ codes ": not of type"
 
-abbrev pub unless_unreadable : List Filter → Option (List ℕ) → Result (List Filter) (List ℕ)
-unless_unreadable filters None = Ok filters
-unless_unreadable filters (Some name) = Err (type_error name)
-
-abbrev pub unless_unknown : Result (List Filter) (List ℕ) → Option (List ℕ) → Result (List Filter) (List ℕ)
-unless_unknown read None = read
-unless_unknown read (Some name) = Err (no_field_error name)
-
 abbrev pub entries_reading : List FieldValue → List Entry → Result (List Filter) (List ℕ)
 entries_reading fields entries =
-    unless_unknown (unless_unreadable (filters_in fields entries) (least_such (is_unreadable fields) entries))
-    (least_such (is_unknown fields) entries)
+    unless_error (option_map no_field_error (least (unknown_keys fields entries)))
+    (unless_error (option_map type_error (least (unreadable_keys fields entries))) (Ok (filters_in fields entries)))
+
+-- What the entries are read as: the filter of each entry, or an error. The error names the least key that names no
+-- column. If each key names one, it names the least key whose value doesn't have the column's type.
+pub data IsFiltersReading (fields : List FieldValue) (entries : List Entry) : Result (List Filter) (List ℕ) → Type 0
+  where
+    each_read : (read : List Filter) → map (entry_reading fields) entries ≡ map Some read
+        → IsFiltersReading fields entries (Ok read)
+    no_field : (key : List ℕ) → IsLeast (unknown_keys fields entries) key
+        → IsFiltersReading fields entries (Err (no_field_error key))
+    not_of_type : (key : List ℕ) → unknown_keys fields entries ≡ [] → IsLeast (unreadable_keys fields entries) key
+        → IsFiltersReading fields entries (Err (type_error key))
 
 abbrev pub entries_in : Json-F Json → List Entry
 entries_in (Json-F.Map entries) = entries
@@ -100,8 +115,7 @@ entries_in other = []
 abbrev pub entries_of : Json → List Entry
 entries_of filters = entries_in (out-Json filters)
 
--- The filters of a JSON object. The error is that of the least key, in the order of bytes, that names no column. If
--- each key names one, it is that of the least key whose value doesn't have the column's type.
+-- the filters of a JSON object, or an error
 abbrev pub filters_reading : List FieldValue → Json → Result (List Filter) (List ℕ)
 filters_reading fields filters = entries_reading fields (entries_of filters)
 

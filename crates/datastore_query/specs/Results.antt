@@ -1,5 +1,10 @@
--- Sequences of results. The first fault ends the sequence.
-use Rattle.std.specs.Prelude.{List, [], ◌∷◌, Result, Ok, Err}
+-- Results one after another. The first error is the result.
+use Rattle.std.specs.Prelude.{List, [], ◌∷◌, Option, Some, None, Result, Ok, Err}
+
+-- the error, if there is one, and otherwise the result
+abbrev pub unless_error : {A E : Type 0} → Option E → Result A E → Result A E
+unless_error (Some error) result = Err error
+unless_error None result = result
 
 abbrev pub prepended : {B E : Type 0} → Result B E → Result (List B) E → Result (List B) E
 prepended (Err fault) others = Err fault

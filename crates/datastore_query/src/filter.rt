@@ -1,13 +1,16 @@
 //! Filters: which rows have one of the given values in a column.
-ghost use Rattle.std.specs.Prelude.{◌≡◌, ◌∷◌, [], IfOk, IsTrue, None, Ok, flat_map, fold, map};
-ghost use Rattle.std.specs.Prelude.{option_copied, option_to_list};
-ghost use Rattle.std.specs.List.{list_all, list_any};
+ghost use Rattle.std.specs.Prelude.{◌≡◌, ◌∷◌, [], IfOk, IsTrue, None, Ok, filter, map, option_copied, true};
+ghost use Rattle.std.specs.Cmp.Lexicographic.{slice_cmp};
+ghost use Rattle.std.specs.List.{filter_map, list_all, list_any, reduce};
+ghost use Rattle.std.specs.Option.{option_map_or};
+ghost use Rattle.std.specs.Ordering.{is_lt, nat_cmp};
 ghost use Rattle.portal_base.specs.Kinds.{all_of};
 ghost use Rattle.datastore_table.specs.Cells.{cell_at};
 ghost use Rattle.table_schema.specs.Order.{same_cell};
 ghost use Rattle.datastore_query.specs.Filter.{entry_reading, filter_cell, filter_values, filters_in, filters_reading};
-ghost use Rattle.datastore_query.specs.Filter.{entries_of, has_value, is_earlier, is_id, is_unknown, is_unreadable};
-ghost use Rattle.datastore_query.specs.Filter.{least_such, type_error, passes_filter, passes_filters, with_earlier};
+ghost use Rattle.datastore_query.specs.Filter.{entries_of, has_value, is_id, is_unknown, is_unreadable, least};
+ghost use Rattle.datastore_query.specs.Filter.{passes_filter, passes_filters, type_error, unknown_keys};
+ghost use Rattle.datastore_query.specs.Filter.{unreadable_keys};
 
 use crate::column::{Column, column_of, kind_of, no_field_error};
 use datastore_table::Row;
@@ -90,7 +93,7 @@ fn entry_filter(
 }
 
 fn is_earlier(name: &Text, least: Option<&Text>) -> bool
-    ensures { result ≡ is_earlier name.now (option_copied least.entry) }
+    ensures { result ≡ option_map_or (λ key. is_lt (slice_cmp nat_cmp name.now key)) (option_copied least.entry) true }
 {
     match least {
         Some(least) => name.cmp(least).is_lt(),
@@ -105,8 +108,9 @@ fn is_unknown(fields: &[Field], entry: &(Text, Json)) -> bool
 }
 
 // The least key, in the order of bytes, that names no column.
+#[tactic(auto, using(crate::proofs::LeastLemmas::least_more))]
 fn least_unknown<'a>(fields: &[Field], entries: &'a [(Text, Json)]) -> Option<&'a Text>
-    ensures { option_copied result ≡ least_such (is_unknown fields.now) entries.now }
+    ensures { option_copied result ≡ least (unknown_keys fields.now entries.now) }
 {
     let mut least = None;
     for entry in entries {
@@ -133,12 +137,13 @@ fn copy_of(alloc: Global, name: Option<&Text>) -> Result<Option<Text>, AllocErro
 }
 
 // The least key, in the order of bytes, whose filter can't be read.
+#[tactic(auto, using(crate::proofs::LeastLemmas::least_more))]
 fn least_unreadable(
     alloc: Global,
     fields: &[Field],
     entries: &[(Text, Json)],
 ) -> Result<Option<Text>, AllocError>
-    ensures { IfOk result (λ least. least ≡ least_such (is_unreadable fields.now) entries.now) }
+    ensures { IfOk result (λ key. key ≡ least (unreadable_keys fields.now entries.now)) }
 {
     let mut least = None;
     for entry in entries {

@@ -5,6 +5,7 @@
 mod column;
 mod fault;
 mod filter;
+pub mod laws;
 mod order;
 mod page;
 mod parts;

@@ -1,6 +1,6 @@
 use Rattle.std.proofs.Common.{◌≡◌, take, option_copied}
-use Rattle.datastore_query.specs.Filter.{is_unknown, least_such}
+use Rattle.datastore_query.specs.Filter.{least, unknown_keys}
 use Rattle.datastore_query.proofs.filter.least_unknown.Given as goal
 
 abbrev pub invariant-loop-entry : goal.invariant-loop-entry
-invariant-loop-entry l = option_copied l.least ≡ least_such (is_unknown l.fields) (take l.entry-index l.entries)
+invariant-loop-entry l = option_copied l.least ≡ least (unknown_keys l.fields (take l.entry-index l.entries))
