@@ -17,7 +17,7 @@ use Rattle.portal_serve.specs.declared.script.TheConstants.{LONGEST_LINE}
 use Rattle.std.proofs.lemmas.Bool.{lt-ltb}
 use Rattle.std.proofs.lemmas.Bool.Decides.{nat_tests}
 use Rattle.portal_core.specs.State.{State}
-use Rattle.portal_serve.specs.RequestOutcome.{RequestOutcome, outcome_of_request}
+use Rattle.portal_serve.specs.RequestOutcome.{RequestOutcome, call_of, outcome_of_request}
 use Rattle.portal_serve.specs.Transcript.{ScriptState, AreDrawn, asks, draws, turn, turn_of, script_state_after}
 use Rattle.portal_serve.specs.Transcript.{written_for}
 use Rattle.portal_serve.specs.Transcript.{outcome_of_call, reply_line, early_line}
@@ -25,6 +25,7 @@ use Rattle.action_api.specs.Request.{request_for}
 use Rattle.portal_base.specs.declared.caller.Caller.{Caller}
 use Rattle.portal_calls.specs.declared.call.Request.{Request}
 use Rattle.portal_core.specs.Opened.{known_caller}
+use Rattle.portal_core.specs.Step.{call_step}
 use Rattle.portal_calls.specs.declared.event.Reply.{Reply}
 use Rattle.portal_serve.specs.Run.{Begins, DrawsAll, script_state, StageTrace}
 use Rattle.portal_serve.specs.Stopped.{IsOfLine, begun_limit}
@@ -234,6 +235,14 @@ request_made name body (Ok r) value fault known = sym value
 request_made name body (Err e) value (inl wanting) known = absurd (known (ap (λ f. Err f) wanting))
 request_made name body (Err e) value (inr is) known = sym is
 
+-- the reply to a request that there is
+pub reply_made : (state : State) (caller : Caller) (request : Result Request Early) (r : Request) (size : ℕ) (m : ℤ)
+    (n : ℕ) (reply : Reply)
+    → request ≡ Ok r → reply ≡ (call_step state (call_of caller r size m n)).reply
+    → Ok reply ≡ (outcome_of_request state caller size m n request).reply
+reply_made state caller request r size m n reply is made =
+    ap (λ x. Ok x) made ∙ sym (ap (λ x. (outcome_of_request state caller size m n x).reply) is)
+
 -- the reply of a call where memory didn't run out
 pub outcome_in : {E : Type 0} (state : State) (call : ScriptCall) (size : ℕ) (m : ℤ) (n : ℕ)
     (request : Result Request Early) (who : Caller) (result : Result (Result Reply Early) E)
@@ -369,6 +378,14 @@ unless_empty-nil line e =
 -- a line with a byte isn't
 unless_empty-more : (line : List ℕ) → 0 < length line → unless_empty line ≡ line ∷ []
 unless_empty-more line some = ap (λ b. cond b (line ∷ []) []) (lt-ltb 0 (length line) some)
+
+-- a line that isn't empty, and asks for no call
+pub processes_early_line : (state : State) (line : List ℕ) (early : Early) → (length line == 0) ≡ false
+    → call_of_line line ≡ Err early → Processes state (unless_empty line) [] [] (early_line early) state
+processes_early_line state line early some is =
+    let more : 0 < length line = grind (arith, nat_tests) in
+    subst (λ ls. Processes state ls [] [] (early_line early) state) (sym (unless_empty-more line more))
+    (processes_early state line early is)
 
 -- Nothing is processed where there is no line.
 pub processes_no_line : (state : State) (script : List (List ℕ)) (old : StageTrace) → script ≡ []

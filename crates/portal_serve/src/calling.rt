@@ -1,6 +1,5 @@
 //! One call of a portal, with its size and the moment and nonce that were drawn for it.
 ghost use Rattle.std.specs.Prelude.{◌≡◌, ◌≢◌, Err, IfOk, OnOk, OnErr};
-ghost use Rattle.portal_core.specs.Step.{call_step};
 ghost use Rattle.portal_serve.specs.RequestOutcome.{outcome_of_request};
 
 use action_api::early::Early;
@@ -18,18 +17,6 @@ pub struct Drawn {
     pub size: u64,
     pub moment: Moment,
     pub nonce: Nonce,
-}
-
-/// Makes a call of the portal. It fails only where memory runs out, and then nothing changes.
-fn try_act(portal: &mut Portal, call: Call) -> Result<Reply, AllocError>
-    ensures reply { IfOk result (λ reply. reply ≡ (call_step portal.old call).reply) }
-    ensures state { OnOk result (portal.new ≡ (call_step portal.old call).state) }
-    ensures kept { OnErr result (portal.new ≡ portal.old) }
-{
-    match portal.act(&Event::Call(call)) {
-        Reply::Refused(Refusal::OutOfMemory) => Err(AllocError),
-        reply => Ok(reply),
-    }
 }
 
 /// The reply to a caller's request, or the early fault where there is no request. It fails only where memory runs out,
@@ -57,15 +44,16 @@ pub fn reply_to_request(
         moment,
         nonce,
     } = drawn;
-    let reply = try_act(
-        portal,
-        Call {
-            caller,
-            request,
-            size,
-            moment,
-            nonce,
-        },
-    )?;
-    Ok(Ok(reply))
+    let call = Call {
+        caller,
+        request,
+        size,
+        moment,
+        nonce,
+    };
+    let reply = portal.act(&Event::Call(call));
+    match reply {
+        Reply::Refused(Refusal::OutOfMemory) => Err(AllocError),
+        _ => Ok(Ok(reply)),
+    }
 }

@@ -119,31 +119,6 @@ fn write_early<O: Sink, C: Clock, N: Nonces>(
     Ok(write_line(stage, text.as_slice())?)
 }
 
-/// Processes a line that isn't empty.
-fn play_nonempty_line<O: Sink, C: Clock, N: Nonces>(
-    alloc: Global,
-    portal: &mut Portal,
-    line: &[u8],
-    stage: &mut Stage<'_, '_, '_, O, C, N>,
-) -> Result<(), Stop>
-    requires { length line.now ≤ LONGEST_LINE }
-    ensures ok { OnOk result (ProcessesLines portal.old (line.now ∷ []) portal.new
-        (trace_of O.taken C.given N.given stage.old) (trace_of O.taken C.given N.given stage.new)) }
-    ensures cut { OnErr result (StopsLines portal.old (line.now ∷ []) portal.new
-        (trace_of O.taken C.given N.given stage.old) (trace_of O.taken C.given N.given stage.new)) }
-    ensures fault { result ≡ Err Stop.WriteFault
-        → Rose (O.faults stage.old.output.now) (O.faults stage.new.output.now) }
-    ensures stop { IfErr result IsOfLine }
-    ensures counts { O.faults stage.old.output.now ≤ O.faults stage.new.output.now }
-    ensures loans { AreSameLoans stage.old stage.new }
-{
-    match read_call(alloc, line) {
-        Ok(call) => play_call(alloc, portal, call, line, stage),
-        Err(Early::OutOfMemory) => Err(Stop::OutOfMemory),
-        Err(early) => write_early(alloc, early, stage),
-    }
-}
-
 /// Processes a line, and skips an empty one.
 fn play_line<O: Sink, C: Clock, N: Nonces>(
     alloc: Global,
@@ -163,9 +138,12 @@ fn play_line<O: Sink, C: Clock, N: Nonces>(
     ensures loans { AreSameLoans stage.old stage.new }
 {
     if line.is_empty() {
-        Ok(())
-    } else {
-        play_nonempty_line(alloc, portal, line, stage)
+        return Ok(());
+    }
+    match read_call(alloc, line) {
+        Ok(call) => play_call(alloc, portal, call, line, stage),
+        Err(Early::OutOfMemory) => Err(Stop::OutOfMemory),
+        Err(early) => write_early(alloc, early, stage),
     }
 }
 
@@ -281,36 +259,6 @@ fn end_of(ended: Result<(), Stop>) -> PlayEnd
     }
 }
 
-/// Plays the script on input on a stage.
-fn play_on_stage<S: Source, O: Sink, C: Clock, N: Nonces>(
-    alloc: Global,
-    portal: &mut Portal,
-    input: &mut S,
-    stage: &mut Stage<'_, '_, '_, O, C, N>,
-) -> PlayEnd
-    ensures done { result ≡ PlayEnd.Done → (whole : List ℕ) → S.to_come input.old ≡ Some whole
-        → PlaysAll portal.old whole portal.new
-        (with_input (S.to_come input.old) (trace_of O.taken C.given N.given stage.old))
-        (with_input (S.to_come input.new) (trace_of O.taken C.given N.given stage.new)) }
-    ensures cut { result ≢ PlayEnd.Done → (whole : List ℕ) → S.to_come input.old ≡ Some whole
-        → PlaysPart (begun_limit_at_end result) portal.old whole portal.new
-        (with_input (S.to_come input.old) (trace_of O.taken C.given N.given stage.old))
-        (with_input (S.to_come input.new) (trace_of O.taken C.given N.given stage.new)) }
-
-    ensures unended { result ≡ PlayEnd.ReadFault → (whole : List ℕ) → S.to_come input.old ≡ Some whole
-        → PlaysRead portal.old whole portal.new
-        (with_input (S.to_come input.old) (trace_of O.taken C.given N.given stage.old))
-        (with_input (S.to_come input.new) (trace_of O.taken C.given N.given stage.new)) }
-    ensures read_fault { result ≡ PlayEnd.ReadFault → Rose (S.faults input.old) (S.faults input.new) }
-    ensures write_fault { result ≡ PlayEnd.WriteFault
-        → Rose (O.faults stage.old.output.now) (O.faults stage.new.output.now) }
-    ensures too_long { (whole : List ℕ) → S.to_come input.old ≡ Some whole →
-        ((result ≡ PlayEnd.TooLong) ↔ GaveTooMuch whole (S.to_come input.new)) }
-    ensures loans { AreSameLoans stage.old stage.new }
-{
-    end_of(play_lines(alloc, portal, input, stage))
-}
-
 /// Plays the script on input, and writes its transcript to output. It holds one line of the input, and the bytes of one
 /// read.
 pub fn play<S: Source, O: Sink, C: Clock, N: Nonces>(
@@ -322,15 +270,13 @@ pub fn play<S: Source, O: Sink, C: Clock, N: Nonces>(
     nonces: &mut N,
 ) -> PlayEnd
     // Where input is observable, all of it was read, output took its transcript, and the portal is in the state in
-    // which
-    // the script ends.
+    // which the script ends.
     ensures done { result ≡ PlayEnd.Done → (whole : List ℕ) → S.to_come input.old ≡ Some whole
         → PlaysAll portal.old whole portal.new
         (device_trace (S.to_come input.old) (O.taken output.old) (C.given clock.old) (N.given nonces.old))
         (device_trace (S.to_come input.new) (O.taken output.new) (C.given clock.new) (N.given nonces.new)) }
     // Otherwise the moments and nonces drawn, the bytes that output took and the portal's state belong to one position
-    // in
-    // the script.
+    // in the script.
     ensures cut { result ≢ PlayEnd.Done → (whole : List ℕ) → S.to_come input.old ≡ Some whole
         → PlaysPart (begun_limit_at_end result) portal.old whole portal.new
         (device_trace (S.to_come input.old) (O.taken output.old) (C.given clock.old) (N.given nonces.old))
@@ -351,5 +297,5 @@ pub fn play<S: Source, O: Sink, C: Clock, N: Nonces>(
         clock,
         nonces,
     };
-    play_on_stage(alloc, portal, input, &mut stage)
+    end_of(play_lines(alloc, portal, input, &mut stage))
 }
