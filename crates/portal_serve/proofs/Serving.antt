@@ -1,5 +1,5 @@
 -- What is written to a connection, piece by piece.
-use Rattle.std.proofs.Common.{◌≡◌, ◌≢◌, ℕ, ◌≤◌, List, [], Bool, false, Result, Ok, Err, Option}
+use Rattle.std.proofs.Common.{◌≡◌, ◌≢◌, ℕ, ◌≤◌, List, [], ◌∷◌, ◌++◌, Bool, false, Result, Ok, Err, Option}
 use Rattle.std.proofs.Common.{Some, None}
 use Rattle.std.proofs.Common.{refl, sym, ap, subst, ◌∙◌, take, Bor}
 use Rattle.std.proofs.Common.{rules, inl, inr}
@@ -9,7 +9,7 @@ use Rattle.serde_json.specs.Data.{boolean, string, object, no_members, member}
 use Rattle.serde_json.specs.Written.{compact_text}
 use Rattle.serde_json.proofs.OnLiterals.{serde_json_on_literals}
 use Rattle.httparse.specs.Grammar.{RequestHead}
-use Rattle.action_api.specs.Error.{bad_request, error_dictionary, memory_dictionary}
+use Rattle.action_api.specs.Error.{error_dictionary}
 use Rattle.action_api.specs.Query.{is_reading_action}
 use Rattle.action_api.specs.Reply.{failure_dictionary, reply_status}
 use Rattle.action_api.specs.declared.early.Early.{Early}
@@ -46,46 +46,34 @@ error_data : (kind message : List ℕ)
     (member (codes "help") (string []) (member (codes "success") (boolean false) no_members)))
 error_data kind message = search (rules, the_lemmas)
 
-pub memory_text_is
-    : codes "{\"error\":{\"__type\":\"Memory Error\",\"message\":\"Want of memory\"},\"help\":\"\",\"success\":false}"
-    ≡ error_text memory_dictionary
-unfolding serde_json_on_literals
-memory_text_is = sym (ap compact_text (error_data (codes "Memory Error") (codes "Want of memory")))
+-- an error from the texts of its type and message, and the failure with it
+abbrev error_pieces : List ℕ → List ℕ → List ℕ
+error_pieces kind message = codes "{\"__type\":" ++ (kind ++ (codes ",\"message\":" ++ (message ++ codes "}")))
 
-pub head_text_is
-    : codes "{\"error\":{\"__type\":\"Bad Request\",\"message\":\"Bad request head\"},\"help\":\"\",\"success\":false}"
-    ≡ error_text (bad_request (codes "Bad request head"))
-unfolding serde_json_on_literals
-head_text_is = sym (ap compact_text (error_data (codes "Bad Request") (codes "Bad request head")))
+abbrev failure_pieces : List ℕ → List ℕ → List ℕ
+failure_pieces kind message =
+    codes "{\"error\":" ++ (error_pieces kind message ++ codes ",\"help\":\"\",\"success\":false}")
 
-pub length_text_is
-    : codes "{\"error\":{\"__type\":\"Bad Request\",\"message\":\"Length required\"},\"help\":\"\",\"success\":false}"
-    ≡ error_text (bad_request (codes "Length required"))
-unfolding serde_json_on_literals
-length_text_is = sym (ap compact_text (error_data (codes "Bad Request") (codes "Length required")))
+-- the text between quotes
+abbrev in_quotes : List ℕ → List ℕ
+in_quotes text = 34 ∷ (text ++ 34 ∷ [])
 
-pub body_text_is
-    : codes "{\"error\":{\"__type\":\"Bad Request\",\"message\":\"Body too long\"},\"help\":\"\",\"success\":false}"
-    ≡ error_text (bad_request (codes "Body too long"))
-unfolding serde_json_on_literals
-body_text_is = sym (ap compact_text (error_data (codes "Bad Request") (codes "Body too long")))
+-- The text of a failure with an error of this type and message, as a constant of the program has it.
+abbrev pub constant_text : List ℕ → List ℕ → List ℕ
+constant_text kind message = failure_pieces (in_quotes kind) (in_quotes message)
 
-pub page_text_is
-    : codes "{\"error\":{\"__type\":\"Not Found Error\",\"message\":\"No such page\"},\"help\":\"\",\"success\":false}"
-    ≡ error_text (error_dictionary (codes "Not Found Error") (codes "No such page"))
-unfolding serde_json_on_literals
-page_text_is = sym (ap compact_text (error_data (codes "Not Found Error") (codes "No such page")))
+-- the JSON of a text is the text between quotes: it has nothing to escape
+abbrev pub IsPlain : List ℕ → Type 0
+IsPlain text = compact_text (string text) ≡ in_quotes text
 
--- the text for another method, as the program has it
-abbrev method_text : List ℕ
-method_text =
-    codes "{\"error\":{\"__type\":\"Bad Request\",\"message\":\"Method not allowed\"},\"help\":\"\",\"success\":false}"
-
-pub method_text_is
-    : method_text
-    ≡ error_text (bad_request (codes "Method not allowed"))
+-- A constant is the JSON text of its error, where nothing is escaped.
+pub constant_is : (kind message : List ℕ) → IsPlain kind → IsPlain message
+    → constant_text kind message ≡ error_text (error_dictionary kind message)
 unfolding serde_json_on_literals
-method_text_is = sym (ap compact_text (error_data (codes "Bad Request") (codes "Method not allowed")))
+constant_is kind message plain_kind plain_message =
+    sym (ap (λ k. failure_pieces k (in_quotes message)) plain_kind)
+    ∙ sym (ap (λ m. failure_pieces (compact_text (string kind)) m) plain_message)
+    ∙ sym (ap compact_text (error_data kind message))
 
 -- a reply of a status with a text
 abbrev pub reply_with : ℕ → List ℕ → Option (ℕ × List ℕ)

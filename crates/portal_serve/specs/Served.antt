@@ -1,11 +1,12 @@
 -- The response to the request of a connection, and the state after it.
 use Rattle.std.specs.Prelude.{◌≡◌, ◌⊎◌, ℕ, ℤ, Bool, List, [], ◌∷◌, codes, length, Option, Some, None, IfSome}
 use Rattle.std.specs.Prelude.{Result, Ok, Err}
-use Rattle.action_api.specs.Error.{bad_request, error_dictionary, memory_dictionary}
+use Rattle.action_api.specs.Error.{bad_request, error_dictionary}
 use Rattle.action_api.specs.Query.{request_of_query, is_reading_action}
 use Rattle.action_api.specs.Reply.{failure_dictionary, reply_text}
 use Rattle.action_api.specs.Request.{request_of}
 use Rattle.action_api.specs.declared.early.Early.{Early}
+use Rattle.action_api.specs.declared.early.Early.TheVariants as early
 use Rattle.http_front.specs.Request.{IsReceived, UnlessFails}
 use Rattle.http_front.specs.Response.{response_bytes}
 use Rattle.http_front.specs.declared.fault.FrontFault.{FrontFault}
@@ -57,20 +58,21 @@ outcome_of_incoming digests state moment nonce incoming =
 abbrev pub answer_text : Incoming → RequestOutcome → ℕ × List ℕ
 answer_text incoming outcome = reply_text (Some (name_in incoming)) outcome.reply
 
--- ---- faults of the connection, whose replies have no help
+-- ---- faults of the connection
 
+-- the text of a failure with this error and with no help, since no action is known
 abbrev pub error_text : Json → List ℕ
 error_text error = json_text (failure_dictionary [] error)
 
--- the reply where memory runs out
+-- the status and the text of the reply where memory runs out
 abbrev pub memory_text : ℕ × List ℕ
-memory_text = (507, error_text memory_dictionary)
+memory_text = reply_text None (Err early.OutOfMemory)
 
 -- the status and the text of a fault's reply, if it has one
 abbrev pub fault_text : FrontFault → Option (ℕ × List ℕ)
 fault_text BadHead = Some (400, error_text (bad_request (codes "Bad request head")))
 fault_text NoLength = Some (411, error_text (bad_request (codes "Length required")))
-fault_text TooLong = Some (413, error_text (bad_request (codes "Body too long")))
+fault_text TooLong = Some (reply_text None (Err early.TooLong))
 fault_text NoRoute = Some (404, error_text (error_dictionary (codes "Not Found Error") (codes "No such page")))
 fault_text Method = Some (405, error_text (bad_request (codes "Method not allowed")))
 fault_text OutOfMemory = Some memory_text

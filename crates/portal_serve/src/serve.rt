@@ -38,11 +38,28 @@ pub enum Served {
     LinkFault,
 }
 
+// ---- replies that take no memory
+
 /// An HTTP status with the text of a reply, as a constant of the program.
 #[derive(Clone, Copy)]
 struct FixedReply {
     status: u16,
     text: &'static str,
+}
+
+/// The text of a failure with an error of this type and message, and with no help. The reply to a fault takes no memory,
+/// so it is this constant of the program, and not rendered. The contracts below say that it is the text which action_api
+/// renders of the error (`error_text`).
+macro_rules! failure_text {
+    ($kind:literal, $message:literal) => {
+        concat!(
+            "{\"error\":{\"__type\":\"",
+            $kind,
+            "\",\"message\":\"",
+            $message,
+            "\"},\"help\":\"\",\"success\":false}"
+        )
+    };
 }
 
 /// The reply where memory runs out.
@@ -51,40 +68,42 @@ fn memory_reply() -> FixedReply
 {
     FixedReply {
         status: 507,
-        text: r#"{"error":{"__type":"Memory Error","message":"Want of memory"},"help":"","success":false}"#,
+        text: failure_text!("Memory Error", "Want of memory"),
     }
 }
 
-/// The reply to a fault, if it has one. It takes no memory.
+/// The reply to a fault, if it has one.
 fn fault_reply(fault: FrontFault) -> Option<FixedReply>
     ensures { option_map fixed_text result ≡ fault_text fault }
 {
     match fault {
         FrontFault::BadHead => Some(FixedReply {
             status: 400,
-            text: r#"{"error":{"__type":"Bad Request","message":"Bad request head"},"help":"","success":false}"#,
+            text: failure_text!("Bad Request", "Bad request head"),
         }),
         FrontFault::NoLength => Some(FixedReply {
             status: 411,
-            text: r#"{"error":{"__type":"Bad Request","message":"Length required"},"help":"","success":false}"#,
+            text: failure_text!("Bad Request", "Length required"),
         }),
         FrontFault::TooLong => Some(FixedReply {
             status: 413,
-            text: r#"{"error":{"__type":"Bad Request","message":"Body too long"},"help":"","success":false}"#,
+            text: failure_text!("Bad Request", "Body too long"),
         }),
         FrontFault::NoRoute => Some(FixedReply {
             status: 404,
-            text: r#"{"error":{"__type":"Not Found Error","message":"No such page"},"help":"","success":false}"#,
+            text: failure_text!("Not Found Error", "No such page"),
         }),
         FrontFault::Method => Some(FixedReply {
             status: 405,
-            text: r#"{"error":{"__type":"Bad Request","message":"Method not allowed"},"help":"","success":false}"#,
+            text: failure_text!("Bad Request", "Method not allowed"),
         }),
         FrontFault::OutOfMemory => Some(memory_reply()),
         FrontFault::EndedEarly => None,
         FrontFault::LinkFault => None,
     }
 }
+
+// ---- the call of a request
 
 /// The name of the requested action.
 fn name_in(incoming: &Incoming) -> &str

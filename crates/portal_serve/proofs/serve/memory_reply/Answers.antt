@@ -1,7 +1,10 @@
 -- The text is a constant of the program.
-use Rattle.std.proofs.Common.{ap}
-use Rattle.portal_serve.proofs.Serving.{memory_text_is}
+use Rattle.std.proofs.Common.{ap, refl}
+use Rattle.std.specs.Prelude.{codes}
+use Rattle.serde_json.proofs.OnLiterals.{serde_json_on_literals}
+use Rattle.portal_serve.proofs.Serving.{constant_is}
 use Rattle.portal_serve.proofs.serve.memory_reply.Goals as goal
 
 pub returns : goal.returns
-returns c = ap (λ t. (507, t)) memory_text_is
+unfolding serde_json_on_literals
+returns c = ap (λ t. (507, t)) (constant_is (codes "Memory Error") (codes "Want of memory") refl refl)
