@@ -10,8 +10,7 @@ use Rattle.portal_base.proofs.OutsideLemmas.{Takes-none}
 use Rattle.portal_serve.specs.Played.{Processes, ProcessesLines, BeginsLines, StopsLines, unless_empty}
 use Rattle.action_api.specs.declared.early.Early.{Early}
 use Rattle.action_api.specs.declared.early.Early.TheVariants.{TooLong, OutOfMemory}
-use Rattle.portal_serve.specs.Script.{ScriptCall, call_of_line, call_of_reading}
-use Rattle.portal_base.specs.Json.{json_reading}
+use Rattle.portal_serve.specs.Script.{ScriptCall, call_of_line}
 use Rattle.portal_base.specs.declared.json_value.Json.{Json}
 use Rattle.portal_serve.specs.declared.script.TheConstants.{LONGEST_LINE}
 use Rattle.std.proofs.lemmas.Bool.{lt-ltb}
@@ -399,8 +398,7 @@ processes_no_line state script old none =
 pub processes_too_long : (state : State) (line : List ℕ) → LONGEST_LINE < length line
     → Processes state (unless_empty line) [] [] (early_line TooLong) state
 processes_too_long state line long =
-    let is : call_of_line line ≡ Err TooLong =
-    ap (λ b. cond b (Err TooLong) (call_of_reading (json_reading line))) (lt-ltb LONGEST_LINE (length line) long) in
+    let is : call_of_line line ≡ Err TooLong = rw (lt-ltb LONGEST_LINE (length line) long) refl in
     subst (λ ls. Processes state ls [] [] (early_line TooLong) state) (sym (unless_empty-more line (omega arith)))
     (processes_early state line TooLong is)
 

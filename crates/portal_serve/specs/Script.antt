@@ -1,13 +1,14 @@
 -- A script: its lines, and the call that a line asks for.
-use Rattle.std.specs.Prelude.{ℕ, List, [], Bool, nat_lt, length, filter, codes, Option, Some, None, Result, Ok}
-use Rattle.std.specs.Prelude.{Err, option_map, option_and_then, if◌then◌else◌}
+use Rattle.std.specs.Prelude.{ℕ, List, [], Bool, nat_lt, length, filter, codes, Option, Some, Result, Ok, Err}
+use Rattle.std.specs.Prelude.{option_map, option_and_then, ok_or, if◌then◌else◌}
+use Rattle.std.specs.Option.{option_map_or}
+use Rattle.std.specs.Result.{result_map_both}
 use Rattle.std.specs.Str.Lines.{lines}
 use Rattle.portal_base.specs.Json.{json_reading, member_of}
 use Rattle.portal_base.specs.Kinds.{text_in}
 use Rattle.portal_base.specs.declared.caller.Caller.{Caller}
 use Rattle.portal_base.specs.declared.caller.Caller.TheVariants.{Anonymous, Named}
 use Rattle.portal_base.specs.declared.json_value.Json.{Json, Map}
-use Rattle.portal_base.specs.declared.json_value.JsonFault.{JsonFault}
 use Rattle.action_api.specs.Request.{early_of, if_dictionary}
 use Rattle.action_api.specs.declared.early.Early.{Early}
 use Rattle.action_api.specs.declared.early.Early.TheVariants.{TooLong, NotJson}
@@ -27,46 +28,50 @@ pub record ScriptCall : Type 0 where
   pub action : List ℕ
   pub body : Json
 
--- the text that names the line's action
+-- ---- the members of a line
+--
+-- A line is a JSON object (RFC 8259) with these members. Other members say nothing.
+
+-- `action`, the action's name: a text
 abbrev pub action_in : Json → Option (List ℕ)
 action_in json = option_and_then text_in (member_of (codes "action") json)
 
--- the anonymous caller where the value is absent, the user of that name where it is a text
-abbrev pub caller_of : Option Json → Option Caller
-caller_of None = Some Anonymous
-caller_of (Some json) = option_map Named (text_in json)
+-- `as`, the user who calls: a text. Without it the caller is anonymous.
+abbrev pub caller_in : Json → Option Caller
+caller_in json =
+    option_map_or (λ user. option_map Named (text_in user)) (member_of (codes "as") json) (Some Anonymous)
 
--- the empty dictionary where the value is absent
-abbrev pub body_in : Option Json → Result Json Early
-body_in None = Ok (Map [])
-body_in (Some json) = if_dictionary json
+-- `body`, the body of the call: an object. Without it the body is empty.
+abbrev pub body_in : Json → Result Json Early
+body_in json = option_map_or if_dictionary (member_of (codes "body") json) (Ok (Map []))
 
--- the call of a caller for an action with a body, where the body is one
-abbrev pub script_call_with_body : List ℕ → Caller → Result Json Early → Result ScriptCall Early
-script_call_with_body action caller (Ok body) = Ok (record { caller = caller; action = action; body = body })
-script_call_with_body action caller (Err early) = Err early
+-- ---- the call of a line
 
-abbrev pub script_call_with_caller : List ℕ → Option Caller → Result Json Early → Result ScriptCall Early
-script_call_with_caller action None body = Err NotJson
-script_call_with_caller action (Some caller) body = script_call_with_body action caller body
+-- the first early fault, or the value of all steps
+infixl 10 ◌>>=◌
+abbrev pub ◌>>=◌ : {A B : Type 0} → Result A Early → (A → Result B Early) → Result B Early
+Ok x >>= next = next x
+Err early >>= next = Err early
 
-abbrev pub script_call_with_action : Option (List ℕ) → Option Caller → Result Json Early → Result ScriptCall Early
-script_call_with_action None caller body = Err NotJson
-script_call_with_action (Some action) caller body = script_call_with_caller action caller body
-
--- The call of a dictionary with a text at `action`, and at `as`, if it is there, and a dictionary at `body`, if it is
--- there. Its other keys say nothing.
+-- the call of an object with these members
 abbrev pub call_of_json : Json → Result ScriptCall Early
-call_of_json json =
-    script_call_with_action (action_in json) (caller_of (member_of (codes "as") json))
-    (body_in (member_of (codes "body") json))
+call_of_json json = do
+  action ← ok_or (action_in json) NotJson
+  caller ← ok_or (caller_in json) NotJson
+  body ← body_in json
+  Ok (record { caller = caller; action = action; body = body })
 
-abbrev pub call_of_reading : Result Json JsonFault → Result ScriptCall Early
-call_of_reading (Ok json) = call_of_json json
-call_of_reading (Err fault) = Err (early_of fault)
+-- the line, where it isn't too long
+abbrev pub if_short : List ℕ → Result (List ℕ) Early
+if_short line = if nat_lt LONGEST_LINE (length line) then Err TooLong else Ok line
 
--- The call that a line asks for, or why it asks for none: it is too long, it is no JSON or of another form, or it has
--- a number that is no `i64` and no `u64`.
+-- the JSON value of a line, where it is JSON and each of its numbers is an `i64` or a `u64`
+abbrev pub json_of_line : List ℕ → Result Json Early
+json_of_line line = result_map_both (λ json. json) early_of (json_reading line)
+
+-- The call that a line asks for, or else its first fault: it is too long, it is no JSON, it is JSON of another form.
 abbrev pub call_of_line : List ℕ → Result ScriptCall Early
-call_of_line line =
-    if nat_lt LONGEST_LINE (length line) then Err TooLong else call_of_reading (json_reading line)
+call_of_line line = do
+  short ← if_short line
+  json ← json_of_line short
+  call_of_json json

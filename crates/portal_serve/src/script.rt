@@ -1,7 +1,6 @@
 //! Scripts: the call that a line asks for.
-ghost use Rattle.std.specs.Prelude.{◌≡◌, ◌⊎◌, ◌≤◌, Ok, Err, length, codes, IfOk, IfErr};
-ghost use Rattle.portal_base.specs.Json.{member_of};
-ghost use Rattle.portal_serve.specs.Script.{action_in, caller_of, body_in, call_of_json, call_of_line};
+ghost use Rattle.std.specs.Prelude.{◌≡◌, ◌⊎◌, ◌≤◌, Ok, Err, length, IfOk, IfErr};
+ghost use Rattle.portal_serve.specs.Script.{action_in, caller_in, body_in, call_of_json, call_of_line};
 ghost use Rattle.portal_serve.specs.Values.{script_call};
 
 use action_api::early::Early;
@@ -70,7 +69,7 @@ fn read_action(alloc: Global, json: &Json) -> Result<Option<Text>, AllocError>
 
 /// The caller that the line names: anonymous where it names none. `None` where the value is no text.
 fn read_caller(alloc: Global, json: &Json) -> Result<Option<Caller>, AllocError>
-    ensures { IfOk result (λ caller. caller ≡ caller_of (member_of (codes "as") json.now)) }
+    ensures { IfOk result (λ caller. caller ≡ caller_in json.now) }
 {
     match json.get("as") {
         None => Ok(Some(Caller::Anonymous)),
@@ -83,7 +82,7 @@ fn read_caller(alloc: Global, json: &Json) -> Result<Option<Caller>, AllocError>
 
 /// The line's body, which is empty where the line has none.
 fn read_body(alloc: Global, json: Json) -> Result<Json, Early>
-    ensures { result ≡ body_in (member_of (codes "body") json) }
+    ensures { result ≡ body_in json }
 {
     match json.take("body") {
         Some(body) => dictionary(body),
