@@ -28,8 +28,7 @@ pub record MakesCall (state : State) (call : ScriptCall) (size status : ℕ) (af
     pub numbers : DrawsAll old.nonces (nonce ∷ []) new.nonces
 
 -- The call was begun: its moment and its nonce were drawn, and output took some prefix of its reply's line. The state
--- is
--- as before, or the one that the call leaves.
+-- is as before, or the one that the call leaves.
 pub record BeginsCall (state : State) (call : ScriptCall) (size : ℕ) (after : State) (old new : StageTrace) : Type 0
   where
     pub moment : ℤ

@@ -28,8 +28,7 @@ pub record ProcessesLines (state : State) (script : List (List ℕ)) (after : St
   pub numbers : DrawsAll old.nonces nonces new.nonces
 
 -- Lines were begun: what they draw was drawn, and output took some prefix of what they write. The state is as before,
--- or
--- the one that they leave.
+-- or the one that they leave.
 pub record BeginsLines (state : State) (script : List (List ℕ)) (after : State) (old new : StageTrace) : Type 0 where
   pub written : List ℕ
   pub moments : List ℤ
@@ -90,8 +89,7 @@ pub record FailsTurn (state after : State) (before : ReaderState) (reading : Rea
   pub unended : HasNoFeed stops.remaining
 
 -- The run so far on an observable input: the front of the whole that was processed, the bytes in the buffer and the
--- bytes
--- to come.
+-- bytes to come.
 pub record Running (first : State) (whole : List ℕ) (old new : DeviceTrace) (state : State) (reading : ReaderState) :
     Type 0
   where

@@ -29,8 +29,7 @@ stop_for too_much = TooLong
 stop_for no_memory = OutOfMemory
 
 -- The limit of lines that are begun and not processed where playing stops so. Input fails, or exceeds its limit,
--- between
--- two lines.
+-- between two lines.
 abbrev pub begun_limit : Stop → ℕ
 begun_limit ReadFault = 0
 begun_limit WriteFault = 1

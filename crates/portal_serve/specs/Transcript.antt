@@ -47,8 +47,7 @@ reply_line action reply = line_of (reply_text action reply)
 abbrev pub early_line : Early → List ℕ
 early_line early = reply_line None (Err early)
 
--- the outcome of the call of a line, with the moment and the nonce that were drawn for it; its size is the line's
--- length
+-- the outcome of a call of this size, with the moment and the nonce that were drawn for it
 abbrev pub outcome_of_call : State → ScriptCall → ℕ → ℤ → ℕ → RequestOutcome
 outcome_of_call state call size moment nonce =
     outcome_of_request state (known_caller state.people call.caller) size moment nonce
