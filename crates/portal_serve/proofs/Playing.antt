@@ -23,11 +23,9 @@ use Rattle.portal_serve.specs.Transcript.{ScriptState, AreDrawn, state_after, wr
 use Rattle.portal_serve.specs.Run.{Begins, DrawsAll, script_state, DeviceTrace, StageTrace, stage_trace_of, Stops}
 use Rattle.portal_serve.specs.Run.{PlaysAll, PlaysPart}
 use Rattle.portal_serve.specs.Run.{PlaysRead, GaveTooMuch, device_trace, input_limit}
-use Rattle.portal_serve.specs.Stopped.{begun_limit, end_of, begun_limit_at_end, stop_for}
+use Rattle.portal_serve.specs.Stopped.{begun_limit, end_of_fault}
 use Rattle.portal_serve.specs.declared.play.PlayEnd.{PlayEnd}
 use Rattle.portal_serve.specs.declared.play.PlayEnd.TheVariants as playing
-use Rattle.portal_serve.specs.declared.play.Stop.{Stop}
-use Rattle.portal_serve.specs.declared.play.Stop.TheVariants as stop
 use Rattle.portal_serve.specs.declared.script.TheConstants.{LONGEST_LINE}
 
 -- ---- lines
@@ -151,12 +149,12 @@ fails_between state after before reading old new bytes gives counts unended begu
   unended = unended;
 }
 
--- what stopped for a read fault, since the reader of lines failed
-pub read_failed : {T : Type 0} (fault : LineFault) (why : Stop) → why ≡ stop_for fault
-    → (let r : Result T Stop = Err why in r) ≡ Err stop.ReadFault → fault ≡ line_fault.Failed
-read_failed line_fault.Failed why is stops = refl
-read_failed line_fault.TooMuch why is stops = absurd (cc)
-read_failed line_fault.OutOfMemory why is stops = absurd (cc)
+-- playing ended by a read fault, since the reader of lines failed
+pub read_failed : (fault : LineFault) (end : PlayEnd) → end ≡ end_of_fault fault → Some end ≡ Some playing.ReadFault
+    → fault ≡ line_fault.Failed
+read_failed line_fault.Failed end is ended = refl
+read_failed line_fault.TooMuch end is ended = absurd (cc)
+read_failed line_fault.OutOfMemory end is ended = absurd (cc)
 
 -- processing a line stopped, and with it the turn
 pub stops_turn : (limit : ℕ) (state after : State) (before reading : ReaderState) (old new : DeviceTrace)
@@ -461,10 +459,34 @@ pub gave_within : (state after : State) (whole : List ℕ) (old new : DeviceTrac
     → GaveTooMuch whole new.to_come → ⊥
 gave_within state after whole old new all gave = omega (arith, all.small, gave.2)
 
--- the same fault of another result
-pub same_err : {A B E : Type 0} (x y : E) → (let r : Result A E = Err x in r) ≡ Err y
-    → (let r : Result B E = Err x in r) ≡ Err y
-same_err x y is = let same : x ≡ y = cc in ap (λ e. Err e) same
+-- Playing ended with `TooLong` exactly if input gave too much.
+pub too_long_at_end : (first : State) (old mid new : DeviceTrace) (state after : State) (before reading : ReaderState)
+    (end : PlayEnd)
+    → Keeps first old mid state before → reading.limit ≡ before.limit
+    → (end ≡ playing.Done → EndsTurn state after before reading mid new)
+    → (end ≡ playing.Done → reading.received ≤ reading.limit)
+    → (end ≢ playing.Done → StopsTurn (begun_limit end) state after before reading mid new)
+    → (Some end ≡ Some playing.TooLong) ↔ (reading.limit < reading.received) → (whole : List ℕ)
+    → old.to_come ≡ Some whole → (end ≡ playing.TooLong) ↔ GaveTooMuch whole new.to_come
+too_long_at_end first old mid new state after before reading end k same ends within stops too_long whole observed =
+    by end refl
+  where
+    stopped : end ≢ playing.Done → (end ≡ playing.TooLong) ↔ GaveTooMuch whole new.to_come
+    stopped other =
+        let much = gave_too_much first old mid new state after before reading (begun_limit end) k (stops other) same whole
+        observed in
+        (λ is. much.0 (too_long.0 (ap Some is)), λ gave. let ended = too_long.1 (much.1 gave) in cc)
+
+    by : (e : PlayEnd) → end ≡ e → (end ≡ playing.TooLong) ↔ GaveTooMuch whole new.to_come
+    by playing.Done is = (
+      λ long. absurd (cc),
+      λ gave. absurd (gave_within first after whole old new
+          (keeps_all first old mid new state after before reading k (ends is) same (within is) whole observed) gave),
+    )
+    by playing.ReadFault is = stopped (λ done. absurd (cc))
+    by playing.WriteFault is = stopped (λ done. absurd (cc))
+    by playing.TooLong is = stopped (λ done. absurd (cc))
+    by playing.OutOfMemory is = stopped (λ done. absurd (cc))
 
 -- nothing passed where nothing was tried
 pub plays_nothing : (limit : ℕ) (first : State) (old : DeviceTrace) (whole : List ℕ) → old.to_come ≡ Some whole
@@ -480,36 +502,6 @@ plays_nothing limit first old whole observed =
 
     gives : Gives old.to_come [] old.to_come
     gives = subst (λ o. Gives o [] o) (sym observed) (whole, refl, refl)
-
--- what passed where playing was cut, by how it ended
-pub cut_by_end : {T : Type 0} (first after : State) (old new : DeviceTrace) (ended : Result T Stop) (end : PlayEnd)
-    → end ≡ end_of ended
-    → IfErr ended (λ why. (whole : List ℕ) → old.to_come ≡ Some whole
-    → PlaysPart (begun_limit why) first whole after old new)
-    → end ≢ playing.Done → (whole : List ℕ) → old.to_come ≡ Some whole
-    → PlaysPart (begun_limit_at_end end) first whole after old new
-cut_by_end first after old new (Ok done) end is parts cut = absurd (cut is)
-cut_by_end first after old new (Err stop.ReadFault) end is parts cut =
-    λ whole observed. subst (λ e. PlaysPart (begun_limit_at_end e) first whole after old new) (sym is)
-    (parts whole observed)
-cut_by_end first after old new (Err stop.WriteFault) end is parts cut =
-    λ whole observed. subst (λ e. PlaysPart (begun_limit_at_end e) first whole after old new) (sym is)
-    (parts whole observed)
-cut_by_end first after old new (Err stop.TooLong) end is parts cut =
-    λ whole observed. subst (λ e. PlaysPart (begun_limit_at_end e) first whole after old new) (sym is)
-    (parts whole observed)
-cut_by_end first after old new (Err stop.OutOfMemory) end is parts cut =
-    λ whole observed. subst (λ e. PlaysPart (begun_limit_at_end e) first whole after old new) (sym is)
-    (parts whole observed)
-
--- what holds where playing stopped for a read fault
-pub read_by_end : {T : Type 0} (ended : Result T Stop) (end : PlayEnd) (P : Type 0) → end ≡ end_of ended
-    → (ended ≡ Err stop.ReadFault → P) → end ≡ playing.ReadFault → P
-read_by_end (Ok done) end P is gives read = absurd (cc)
-read_by_end (Err stop.ReadFault) end P is gives read = gives refl
-read_by_end (Err stop.WriteFault) end P is gives read = absurd (cc)
-read_by_end (Err stop.TooLong) end P is gives read = absurd (cc)
-read_by_end (Err stop.OutOfMemory) end P is gives read = absurd (cc)
 
 -- the same where the traces of output, the clock and the nonces have other names
 pub read_as : (first after : State) (whole : List ℕ) (old : DeviceTrace) (observed : Option (List ℕ))

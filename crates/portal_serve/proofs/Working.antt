@@ -27,9 +27,10 @@ use Rattle.portal_core.specs.Opened.{known_caller}
 use Rattle.portal_core.specs.Step.{call_step}
 use Rattle.portal_calls.specs.declared.event.Reply.{Reply}
 use Rattle.portal_serve.specs.Run.{Begins, DrawsAll, script_state, StageTrace}
-use Rattle.portal_serve.specs.Stopped.{IsOfLine, begun_limit}
-use Rattle.portal_serve.specs.declared.play.Stop.{Stop}
-use Rattle.portal_serve.specs.declared.play.Stop.TheVariants as stop
+use Rattle.portal_serve.specs.Stopped.{end_of_call, begun_limit}
+use Rattle.portal_serve.specs.declared.calls.CallStop.{CallStop}
+use Rattle.portal_serve.specs.declared.calls.CallStop.TheVariants as call_stop
+use Rattle.portal_serve.specs.declared.play.PlayEnd.{PlayEnd}
 
 pub written_for-append : (s : ScriptState) (ls more : List (List ℕ))
     → written_for s (ls ++ more) ≡ written_for s ls ++ written_for (script_state_after s ls) more
@@ -356,11 +357,9 @@ pub stops_before : (state : State) (script : List (List ℕ)) (old : StageTrace)
 stops_before state script old = inl (begins_no_line state old old refl)
 
 -- processing a line stops after the line was begun
-pub begun_in_line : (why : Stop) → IsOfLine why → 1 ≤ begun_limit why
-begun_in_line stop.ReadFault of_line = absurd of_line
-begun_in_line stop.WriteFault of_line = omega arith
-begun_in_line stop.TooLong of_line = absurd of_line
-begun_in_line stop.OutOfMemory of_line = omega arith
+pub begun_in_line : (why : CallStop) (end : PlayEnd) → end ≡ end_of_call why → 1 ≤ begun_limit end
+begun_in_line call_stop.WriteFault end is = subst (λ e. 1 ≤ begun_limit e) (sym is) (omega arith)
+begun_in_line call_stop.OutOfMemory end is = subst (λ e. 1 ≤ begun_limit e) (sym is) (omega arith)
 
 pub on_err_always : {T E P : Type 0} (r : Result T E) → P → OnErr r P
 on_err_always (Ok x) p = tt

@@ -1,10 +1,10 @@
 //! Playing a script: the loop over its lines, which holds one line and the portal.
-ghost use Rattle.std.specs.Prelude.{◌≡◌, ◌≢◌, ◌⊎◌, ◌↔◌, ◌<◌, ◌≤◌, ℕ, List, [], ◌∷◌, true, false, Some, Ok, Err};
-ghost use Rattle.std.specs.Prelude.{length, IfOk, IfErr, OnOk, OnErr};
+ghost use Rattle.std.specs.Prelude.{◌≡◌, ◌≢◌, ◌↔◌, ◌<◌, ◌≤◌, ℕ, List, [], ◌∷◌, Some, None, Ok, Err, length};
+ghost use Rattle.std.specs.Prelude.{IfSome, OnOk, OnErr};
 ghost use Rattle.portal_base.specs.Outside.{Rose, Takes, TakesPrefix};
 ghost use Rattle.portal_serve.specs.Played.{ProcessesLines, StopsLines, TakesTurn, EndsTurn, StopsTurn, FailsTurn};
 ghost use Rattle.portal_serve.specs.Played.{unless_empty};
-ghost use Rattle.portal_serve.specs.Stopped.{IsOfLine, end_of, stop_for, begun_limit, begun_limit_at_end};
+ghost use Rattle.portal_serve.specs.Stopped.{end_of_call, end_of_fault, begun_limit};
 ghost use Rattle.portal_serve.specs.Run.{device_trace, with_input};
 ghost use Rattle.portal_serve.specs.Stage.{AreSameLoans, trace_of};
 ghost use Rattle.portal_lines.specs.Lines.{bytes_left};
@@ -21,7 +21,7 @@ use action_api::early::Early;
 use portal_base::outside::{Clock, Nonces, Sink, Source};
 use portal_core::portal::Portal;
 use portal_lines::lines::{LineFault, LineReader, NextLine};
-use std::alloc::{AllocError, Global};
+use std::alloc::Global;
 
 /// The limit of bytes that input may give: 2^40.
 const INPUT_LIMIT: u64 = 1 << 40;
@@ -41,40 +41,6 @@ pub enum PlayEnd {
     OutOfMemory,
 }
 
-/// Why playing stopped before the end of its input.
-#[derive(Clone, Copy, Debug, PartialEq, Eq)]
-enum Stop {
-    ReadFault,
-    WriteFault,
-    TooLong,
-    OutOfMemory,
-}
-
-impl From<AllocError> for Stop {
-    ghost use Rattle.std.specs.Prelude.{◌≡◌};
-    ghost use Rattle.portal_serve.specs.declared.play.Stop.TheVariants.{OutOfMemory};
-
-    ghost from_gives = { λ _ stop. stop ≡ OutOfMemory };
-
-    fn from(_refused: AllocError) -> Stop {
-        Stop::OutOfMemory
-    }
-}
-
-impl From<CallStop> for Stop {
-    ghost use Rattle.std.specs.Prelude.{◌≡◌};
-    ghost use Rattle.portal_serve.specs.Stopped.{stop_of_call};
-
-    ghost from_gives = { λ why stop. stop ≡ stop_of_call why };
-
-    fn from(why: CallStop) -> Stop {
-        match why {
-            CallStop::WriteFault => Stop::WriteFault,
-            CallStop::OutOfMemory => Stop::OutOfMemory,
-        }
-    }
-}
-
 /// Plays the call that a line asks for.
 fn play_call<O: Sink, C: Clock, N: Nonces>(
     alloc: Global,
@@ -82,20 +48,21 @@ fn play_call<O: Sink, C: Clock, N: Nonces>(
     call: ScriptCall,
     line: &[u8],
     stage: &mut Stage<'_, '_, '_, O, C, N>,
-) -> Result<(), Stop>
+) -> Result<(), CallStop>
     requires { call_of_line line.now ≡ Ok (script_call call) }
     ensures ok { OnOk result (ProcessesLines portal.old (line.now ∷ []) portal.new
         (trace_of O.taken C.given N.given stage.old) (trace_of O.taken C.given N.given stage.new)) }
     ensures cut { OnErr result (StopsLines portal.old (line.now ∷ []) portal.new
         (trace_of O.taken C.given N.given stage.old) (trace_of O.taken C.given N.given stage.new)) }
-    ensures fault { result ≡ Err Stop.WriteFault
+    ensures fault { result ≡ Err CallStop.WriteFault
         → Rose (O.faults stage.old.output.now) (O.faults stage.new.output.now) }
-    ensures stop { IfErr result IsOfLine }
     ensures counts { O.faults stage.old.output.now ≤ O.faults stage.new.output.now }
     ensures loans { AreSameLoans stage.old stage.new }
 {
-    let _status = make_call(alloc, portal, call, line.len() as u64, stage)?;
-    Ok(())
+    match make_call(alloc, portal, call, line.len() as u64, stage) {
+        Ok(_status) => Ok(()),
+        Err(stop) => Err(stop),
+    }
 }
 
 /// Writes the line for a line that asks for no call.
@@ -103,20 +70,19 @@ fn write_early<O: Sink, C: Clock, N: Nonces>(
     alloc: Global,
     early: Early,
     stage: &mut Stage<'_, '_, '_, O, C, N>,
-) -> Result<(), Stop>
+) -> Result<(), CallStop>
     ensures ok { OnOk result (Takes (O.taken stage.old.output.now) (early_line early) (O.taken stage.new.output.now)) }
     ensures failed { OnErr result (TakesPrefix (O.taken stage.old.output.now) (early_line early)
         (O.taken stage.new.output.now)) }
-    ensures fault { result ≡ Err Stop.WriteFault
+    ensures fault { result ≡ Err CallStop.WriteFault
         → Rose (O.faults stage.old.output.now) (O.faults stage.new.output.now) }
-    ensures stop { IfErr result IsOfLine }
     ensures counts { O.faults stage.old.output.now ≤ O.faults stage.new.output.now }
     ensures clock { stage.new.clock.now ≡ stage.old.clock.now }
     ensures nonces { stage.new.nonces.now ≡ stage.old.nonces.now }
     ensures loans { AreSameLoans stage.old stage.new }
 {
     let text = render_line(alloc, None, &Err(early))?;
-    Ok(write_line(stage, text.as_slice())?)
+    write_line(stage, text.as_slice())
 }
 
 /// Processes a line, and skips an empty one.
@@ -125,15 +91,14 @@ fn play_line<O: Sink, C: Clock, N: Nonces>(
     portal: &mut Portal,
     line: &[u8],
     stage: &mut Stage<'_, '_, '_, O, C, N>,
-) -> Result<(), Stop>
+) -> Result<(), CallStop>
     requires { length line.now ≤ LONGEST_LINE }
     ensures ok { OnOk result (ProcessesLines portal.old (unless_empty line.now) portal.new
         (trace_of O.taken C.given N.given stage.old) (trace_of O.taken C.given N.given stage.new)) }
     ensures cut { OnErr result (StopsLines portal.old (unless_empty line.now) portal.new
         (trace_of O.taken C.given N.given stage.old) (trace_of O.taken C.given N.given stage.new)) }
-    ensures fault { result ≡ Err Stop.WriteFault
+    ensures fault { result ≡ Err CallStop.WriteFault
         → Rose (O.faults stage.old.output.now) (O.faults stage.new.output.now) }
-    ensures stop { IfErr result IsOfLine }
     ensures counts { O.faults stage.old.output.now ≤ O.faults stage.new.output.now }
     ensures loans { AreSameLoans stage.old stage.new }
 {
@@ -142,68 +107,79 @@ fn play_line<O: Sink, C: Clock, N: Nonces>(
     }
     match read_call(alloc, line) {
         Ok(call) => play_call(alloc, portal, call, line, stage),
-        Err(Early::OutOfMemory) => Err(Stop::OutOfMemory),
+        Err(Early::OutOfMemory) => Err(CallStop::OutOfMemory),
         Err(early) => write_early(alloc, early, stage),
     }
 }
 
-fn stop_of(fault: LineFault) -> Stop
-    ensures { result ≡ stop_for fault }
+/// How playing ends where processing a line stops.
+fn end_of_call(stop: CallStop) -> PlayEnd
+    ensures { result ≡ end_of_call stop }
 {
-    match fault {
-        LineFault::Failed => Stop::ReadFault,
-        LineFault::TooMuch => Stop::TooLong,
-        LineFault::OutOfMemory => Stop::OutOfMemory,
+    match stop {
+        CallStop::WriteFault => PlayEnd::WriteFault,
+        CallStop::OutOfMemory => PlayEnd::OutOfMemory,
     }
 }
 
-/// Processes the next line of input, and returns whether there was one.
+/// How playing ends where the next line can't be read.
+fn end_of_fault(fault: LineFault) -> PlayEnd
+    ensures { result ≡ end_of_fault fault }
+{
+    match fault {
+        LineFault::Failed => PlayEnd::ReadFault,
+        LineFault::TooMuch => PlayEnd::TooLong,
+        LineFault::OutOfMemory => PlayEnd::OutOfMemory,
+    }
+}
+
+/// Processes the next line of input. If playing ended with it, returns how.
 fn play_next<S: Source, O: Sink, C: Clock, N: Nonces>(
     alloc: Global,
     portal: &mut Portal,
     reader: &mut LineReader,
     input: &mut S,
     stage: &mut Stage<'_, '_, '_, O, C, N>,
-) -> Result<bool, Stop>
+) -> Option<PlayEnd>
     requires { reader.old.longest ≡ LONGEST_LINE }
     ensures longest { reader.new.longest ≡ reader.old.longest }
     ensures limit { reader.new.limit ≡ reader.old.limit }
 
-    ensures more { result ≡ Ok true → TakesTurn portal.old portal.new reader.old reader.new
+    ensures more { result ≡ None → TakesTurn portal.old portal.new reader.old reader.new
         (with_input (S.to_come input.old) (trace_of O.taken C.given N.given stage.old))
         (with_input (S.to_come input.new) (trace_of O.taken C.given N.given stage.new)) }
-    ensures falls { result ≡ Ok true → bytes_left reader.new < bytes_left reader.old }
-    ensures end { result ≡ Ok false → EndsTurn portal.old portal.new reader.old reader.new
+    ensures falls { result ≡ None → bytes_left reader.new < bytes_left reader.old }
+    ensures end { result ≡ Some PlayEnd.Done → EndsTurn portal.old portal.new reader.old reader.new
         (with_input (S.to_come input.old) (trace_of O.taken C.given N.given stage.old))
         (with_input (S.to_come input.new) (trace_of O.taken C.given N.given stage.new)) }
-    ensures within { OnOk result (reader.new.received ≤ reader.new.limit) }
+    ensures within { result ≡ Some PlayEnd.Done → reader.new.received ≤ reader.new.limit }
 
-    ensures cut { IfErr result (λ stop. StopsTurn (begun_limit stop) portal.old portal.new
+    ensures cut { IfSome result (λ end. end ≢ PlayEnd.Done → StopsTurn (begun_limit end) portal.old portal.new
         reader.old reader.new
         (with_input (S.to_come input.old) (trace_of O.taken C.given N.given stage.old))
         (with_input (S.to_come input.new) (trace_of O.taken C.given N.given stage.new))) }
-    ensures unended { result ≡ Err Stop.ReadFault → FailsTurn portal.old portal.new reader.old reader.new
+    ensures unended { result ≡ Some PlayEnd.ReadFault → FailsTurn portal.old portal.new reader.old reader.new
         (with_input (S.to_come input.old) (trace_of O.taken C.given N.given stage.old))
         (with_input (S.to_come input.new) (trace_of O.taken C.given N.given stage.new)) }
-    ensures read_fault { result ≡ Err Stop.ReadFault → Rose (S.faults input.old) (S.faults input.new) }
-    ensures write_fault { result ≡ Err Stop.WriteFault
+    ensures read_fault { result ≡ Some PlayEnd.ReadFault → Rose (S.faults input.old) (S.faults input.new) }
+    ensures write_fault { result ≡ Some PlayEnd.WriteFault
         → Rose (O.faults stage.old.output.now) (O.faults stage.new.output.now) }
-    ensures too_long { (result ≡ Err Stop.TooLong) ↔ (reader.new.limit < reader.new.received) }
+    ensures too_long { (result ≡ Some PlayEnd.TooLong) ↔ (reader.new.limit < reader.new.received) }
     ensures reads { S.faults input.old ≤ S.faults input.new }
     ensures writes { O.faults stage.old.output.now ≤ O.faults stage.new.output.now }
     ensures loans { AreSameLoans stage.old stage.new }
 {
     match reader.next(input) {
         Ok(NextLine::Line) => match play_line(alloc, portal, reader.line(), stage) {
-            Ok(()) => Ok(true),
-            Err(stop) => Err(stop),
+            Ok(()) => None,
+            Err(stop) => Some(end_of_call(stop)),
         },
         Ok(NextLine::TooLong) => match write_early(alloc, Early::TooLong, stage) {
-            Ok(()) => Ok(true),
-            Err(stop) => Err(stop),
+            Ok(()) => None,
+            Err(stop) => Some(end_of_call(stop)),
         },
-        Ok(NextLine::End) => Ok(false),
-        Err(fault) => Err(stop_of(fault)),
+        Ok(NextLine::End) => Some(PlayEnd::Done),
+        Err(fault) => Some(end_of_fault(fault)),
     }
 }
 
@@ -213,49 +189,35 @@ fn play_lines<S: Source, O: Sink, C: Clock, N: Nonces>(
     portal: &mut Portal,
     input: &mut S,
     stage: &mut Stage<'_, '_, '_, O, C, N>,
-) -> Result<(), Stop>
-    ensures done { OnOk result ((whole : List ℕ) → S.to_come input.old ≡ Some whole
+) -> PlayEnd
+    ensures done { result ≡ PlayEnd.Done → (whole : List ℕ) → S.to_come input.old ≡ Some whole
         → PlaysAll portal.old whole portal.new
         (with_input (S.to_come input.old) (trace_of O.taken C.given N.given stage.old))
-        (with_input (S.to_come input.new) (trace_of O.taken C.given N.given stage.new))) }
-    ensures cut { IfErr result (λ stop. (whole : List ℕ) → S.to_come input.old ≡ Some whole
-        → PlaysPart (begun_limit stop) portal.old whole portal.new
+        (with_input (S.to_come input.new) (trace_of O.taken C.given N.given stage.new)) }
+    ensures cut { result ≢ PlayEnd.Done → (whole : List ℕ) → S.to_come input.old ≡ Some whole
+        → PlaysPart (begun_limit result) portal.old whole portal.new
         (with_input (S.to_come input.old) (trace_of O.taken C.given N.given stage.old))
-        (with_input (S.to_come input.new) (trace_of O.taken C.given N.given stage.new))) }
+        (with_input (S.to_come input.new) (trace_of O.taken C.given N.given stage.new)) }
 
-    ensures unended { result ≡ Err Stop.ReadFault → (whole : List ℕ) → S.to_come input.old ≡ Some whole
+    ensures unended { result ≡ PlayEnd.ReadFault → (whole : List ℕ) → S.to_come input.old ≡ Some whole
         → PlaysRead portal.old whole portal.new
         (with_input (S.to_come input.old) (trace_of O.taken C.given N.given stage.old))
         (with_input (S.to_come input.new) (trace_of O.taken C.given N.given stage.new)) }
-    ensures read_fault { result ≡ Err Stop.ReadFault → Rose (S.faults input.old) (S.faults input.new) }
-    ensures write_fault { result ≡ Err Stop.WriteFault
+    ensures read_fault { result ≡ PlayEnd.ReadFault → Rose (S.faults input.old) (S.faults input.new) }
+    ensures write_fault { result ≡ PlayEnd.WriteFault
         → Rose (O.faults stage.old.output.now) (O.faults stage.new.output.now) }
     ensures too_long { (whole : List ℕ) → S.to_come input.old ≡ Some whole →
-        ((result ≡ Err Stop.TooLong) ↔ GaveTooMuch whole (S.to_come input.new)) }
+        ((result ≡ PlayEnd.TooLong) ↔ GaveTooMuch whole (S.to_come input.new)) }
     ensures loans { AreSameLoans stage.old stage.new }
 {
     let mut reader = match LineReader::new(alloc, LONGEST_LINE, INPUT_LIMIT) {
         Ok(reader) => reader,
-        Err(_refused) => return Err(Stop::OutOfMemory),
+        Err(_refused) => return PlayEnd::OutOfMemory,
     };
     'lines: loop {
-        match play_next(alloc, portal, &mut reader, input, stage) {
-            Ok(true) => {}
-            Ok(false) => return Ok(()),
-            Err(stop) => return Err(stop),
+        if let Some(end) = play_next(alloc, portal, &mut reader, input, stage) {
+            return end;
         }
-    }
-}
-
-fn end_of(ended: Result<(), Stop>) -> PlayEnd
-    ensures { result ≡ end_of ended }
-{
-    match ended {
-        Ok(()) => PlayEnd::Done,
-        Err(Stop::ReadFault) => PlayEnd::ReadFault,
-        Err(Stop::WriteFault) => PlayEnd::WriteFault,
-        Err(Stop::TooLong) => PlayEnd::TooLong,
-        Err(Stop::OutOfMemory) => PlayEnd::OutOfMemory,
     }
 }
 
@@ -278,7 +240,7 @@ pub fn play<S: Source, O: Sink, C: Clock, N: Nonces>(
     // Otherwise the moments and nonces drawn, the bytes that output took and the portal's state belong to one position
     // in the script.
     ensures cut { result ≢ PlayEnd.Done → (whole : List ℕ) → S.to_come input.old ≡ Some whole
-        → PlaysPart (begun_limit_at_end result) portal.old whole portal.new
+        → PlaysPart (begun_limit result) portal.old whole portal.new
         (device_trace (S.to_come input.old) (O.taken output.old) (C.given clock.old) (N.given nonces.old))
         (device_trace (S.to_come input.new) (O.taken output.new) (C.given clock.new) (N.given nonces.new)) }
 
@@ -297,5 +259,5 @@ pub fn play<S: Source, O: Sink, C: Clock, N: Nonces>(
         clock,
         nonces,
     };
-    end_of(play_lines(alloc, portal, input, &mut stage))
+    play_lines(alloc, portal, input, &mut stage)
 }

@@ -13,7 +13,7 @@ use Rattle.portal_serve.proofs.Playing.{all_from, part_from, read_from}
 use Rattle.portal_serve.specs.Desk.{DeskTrace, ServesDesk}
 use Rattle.portal_serve.specs.Run.{DeviceTrace, PlaysAll, PlaysPart, PlaysRead}
 use Rattle.portal_serve.specs.Served.{LinkTrace}
-use Rattle.portal_serve.specs.Stopped.{begun_limit_at_end}
+use Rattle.portal_serve.specs.Stopped.{begun_limit}
 use Rattle.portal_serve.specs.declared.play.PlayEnd.{PlayEnd}
 use Rattle.portal_serve.specs.declared.play.PlayEnd.TheVariants as playing
 
@@ -21,7 +21,7 @@ use Rattle.portal_serve.specs.declared.play.PlayEnd.TheVariants as playing
 pub plays_by : (first state after : State) (old new : DeviceTrace) (end : PlayEnd) → first ≡ state
     → (end ≡ playing.Done → (whole : List ℕ) → old.to_come ≡ Some whole → PlaysAll first whole after old new)
     → (end ≢ playing.Done → (whole : List ℕ) → old.to_come ≡ Some whole
-    → PlaysPart (begun_limit_at_end end) first whole after old new)
+    → PlaysPart (begun_limit end) first whole after old new)
     → (end ≡ playing.ReadFault → (whole : List ℕ) → old.to_come ≡ Some whole → PlaysRead first whole after old new)
     → Plays state old new (status_for end)
 plays_by first state after old new playing.Done is all part read =

@@ -9,8 +9,9 @@ use Rattle.portal_serve.proofs.play.play_next.Goals as goal
 
 pub returns-in-Err-play_line-clause-cut : goal.returns-in-Err-play_line-clause-cut
 returns-in-Err-play_line-clause-cut g c =
+    λ other.
     stops_turn _ _ _ _ _ _ _ _ (c.next.ensures.line (c.in-Ok-Line.is ∙ ap Ok c.in-Ok-Line.field-0-is))
-    (begun_in_line _ c.in-Err-play_line.ensures.stop)
+    (begun_in_line _ _ c.end_of_call.ensures)
     (stops_same_line _ _ _ _ _ _ c.line.ensures c.in-Err-play_line.ensures.cut)
 
 pub returns-in-Ok-write_early-clause-more : goal.returns-in-Ok-write_early-clause-more
@@ -29,7 +30,8 @@ pub returns-in-Err-write_early-clause-cut : goal.returns-in-Err-write_early-clau
 returns-in-Err-write_early-clause-cut g c =
     let skips = c.next.ensures.long (c.in-Ok-TooLong.is ∙ ap Ok c.in-Ok-TooLong.field-0-is) in
     let long : LONGEST_LINE < length skips.0 = subst (λ n. n < length skips.0) c.requires skips.2 in
-    stops_turn _ _ _ _ _ _ _ skips.0 skips.1 (begun_in_line _ c.in-Err-write_early.ensures.stop)
+    λ other.
+    stops_turn _ _ _ _ _ _ _ skips.0 skips.1 (begun_in_line _ _ c.end_of_call-in-Err-write_early.ensures)
     (stops_in_writing _ _ _ _ _ _ _ _ (processes_too_long _ skips.0 long)
     (DrawsAll-same _ _ (ap g.C.Clock.given c.in-Err-write_early.ensures.clock))
     (DrawsAll-same _ _ (ap g.N.Nonces.given c.in-Err-write_early.ensures.nonces)) c.in-Err-write_early.ensures.failed)
@@ -37,11 +39,11 @@ returns-in-Err-write_early-clause-cut g c =
 pub returns-in-Err-clause-cut : goal.returns-in-Err-clause-cut
 returns-in-Err-clause-cut g c =
     let received = c.in-Err.ensures.received in
-    stops_between _ _ _ _ _ _ _ received.0 received.1 received.2 (begins_no_line _ _ _ refl)
+    λ other. stops_between _ _ _ _ _ _ _ received.0 received.1 received.2 (begins_no_line _ _ _ refl)
 
 pub returns-in-Err-clause-unended : goal.returns-in-Err-clause-unended
 returns-in-Err-clause-unended g c =
     λ stops.
-    let failed = read_failed c.in-Err.fault c.stop_of.result c.stop_of.ensures stops in
+    let failed = read_failed c.in-Err.fault c.end_of_fault.result c.end_of_fault.ensures stops in
     let received = c.next.ensures.unended (c.in-Err.is ∙ ap (λ f. Err f) failed) in
     fails_between _ _ _ _ _ _ received.0 received.1 received.2 received.3 (begins_no_line _ _ _ refl)
