@@ -72,14 +72,16 @@ stops_begun state after line call old new is begun =
     let text = reply_line (Some call.action) (outcome_of_call state call (length line) m n).reply in
     let w = processes_call state line call m n is in
     inr (record {
-      written = take begun.output.0 text;
-      moments = m ∷ [];
-      nonces = n ∷ [];
+      passed = record {
+        written = take begun.output.0 text;
+        moments = m ∷ [];
+        nonces = n ∷ [];
+        output = begun.output.2;
+        clock = begun.clock;
+        numbers = begun.numbers;
+      };
       moments_drawn = w.moments_drawn;
       nonces_drawn = w.nonces_drawn;
       begins = subst (λ t. Begins (take begun.output.0 text) t) (sym w.output) (begins_take begun.output.0 text);
       leaves = left_by_call state after _ _ w.leaves begun.leaves;
-      output = begun.output.2;
-      clock = begun.clock;
-      numbers = begun.numbers;
     })

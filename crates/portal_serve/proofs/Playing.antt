@@ -1,11 +1,10 @@
 -- A run on an observable input: how each turn carries it on, and what holds at its end.
 use Rattle.std.proofs.Common.{◌≡◌, ◌≢◌, ◌⊎◌, ℕ, ◌+◌, ◌<◌, ◌≤◌, ℤ, List, [], ◌∷◌, ◌++◌, Bool, true, false, cond, length}
-use Rattle.std.proofs.Common.{Option, Some, Result, Ok, Err, IfErr, refl, sym, ap, subst, ◌∙◌, append_assoc, append-nil}
+use Rattle.std.proofs.Common.{Option, Some, refl, sym, ap, subst, ◌∙◌, append_assoc, append-nil}
 use Rattle.std.proofs.Common.{length-append, inl, inr, arith}
 use Rattle.std.proofs.lemmas.List.Elements.{filter-append}
 use Rattle.std.specs.Prelude.{◌↔◌, filter}
 use Rattle.std.specs.Str.Lines.{lines}
-use Rattle.portal_base.proofs.OutsideLemmas.{Takes-none, Takes-append}
 use Rattle.portal_base.specs.Outside.{Gives, IsAtEnd}
 use Rattle.portal_lines.specs.PartialLines.{HasNoFeed}
 use Rattle.portal_lines.specs.Lines.{ReaderState, EndsLine, TakesLine}
@@ -14,7 +13,7 @@ use Rattle.portal_lines.specs.declared.lines.LineFault.TheVariants as line_fault
 use Rattle.portal_serve.proofs.Working.{processes_none, processes_more, processes_wrote, processes_then, processes_left}
 use Rattle.portal_serve.proofs.Working.{AreDrawn-append}
 use Rattle.portal_serve.proofs.Working.{script_state_after-append}
-use Rattle.portal_serve.proofs.Working.{DrawsAll-none, DrawsAll-more, begins_no_line}
+use Rattle.portal_serve.proofs.Working.{passed_none, passed_more, begins_no_line}
 use Rattle.portal_serve.specs.Played.{Processes, BeginsLines, StopsLines, TakesTurn, EndsTurn, StopsTurn, EndsAll}
 use Rattle.portal_serve.specs.Played.{FailsTurn, Running, unless_empty}
 use Rattle.portal_serve.specs.Script.{script_lines, is_nonempty}
@@ -188,17 +187,12 @@ pub running_start : (first : State) (whole : List ℕ) (old : DeviceTrace) (read
 running_start first whole old reading observed buffered received = record {
   front = [];
   rest = whole;
-  written = [];
-  moments = [];
-  nonces = [];
+  passed = passed_none (stage_trace_of old);
   input = observed;
   splits = sym (ap (λ h. h ++ whole) buffered);
   received = omega (arith, received);
   ended = inl (λ more. refl);
   processes = processes_none first;
-  output = Takes-none old.taken;
-  clock = DrawsAll-none old.moments;
-  numbers = DrawsAll-none old.nonces;
 }
 
 -- one turn more
@@ -218,25 +212,20 @@ running_turn first whole old mid new state after before reading r t =
     a.both ∙ ap (λ ls. script_lines r.front ++ filter is_nonempty ls) t.takes.only in
     let total : length r.rest ≡ length t.takes.bytes + length g.more =
     ap length g.splits ∙ length-append t.takes.bytes g.more in
+    let p = t.processes.passed in
     record {
       front = r.front ++ t.takes.front;
       rest = g.more;
-      written = r.written ++ t.processes.written;
-      moments = r.moments ++ t.processes.moments;
-      nonces = r.nonces ++ t.processes.nonces;
+      passed = passed_more (stage_trace_of old) (stage_trace_of mid) (stage_trace_of new) r.passed t.processes.passed;
       input = g.observed;
       splits = a.splits;
       received = omega (arith, total, t.takes.counts, r.received);
       ended = a.ended;
       processes = subst
-          (λ ls. Processes first ls (r.moments ++ t.processes.moments) (r.nonces ++ t.processes.nonces)
-          (r.written ++ t.processes.written) after) (sym script)
-          (processes_more first state after (script_lines r.front) (unless_empty t.line) r.moments t.processes.moments
-          r.nonces t.processes.nonces r.written t.processes.written r.processes t.processes.processes);
-      output = Takes-append old.taken mid.taken new.taken r.written t.processes.written r.output t.processes.output;
-      clock = DrawsAll-more old.moments mid.moments new.moments r.moments t.processes.moments r.clock t.processes.clock;
-      numbers = DrawsAll-more old.nonces mid.nonces new.nonces r.nonces t.processes.nonces r.numbers
-          t.processes.numbers;
+          (λ ls. Processes first ls (r.passed.moments ++ p.moments) (r.passed.nonces ++ p.nonces)
+          (r.passed.written ++ p.written) after) (sym script)
+          (processes_more first state after (script_lines r.front) (unless_empty t.line) r.passed.moments p.moments
+          r.passed.nonces p.nonces r.passed.written p.written r.processes t.processes.processes);
     }
 
 -- ---- the end of a run
@@ -302,28 +291,30 @@ plays_part limit first whole old mid new state after before reading r t =
     advances whole r.front before.buffered r.rest t.bytes g.more t.front t.remaining new.to_come r.splits r.ended
     g.splits
     t.splits g.observed t.ended in
+    let p = t.begun.passed in
+    let both = passed_more (stage_trace_of old) (stage_trace_of mid) (stage_trace_of new) r.passed p in
     record {
       passed = record {
         read = (r.front ++ t.front) ++ t.remaining;
         rest = g.more;
-        written = r.written ++ t.begun.written;
-        moments = r.moments ++ t.begun.moments;
-        nonces = r.nonces ++ t.begun.nonces;
+        written = r.passed.written ++ p.written;
+        moments = r.passed.moments ++ p.moments;
+        nonces = r.passed.nonces ++ p.nonces;
         input = g.observed;
         splits = a.splits ∙ sym (append_assoc (r.front ++ t.front) t.remaining g.more);
-        output = Takes-append old.taken mid.taken new.taken r.written t.begun.written r.output t.begun.output;
-        clock = DrawsAll-more old.moments mid.moments new.moments r.moments t.begun.moments r.clock t.begun.clock;
-        numbers = DrawsAll-more old.nonces mid.nonces new.nonces r.nonces t.begun.nonces r.numbers t.begun.numbers;
+        output = both.output;
+        clock = both.clock;
+        numbers = both.numbers;
       };
       front = r.front ++ t.front;
       remaining = t.remaining;
       splits = refl;
       first_lines = whole_lines whole (r.front ++ t.front) (t.remaining ++ g.more) a.splits a.ended;
       stops =
-          subst (λ ls. Stops limit first ls (r.moments ++ t.begun.moments) (r.nonces ++ t.begun.nonces)
-          (r.written ++ t.begun.written) after) (sym a.both)
-          (stops_after limit first state after (script_lines r.front) (script_lines t.front) r.moments t.begun.moments
-          r.nonces t.begun.nonces r.written t.begun.written
+          subst (λ ls. Stops limit first ls (r.passed.moments ++ p.moments) (r.passed.nonces ++ p.nonces)
+          (r.passed.written ++ p.written) after) (sym a.both)
+          (stops_after limit first state after (script_lines r.front) (script_lines t.front) r.passed.moments p.moments
+          r.passed.nonces p.nonces r.passed.written p.written
           r.processes t.few t.begun.moments_drawn t.begun.nonces_drawn t.begun.begins t.begun.leaves);
     }
 
@@ -352,25 +343,25 @@ plays_all first whole old mid new state after before reading r t few =
       passed = record {
         read = whole;
         rest = [];
-        written = r.written;
-        moments = r.moments;
-        nonces = r.nonces;
+        written = r.passed.written;
+        moments = r.passed.moments;
+        nonces = r.passed.nonces;
         input = t.finds.observed_same ∙ r.input ∙ ap Some over;
         splits = sym (append-nil whole);
-        output = ap (λ (o : StageTrace). o.taken) t.same_trace ∙ r.output;
-        clock = subst (λ o. DrawsAll old.moments r.moments o) (sym (ap (λ (o : StageTrace). o.moments) t.same_trace))
-            r.clock;
-        numbers = subst (λ o. DrawsAll old.nonces r.nonces o) (sym (ap (λ (o : StageTrace). o.nonces) t.same_trace))
-            r.numbers;
+        output = ap (λ (o : StageTrace). o.taken) t.same_trace ∙ r.passed.output;
+        clock = subst (λ o. DrawsAll old.moments r.passed.moments o)
+            (sym (ap (λ (o : StageTrace). o.moments) t.same_trace)) r.passed.clock;
+        numbers = subst (λ o. DrawsAll old.nonces r.passed.nonces o)
+            (sym (ap (λ (o : StageTrace). o.nonces) t.same_trace)) r.passed.numbers;
       };
       at_end = refl;
       small = omega (arith, r.received, empty, t.finds.received, few);
-      moments = subst (λ b. AreDrawn (script_lines b) r.moments) (sym all) r.processes.moments_drawn;
-      nonces = subst (λ b. AreDrawn (script_lines b) r.nonces) (sym all) r.processes.nonces_drawn;
+      moments = subst (λ b. AreDrawn (script_lines b) r.passed.moments) (sym all) r.processes.moments_drawn;
+      nonces = subst (λ b. AreDrawn (script_lines b) r.passed.nonces) (sym all) r.processes.nonces_drawn;
       transcript =
-          sym (ap (λ b. written_for (script_state first r.moments r.nonces) (script_lines b)) all ∙ r.processes.output);
+          sym (ap (λ b. written_for (script_state first r.passed.moments r.passed.nonces) (script_lines b)) all ∙ r.processes.output);
       leaves = t.same_state
-          ∙ sym (ap (λ b. state_after (script_state first r.moments r.nonces) (script_lines b)) all
+          ∙ sym (ap (λ b. state_after (script_state first r.passed.moments r.passed.nonces) (script_lines b)) all
           ∙ r.processes.leaves);
     }
 

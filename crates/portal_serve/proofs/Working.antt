@@ -6,8 +6,8 @@ use Rattle.std.proofs.Common.{append_assoc, append-nil, length-append, take, dro
 use Rattle.std.specs.Prelude.{filter}
 use Rattle.std.proofs.lemmas.List.Elements.{filter-append}
 use Rattle.portal_base.specs.Outside.{Takes, TakesPrefix, Draws, Rose}
-use Rattle.portal_base.proofs.OutsideLemmas.{Takes-none}
-use Rattle.portal_serve.specs.Played.{Processes, ProcessesLines, BeginsLines, StopsLines, unless_empty}
+use Rattle.portal_base.proofs.OutsideLemmas.{Takes-none, Takes-append}
+use Rattle.portal_serve.specs.Played.{Processes, StagePassed, ProcessesLines, BeginsLines, StopsLines, unless_empty}
 use Rattle.action_api.specs.declared.early.Early.{Early}
 use Rattle.action_api.specs.declared.early.Early.TheVariants.{TooLong, OutOfMemory}
 use Rattle.portal_serve.specs.Script.{ScriptCall, call_of_line}
@@ -307,17 +307,17 @@ pub processes_lines : (state after : State) (script : List (List ℕ)) (ms : Lis
     (old new : StageTrace)
     → Processes state script ms ns text after → DrawsAll old.moments ms new.moments → DrawsAll old.nonces ns new.nonces
     → Takes old.taken text new.taken → ProcessesLines state script after old new
-processes_lines state after script ms ns text old new w clock numbers takes =
-    record {
-      written = text;
-      moments = ms;
-      nonces = ns;
-      processes = w;
-      output = takes;
-      clock = clock;
-      numbers =
-          numbers;
-    }
+processes_lines state after script ms ns text old new w clock numbers takes = record {
+  passed = record {
+    written = text;
+    moments = ms;
+    nonces = ns;
+    output = takes;
+    clock = clock;
+    numbers = numbers;
+  };
+  processes = w;
+}
 
 -- processing stopped while it wrote
 pub stops_in_writing : (state after : State) (script : List (List ℕ)) (ms : List ℤ) (ns text : List ℕ)
@@ -325,31 +325,50 @@ pub stops_in_writing : (state after : State) (script : List (List ℕ)) (ms : Li
     → Processes state script ms ns text after → DrawsAll old.moments ms new.moments → DrawsAll old.nonces ns new.nonces
     → TakesPrefix old.taken text new.taken → StopsLines state script after old new
 stops_in_writing state after script ms ns text old new w clock numbers part = inr (record {
-  written = take part.0 text;
-  moments = ms;
-  nonces = ns;
+  passed = record {
+    written = take part.0 text;
+    moments = ms;
+    nonces = ns;
+    output = part.2;
+    clock = clock;
+    numbers = numbers;
+  };
   moments_drawn = w.moments_drawn;
   nonces_drawn = w.nonces_drawn;
   begins = subst (λ t. Begins (take part.0 text) t) (sym w.output) (begins_take part.0 text);
   leaves = inr (sym w.leaves);
-  output = part.2;
-  clock = clock;
-  numbers = numbers;
 })
+
+-- nothing passed
+abbrev pub passed_none : (trace : StageTrace) → StagePassed trace trace
+passed_none trace = record {
+  written = [];
+  moments = [];
+  nonces = [];
+  output = Takes-none trace.taken;
+  clock = DrawsAll-none trace.moments;
+  numbers = DrawsAll-none trace.nonces;
+}
+
+-- what passed first, and what passed then
+abbrev pub passed_more : (a b c : StageTrace) → StagePassed a b → StagePassed b c → StagePassed a c
+passed_more a b c first second = record {
+  written = first.written ++ second.written;
+  moments = first.moments ++ second.moments;
+  nonces = first.nonces ++ second.nonces;
+  output = Takes-append a.taken b.taken c.taken first.written second.written first.output second.output;
+  clock = DrawsAll-more a.moments b.moments c.moments first.moments second.moments first.clock second.clock;
+  numbers = DrawsAll-more a.nonces b.nonces c.nonces first.nonces second.nonces first.numbers second.numbers;
+}
 
 -- nothing was begun
 pub begins_no_line : (state : State) (old new : StageTrace) → new ≡ old → BeginsLines state [] state old new
 begins_no_line state old new same = subst (λ o. BeginsLines state [] state old o) (sym same) (record {
-  written = [];
-  moments = [];
-  nonces = [];
+  passed = passed_none old;
   moments_drawn = refl;
   nonces_drawn = refl;
   begins = begins_nothing [];
   leaves = inl refl;
-  output = Takes-none old.taken;
-  clock = DrawsAll-none old.moments;
-  numbers = DrawsAll-none old.nonces;
 })
 
 -- processing stopped before the lines were begun
@@ -390,8 +409,7 @@ pub processes_no_line : (state : State) (script : List (List ℕ)) (old : StageT
     → ProcessesLines state script state old old
 processes_no_line state script old none =
     subst (λ ls. ProcessesLines state ls state old old) (sym none)
-    (processes_lines state state [] [] [] [] old old (processes_none state) (DrawsAll-none old.moments)
-    (DrawsAll-none old.nonces) (Takes-none old.taken))
+    (record { passed = passed_none old; processes = processes_none state })
 
 -- a line that is too long asks for no call
 pub processes_too_long : (state : State) (line : List ℕ) → LONGEST_LINE < length line

@@ -17,29 +17,28 @@ pub record Processes (state : State) (script : List (List ℕ)) (moments : List 
   pub output : written_for (script_state state moments nonces) script ≡ written
   pub leaves : state_after (script_state state moments nonces) script ≡ after
 
--- The lines were processed: output took the bytes that they write, and what they draw was drawn.
-pub record ProcessesLines (state : State) (script : List (List ℕ)) (after : State) (old new : StageTrace) : Type 0 where
+-- What passed output, the clock and the nonces: the bytes that were written, and the moments and nonces that were drawn.
+pub record StagePassed (old new : StageTrace) : Type 0 where
   pub written : List ℕ
   pub moments : List ℤ
   pub nonces : List ℕ
-  pub processes : Processes state script moments nonces written after
   pub output : Takes old.taken written new.taken
   pub clock : DrawsAll old.moments moments new.moments
   pub numbers : DrawsAll old.nonces nonces new.nonces
 
+-- The lines were processed: what they write and draw passed.
+pub record ProcessesLines (state : State) (script : List (List ℕ)) (after : State) (old new : StageTrace) : Type 0 where
+  pub passed : StagePassed old new
+  pub processes : Processes state script passed.moments passed.nonces passed.written after
+
 -- Lines were begun: what they draw was drawn, and output took some prefix of what they write. The state is as before,
 -- or the one that they leave.
 pub record BeginsLines (state : State) (script : List (List ℕ)) (after : State) (old new : StageTrace) : Type 0 where
-  pub written : List ℕ
-  pub moments : List ℤ
-  pub nonces : List ℕ
-  pub moments_drawn : AreDrawn script moments
-  pub nonces_drawn : AreDrawn script nonces
-  pub begins : Begins written (written_for (script_state state moments nonces) script)
-  pub leaves : (after ≡ state) ⊎ (after ≡ state_after (script_state state moments nonces) script)
-  pub output : Takes old.taken written new.taken
-  pub clock : DrawsAll old.moments moments new.moments
-  pub numbers : DrawsAll old.nonces nonces new.nonces
+  pub passed : StagePassed old new
+  pub moments_drawn : AreDrawn script passed.moments
+  pub nonces_drawn : AreDrawn script passed.nonces
+  pub begins : Begins passed.written (written_for (script_state state passed.moments passed.nonces) script)
+  pub leaves : (after ≡ state) ⊎ (after ≡ state_after (script_state state passed.moments passed.nonces) script)
 
 -- Processing the lines stopped before they were begun, or after.
 abbrev pub StopsLines : State → List (List ℕ) → State → StageTrace → StageTrace → Type 0
@@ -95,14 +94,9 @@ pub record Running (first : State) (whole : List ℕ) (old new : DeviceTrace) (s
   where
     pub front : List ℕ
     pub rest : List ℕ
-    pub written : List ℕ
-    pub moments : List ℤ
-    pub nonces : List ℕ
+    pub passed : StagePassed (stage_trace_of old) (stage_trace_of new)
     pub input : new.to_come ≡ Some rest
     pub splits : whole ≡ front ++ (reading.buffered ++ rest)
     pub received : reading.received + length rest ≡ length whole
     pub ended : EndsAll front ⊎ (reading.buffered ++ rest ≡ [])
-    pub processes : Processes first (script_lines front) moments nonces written state
-    pub output : Takes old.taken written new.taken
-    pub clock : DrawsAll old.moments moments new.moments
-    pub numbers : DrawsAll old.nonces nonces new.nonces
+    pub processes : Processes first (script_lines front) passed.moments passed.nonces passed.written state

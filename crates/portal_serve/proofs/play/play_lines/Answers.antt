@@ -1,5 +1,5 @@
 -- Each turn carries the run on, and the last one ends it.
-use Rattle.std.proofs.Common.{◌≡◌, Some, ap, sym, subst, ◌∙◌, arith}
+use Rattle.std.proofs.Common.{Some, ap, ◌∙◌, arith}
 use Rattle.portal_serve.proofs.Playing.{keeps_start, keeps_turn, keeps_all, keeps_part, keeps_read, plays_nothing}
 use Rattle.portal_serve.proofs.Playing.{too_long_at_end}
 use Rattle.portal_serve.proofs.Staging.{same_loans, same_loans_on}
