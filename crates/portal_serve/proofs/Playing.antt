@@ -504,16 +504,6 @@ read_as first after whole old observed taken taken' moments moments' nonces nonc
     (subst (λ v. PlaysRead first whole after old (device_trace observed taken' v nonces)) m
     (subst (λ v. PlaysRead first whole after old (device_trace observed v moments nonces)) t read))
 
-pub part_as : (limit : ℕ) (first after : State) (whole : List ℕ) (old : DeviceTrace) (observed : Option (List ℕ))
-    (taken taken' : Option (List ℕ)) (moments moments' : Option (List ℤ)) (nonces nonces' : Option (List ℕ))
-    → PlaysPart limit first whole after old (device_trace observed taken moments nonces) → taken ≡ taken'
-    → moments ≡ moments' → nonces ≡ nonces'
-    → PlaysPart limit first whole after old (device_trace observed taken' moments' nonces')
-part_as limit first after whole old observed taken taken' moments moments' nonces nonces' part t m n =
-    subst (λ v. PlaysPart limit first whole after old (device_trace observed taken' moments' v)) n
-    (subst (λ v. PlaysPart limit first whole after old (device_trace observed taken' v nonces)) m
-    (subst (λ v. PlaysPart limit first whole after old (device_trace observed v moments nonces)) t part))
-
 -- the same from a state under another name
 pub all_from : (first state after : State) (whole : List ℕ) (old new : DeviceTrace) → first ≡ state
     → PlaysAll first whole after old new → PlaysAll state whole after old new

@@ -8,12 +8,12 @@ use Rattle.portal_serve.specs.declared.calls.CallStop.TheVariants as call_stop
 use Rattle.portal_serve.specs.declared.play.PlayEnd.{PlayEnd}
 use Rattle.portal_serve.specs.declared.play.PlayEnd.TheVariants.{Done, ReadFault, WriteFault, TooLong, OutOfMemory}
 
--- where processing a line stops
+-- the end of playing, where processing a line stops
 abbrev pub end_of_call : CallStop → PlayEnd
 end_of_call call_stop.WriteFault = WriteFault
 end_of_call call_stop.OutOfMemory = OutOfMemory
 
--- where the next line can't be read
+-- the end of playing, where the next line can't be read
 abbrev pub end_of_fault : LineFault → PlayEnd
 end_of_fault Failed = ReadFault
 end_of_fault TooMuch = TooLong

@@ -2,7 +2,6 @@
 ghost use Rattle.std.specs.Prelude.{◌≡◌, ◌≢◌, ◌⊎◌, ◌≤◌, Ok, Err, IfOk, IfErr, OnOk, OnErr, IsSome, option_map};
 ghost use Rattle.std.specs.Option.{option_copied};
 ghost use Rattle.http.specs.StatusCode.{reason_phrase};
-ghost use Rattle.portal_base.specs.Outside.{Rose};
 ghost use Rattle.portal_serve.specs.Served.{outcome_of_incoming, answer_text, body_or_empty, fault_text, link_trace};
 ghost use Rattle.portal_serve.specs.Served.{memory_text};
 ghost use Rattle.portal_serve.specs.Served.{name_in, request_in, size_in, token_in};
