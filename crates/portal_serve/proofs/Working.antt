@@ -243,6 +243,14 @@ pub reply_made : (state : State) (caller : Caller) (request : Result Request Ear
 reply_made state caller request r size m n reply is made =
     ap (λ x. Ok x) made ∙ sym (ap (λ x. (outcome_of_request state caller size m n x).reply) is)
 
+-- the state after the call of a request
+pub state_made : (state after : State) (caller : Caller) (request : Result Request Early) (r : Request) (size : ℕ) (m : ℤ)
+    (n : ℕ)
+    → request ≡ Ok r → after ≡ (call_step state (call_of caller r size m n)).state
+    → after ≡ (outcome_of_request state caller size m n request).state
+state_made state after caller request r size m n is made =
+    made ∙ sym (ap (λ x. (outcome_of_request state caller size m n x).state) is)
+
 -- the reply of a call where memory didn't run out
 pub outcome_in : {E : Type 0} (state : State) (call : ScriptCall) (size : ℕ) (m : ℤ) (n : ℕ)
     (request : Result Request Early) (who : Caller) (result : Result (Result Reply Early) E)
