@@ -53,7 +53,7 @@ use Rattle.dataset_answers.proofs.TableSummaryLemmas.{all-keep, more-keep, posit
 use Rattle.dataset_answers.specs.Fit.{IsFitDataset, IsReplacement, KeepsResources}
 use Rattle.dataset_answers.specs.Lookup.{dataset_at, dataset_named, naming_key, editable_dataset_at}
 use Rattle.dataset_answers.specs.Lookup.{editable_resource_at}
-use Rattle.dataset_answers.specs.Lookup.{resource_at}
+use Rattle.visibility.specs.Lookup.{resource_at}
 use Rattle.dataset_answers.specs.Sound.{IsId, IsSound, OrgExists}
 use Rattle.dataset_answers.specs.Bodies.{changed_dataset, created_dataset, deleted_dataset, organization_error}
 use Rattle.dataset_answers.specs.Bodies.{dataset_errors, new_resource_errors, with_new_resource, with_resource_at}
@@ -218,7 +218,7 @@ named-located datasets address located is =
     (λ position at there. located_at-there datasets dataset position located
     (found-is_present (has_address address) datasets dataset found) there))
 
-pub at-located : (view : CallView) (located : Located) → resource_at view ≡ Ok located → IsLocated view.datasets located
+pub at-located : (view : CallView) (located : Located) → resource_at (codes "id") view ≡ Ok located → IsLocated view.datasets located
 at-located view located is =
     let named =
     thing_at-ok (codes "id") view.call.request.body kind.Resource (resource_named view.datasets) located is in
@@ -229,7 +229,7 @@ pub editable-located : (view : CallView) (located : Located) → editable_resour
 editable-located view located is =
     at-located view located
     (authorized_thing-ok (λ (p : Located). may_edit_in view.people view.call.caller p.dataset) EditDataset
-    (resource_at view) located is).1
+    (resource_at (codes "id") view) located is).1
 
 -- ---- the answers
 
@@ -331,7 +331,7 @@ show_only P view summaries = AcceptsOnly-answer_if_found P (dataset_at (codes "i
 
 pub resource_show_only : (P : DatasetChange → Type 0) (view : CallView) (summaries : List TableSummary)
     → AcceptsOnly P (answer_to_resource_show view summaries)
-resource_show_only P view summaries = AcceptsOnly-answer_if_found P (resource_at view) _ (λ located found. tt)
+resource_show_only P view summaries = AcceptsOnly-answer_if_found P (resource_at (codes "id") view) _ (λ located found. tt)
 
 pub list_only : (P : DatasetChange → Type 0) (view : CallView) → AcceptsOnly P (answer_to_package_list view)
 list_only P view =

@@ -17,7 +17,8 @@ use Rattle.portal_calls.specs.declared.answer.Quota.{Quota}
 use Rattle.dataset_answers.specs.Answers.{answer_to_package_change, answer_to_package_show}
 use Rattle.dataset_answers.specs.Answers.{answer_to_resource_create, answer_to_resource_delete}
 use Rattle.dataset_answers.specs.Answers.{answer_to_resource_show, answer_to_resource_update}
-use Rattle.dataset_answers.specs.Lookup.{dataset_at, naming_key, editable_dataset_at, editable_resource_at, resource_at}
+use Rattle.dataset_answers.specs.Lookup.{dataset_at, naming_key, editable_dataset_at, editable_resource_at}
+use Rattle.visibility.specs.Lookup.{resource_at}
 use Rattle.dataset_answers.specs.Bodies.{changed_dataset, new_resource_errors, with_new_resource}
 use Rattle.dataset_answers.specs.Bodies.{with_resource_at, without_resource_at}
 use Rattle.dataset_answers.specs.declared.change.DatasetChange.{DatasetChange}
@@ -80,7 +81,7 @@ change_same whole view summaries =
 pub resource_show_same : (view : CallView) (summaries : List TableSummary)
     → answer_to_resource_show view summaries ≡ answer_to_resource_show view (summaries_seen view.datasets summaries)
 resource_show_same view summaries =
-    answer_if_found-alike (resource_at view) _ _
+    answer_if_found-alike (resource_at (codes "id") view) _ _
     (λ located found. ap Shown
     (resource-view view.datasets summaries located.dataset.id located.position located.resource
     (id-among located.dataset view.datasets (at-located view located found).is_present)))

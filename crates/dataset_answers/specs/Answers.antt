@@ -26,7 +26,8 @@ use Rattle.portal_calls.specs.declared.topic.DatasetAction.TheVariants.{PackageD
 use Rattle.portal_calls.specs.declared.topic.DatasetAction.TheVariants.{PackageList, ResourceCreate, ResourceUpdate}
 use Rattle.portal_calls.specs.declared.topic.DatasetAction.TheVariants.{ResourceDelete, ResourceShow}
 use Rattle.dataset_answers.specs.Dictionary.{package_dictionary, resource_dictionary}
-use Rattle.dataset_answers.specs.Lookup.{dataset_at, editable_dataset_at, naming_key, resource_at, editable_resource_at}
+use Rattle.dataset_answers.specs.Lookup.{dataset_at, editable_dataset_at, naming_key, editable_resource_at}
+use Rattle.visibility.specs.Lookup.{resource_at}
 use Rattle.dataset_answers.specs.Bodies.{organization_given, dataset_errors, created_dataset, changed_dataset}
 use Rattle.dataset_answers.specs.Bodies.{lost_table_error, change_errors}
 use Rattle.dataset_answers.specs.Bodies.{deleted_dataset, new_resource_errors, with_new_resource, with_resource_at}
@@ -42,7 +43,7 @@ answer_to_package_show view summaries =
 
 abbrev pub answer_to_resource_show : CallView → List TableSummary → Answer DatasetChange
 answer_to_resource_show view summaries =
-    answer_if_found (resource_at view)
+    answer_if_found (resource_at (codes "id") view)
     (λ located. Shown (resource_dictionary summaries located.dataset.id located.position located.resource))
 
 -- the names from an offset on, up to a limit if there is one

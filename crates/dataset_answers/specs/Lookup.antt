@@ -3,13 +3,14 @@ use Rattle.std.specs.Prelude.{ℕ, List, codes, ◌&&◌, is_some, is_none, if�
 use Rattle.std.specs.Prelude.{Option, find, Result}
 use Rattle.portal_base.specs.declared.json_value.Json.{Json}
 use Rattle.portal_base.specs.Kinds.{present}
-use Rattle.packages.specs.Named.{Located, is_named, resource_named}
+use Rattle.packages.specs.Named.{Located, is_named}
 use Rattle.packages.specs.declared.package.Package.{Package}
 use Rattle.portal_calls.specs.Answer.{thing_at, authorized_thing}
 use Rattle.portal_calls.specs.declared.answer.Denial.{Denial}
 use Rattle.portal_calls.specs.declared.answer.Kind.TheVariants as kind
 use Rattle.portal_calls.specs.declared.answer.Right.TheVariants.{EditDataset}
 use Rattle.visibility.specs.CallView.{CallView}
+use Rattle.visibility.specs.Lookup.{resource_at}
 use Rattle.visibility.specs.Visibility.{may_edit_in}
 
 -- ---- datasets
@@ -34,11 +35,8 @@ naming_key body =
 
 -- ---- resources
 
--- the resource that the key `id` names
-abbrev pub resource_at : CallView → Result Located Denial
-resource_at view = thing_at (codes "id") view.call.request.body kind.Resource (resource_named view.datasets)
-
--- the same, if the caller may edit its dataset
+-- the resource that the key `id` names, if the caller may edit its dataset
 abbrev pub editable_resource_at : CallView → Result Located Denial
 editable_resource_at view =
-    authorized_thing (λ located. may_edit_in view.people view.call.caller located.dataset) EditDataset (resource_at view)
+    authorized_thing (λ located. may_edit_in view.people view.call.caller located.dataset) EditDataset
+    (resource_at (codes "id") view)

@@ -24,7 +24,6 @@ use crate::dictionary::{package_json, resource_json};
 use crate::lists::{names_json, page_of};
 use crate::lookup::{
     dataset_at, editable_dataset_at, editable_resource_at, naming_key, purgeable_dataset,
-    resource_at,
 };
 use org_roles::role::rights_of;
 use packages::resources::{resource_errors, resource_for};
@@ -35,6 +34,7 @@ use portal_calls::answer::{Answer, Denial, Right, denial_of, denial_with_quota};
 use portal_calls::topic::DatasetAction;
 use std::alloc::{AllocError, Global};
 use visibility::context::CallContext;
+use visibility::lookup::resource_at;
 use visibility::table_lookup::{NoTables, TableLookup};
 
 /// The answer to a call of this action.
@@ -106,7 +106,7 @@ fn resource_show<H: TableLookup>(
     ensures { IfOk result (λ answer. answer ≡ answer_to_resource_show (context_view context.now)
         (summaries_seen (context_view context.now).datasets (H.summaries tables.now))) }
 {
-    match resource_at(alloc, context)? {
+    match resource_at(alloc, context, "id")? {
         Ok(located) => {
             let shown = resource_json(
                 alloc,

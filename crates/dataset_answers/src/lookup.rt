@@ -4,7 +4,7 @@ ghost use Rattle.std.specs.Result.{result_map_both};
 ghost use Rattle.visibility.specs.CallView.{context_view};
 ghost use Rattle.packages.specs.LocatedResource.{located_now};
 ghost use Rattle.dataset_answers.specs.Lookup.{dataset_at, editable_dataset_at, naming_key};
-ghost use Rattle.dataset_answers.specs.Lookup.{resource_at, editable_resource_at};
+ghost use Rattle.dataset_answers.specs.Lookup.{editable_resource_at};
 ghost use Rattle.dataset_answers.specs.Answers.{purgeable_dataset};
 
 use packages::named::LocatedResource;
@@ -14,6 +14,7 @@ use portal_base::kinds::present;
 use portal_calls::answer::{Denial, Kind, Right, key_denial, required_text};
 use std::alloc::{AllocError, Global};
 use visibility::context::CallContext;
+use visibility::lookup::resource_at;
 use visibility::permissions::is_harvested;
 
 /// The dataset that a key of the body names, or why the call is refused.
@@ -82,25 +83,6 @@ pub fn naming_key(body: &Json) -> &'static str
     }
 }
 
-/// The resource that the key `id` names, or why the call is refused.
-pub fn resource_at<'a>(
-    alloc: Global,
-    context: &CallContext<'a>,
-) -> Result<Result<LocatedResource<'a>, Denial>, AllocError>
-    ensures found { IfOk result (λ found. result_map_both located_now (λ denial. denial) found
-        ≡ resource_at (context_view context.now)) }
-    ensures within { IfOk result (λ found. IfOk found (λ located.
-        located.position < length located.dataset.now.resources)) }
-{
-    match required_text(&context.call.request.body, "id") {
-        Ok(address) => match context.resource(address.as_str()) {
-            Some(located) => Ok(Ok(located)),
-            None => Ok(Err(Denial::NotFound(Kind::Resource))),
-        },
-        Err(fault) => Ok(Err(key_denial(alloc, "id", fault)?)),
-    }
-}
-
 /// The resource that the key `id` names, if the caller may edit its dataset, or why the call is refused.
 pub fn editable_resource_at<'a>(
     alloc: Global,
@@ -111,7 +93,7 @@ pub fn editable_resource_at<'a>(
     ensures within { IfOk result (λ found. IfOk found (λ located.
         located.position < length located.dataset.now.resources)) }
 {
-    match resource_at(alloc, context)? {
+    match resource_at(alloc, context, "id")? {
         Ok(located) => if context.may_edit(located.dataset) {
             Ok(Ok(located))
         } else {

@@ -13,7 +13,8 @@ use Rattle.visibility.specs.CallView.{CallView}
 use Rattle.visibility.specs.Visibility.{may_edit_in}
 use Rattle.datastore_table.specs.declared.method.Method.{Method}
 use Rattle.datastore_answers.specs.TableAnswers.{answer_for_table, answer_for_resource, map_answer, or_no_table}
-use Rattle.datastore_answers.specs.TableAnswers.{or_refused, resource_at}
+use Rattle.datastore_answers.specs.TableAnswers.{or_refused}
+use Rattle.visibility.specs.Lookup.{resource_at}
 use Rattle.datastore_answers.specs.TableAnswers.{tables_beside}
 use Rattle.datastore_answers.specs.Answers.{answer_to_datastore_create, create_answer, create_table_answer}
 use Rattle.datastore_answers.specs.Answers.{upsert_answer_for}

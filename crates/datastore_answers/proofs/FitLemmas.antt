@@ -24,7 +24,8 @@ use Rattle.datastore_table.specs.declared.fault.TableFault.{TableFault}
 use Rattle.datastore_table.specs.declared.method.Method.{Method}
 use Rattle.datastore_table.specs.declared.method.Method.TheVariants as method
 use Rattle.datastore_answers.specs.TableAnswers.{TableAcceptsOnly, address_of, answer_for_table, or_no_table}
-use Rattle.datastore_answers.specs.TableAnswers.{map_table_answer, or_refused, resource_at, tables_beside}
+use Rattle.datastore_answers.specs.TableAnswers.{map_table_answer, or_refused, tables_beside}
+use Rattle.visibility.specs.Lookup.{resource_at}
 use Rattle.datastore_answers.specs.Answers.{answer_to_action, answer_to_datastore_delete, answer_to_datastore_info}
 use Rattle.datastore_answers.specs.Answers.{answer_to_datastore_upsert, delete_answer, value_or, upsert_answer}
 use Rattle.datastore_answers.specs.Answers.{answer_to_datastore_create, create_answer_for, accepted_create_or_fill}

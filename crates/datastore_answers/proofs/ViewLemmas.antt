@@ -15,7 +15,8 @@ use Rattle.portal_calls.specs.declared.answer.Denial.{Denial}
 use Rattle.portal_calls.specs.declared.answer.Kind.TheVariants as kind
 use Rattle.portal_calls.proofs.Answering.{thing_at-ok}
 use Rattle.visibility.specs.CallView.{CallView}
-use Rattle.datastore_answers.specs.TableAnswers.{answer_for_table, answer_for_resource, or_refused, resource_at}
+use Rattle.datastore_answers.specs.TableAnswers.{answer_for_table, answer_for_resource, or_refused}
+use Rattle.visibility.specs.Lookup.{resource_at}
 use Rattle.datastore_answers.specs.TableAnswers.{tables_beside}
 use Rattle.datastore_answers.specs.Tables.{is_table_among, tables_seen}
 use Rattle.datastore_answers.specs.declared.answer.TableAnswer.{TableAnswer}

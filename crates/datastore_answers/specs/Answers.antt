@@ -16,7 +16,8 @@ use Rattle.visibility.specs.CallView.{CallView}
 use Rattle.visibility.specs.Visibility.{may_edit_in}
 use Rattle.datastore_table.specs.declared.method.Method.{Method}
 use Rattle.datastore_table.specs.declared.method.Method.TheVariants as method
-use Rattle.datastore_answers.specs.TableAnswers.{address_of, answer_for_resource, or_refused, resource_at}
+use Rattle.datastore_answers.specs.TableAnswers.{address_of, answer_for_resource, or_refused}
+use Rattle.visibility.specs.Lookup.{resource_at}
 use Rattle.datastore_answers.specs.TableAnswers.{tables_beside}
 use Rattle.datastore_answers.specs.Changed.{TableChange, put_into}
 use Rattle.datastore_answers.specs.Changed as change

@@ -1,13 +1,13 @@
 -- Answers on the table of a resource. A missing table is reported after a missing resource, and before a missing
 -- right.
 use Rattle.std.specs.Prelude.{ℕ, List, Option, Some, None, Result, Ok, Err, ⊤}
-use Rattle.packages.specs.Named.{Located, resource_named}
-use Rattle.portal_calls.specs.Answer.{AcceptsOnly, thing_at}
+use Rattle.packages.specs.Named.{Located}
+use Rattle.portal_calls.specs.Answer.{AcceptsOnly}
 use Rattle.portal_calls.specs.declared.answer.Answer.{Answer}
 use Rattle.portal_calls.specs.declared.answer.Answer.TheVariants.{Shown, Refused, Accepted}
 use Rattle.portal_calls.specs.declared.answer.Denial.{Denial}
-use Rattle.portal_calls.specs.declared.answer.Kind.TheVariants as kind
 use Rattle.visibility.specs.CallView.{CallView}
+use Rattle.visibility.specs.Lookup.{resource_at}
 use Rattle.datastore_answers.specs.Tables.{table_at, tables_in}
 use Rattle.datastore_answers.specs.declared.address.Address.{Address}
 use Rattle.datastore_answers.specs.declared.answer.TableAnswer.{TableAnswer}
@@ -15,10 +15,6 @@ use Rattle.datastore_answers.specs.declared.answer.TableAnswer.TheVariants.{NoTa
 use Rattle.datastore_answers.specs.declared.resource_table.ResourceTable.{ResourceTable}
 
 -- ---- the resource and its table
-
--- the resource that a key of the body names
-abbrev pub resource_at : List ℕ → CallView → Result Located Denial
-resource_at key view = thing_at key view.call.request.body kind.Resource (resource_named view.datasets)
 
 abbrev pub address_of : Located → Address
 address_of placed = record { dataset = placed.dataset.id; number = placed.resource.number }

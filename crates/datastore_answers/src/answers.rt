@@ -33,7 +33,7 @@ use crate::copies::copies_of;
 use crate::creation::answer_create;
 use crate::dictionary::{delete_json, delete_rows_json, info_json, upsert_json};
 use crate::errors::{fault_text, read_method, read_records};
-use crate::lookup::{address_of, id_of, resource_at};
+use crate::lookup::{address_of, id_of};
 use crate::plan::TablePlan;
 use crate::tables::Tables;
 use datastore_table::{Batch, Method, Removal, TableFault};
@@ -46,6 +46,7 @@ use portal_calls::answer::{Answer, Denial, Quota, Right, denial_with_quota};
 use portal_calls::topic::TableAction;
 use std::alloc::{AllocError, Global};
 use visibility::context::CallContext;
+use visibility::lookup::resource_at;
 
 /// The answer to a call of this action. It prepares the change and leaves the tables unchanged.
 pub fn answer(

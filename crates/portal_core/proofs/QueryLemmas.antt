@@ -4,7 +4,8 @@ use Rattle.std.specs.Prelude.{codes}
 use Rattle.portal_base.specs.declared.json_value.Json.{Json}
 use Rattle.packages.specs.Named.{Located}
 use Rattle.visibility.specs.CallView.{CallView}
-use Rattle.datastore_answers.specs.TableAnswers.{resource_at, tables_beside}
+use Rattle.datastore_answers.specs.TableAnswers.{tables_beside}
+use Rattle.visibility.specs.Lookup.{resource_at}
 use Rattle.datastore_answers.specs.Tables.{table_at, tables_seen}
 use Rattle.datastore_answers.specs.declared.resource_table.ResourceTable.{ResourceTable}
 use Rattle.datastore_answers.proofs.ViewLemmas.{beside-seen, resource-seen}

@@ -16,7 +16,7 @@ use crate::search_body::search_in;
 use datastore_answers::answer::TableAnswer;
 use datastore_answers::answers::{datastore_delete, datastore_delete_rows};
 use datastore_answers::copies::entries_of;
-use datastore_answers::lookup::{id_of, resource_at};
+use datastore_answers::lookup::id_of;
 use datastore_answers::plan::TablePlan;
 use datastore_answers::tables::Tables;
 use datastore_query::{Parts, Query, QueryFault};
@@ -30,6 +30,7 @@ use portal_calls::answer::{Answer, Denial, denial_of};
 use portal_calls::topic::QueryAction;
 use std::alloc::{AllocError, Global};
 use visibility::context::CallContext;
+use visibility::lookup::resource_at;
 
 /// The answer to a call of this action. It prepares the change and leaves the tables unchanged.
 pub(crate) fn answer(

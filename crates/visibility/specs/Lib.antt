@@ -2,3 +2,4 @@ pub mod TableSummary
 pub mod CallView
 pub mod View
 pub mod Visibility
+pub mod Lookup

@@ -4,6 +4,7 @@
 pub mod class;
 pub mod context;
 pub mod laws;
+pub mod lookup;
 pub mod permissions;
 mod predicates;
 pub mod table_lookup;

@@ -7,4 +7,4 @@ use Rattle.datastore_answers.proofs.answers.datastore_create.Goals as goal
 pub returns-clause-answer : goal.returns-clause-answer
 returns-clause-answer c =
     create-there (context_view c.args.context.now) (tables_of c.args.tables.now) (located_now c.in-Ok.placed) _
-    (rw c.in-Ok.is at c.in_ok-placed.ensures) c.in_ok-answer.ensures.answer
+    (rw c.in-Ok.is at c.in_ok-placed.ensures.found) c.in_ok-answer.ensures.answer

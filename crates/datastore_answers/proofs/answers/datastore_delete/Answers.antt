@@ -11,11 +11,11 @@ pub returns-in_ok-answer-in-Some-clause-answer : goal.returns-in_ok-answer-in-So
 returns-in_ok-answer-in-Some-clause-answer c =
     let view = context_view c.args.context.now in
     on-there (codes "resource_id") view (tables_of c.args.tables.now) (delete_answer view) (located_now c.in-Ok.placed)
-    (without_room c.in-Some._table.now) _ (rw c.in-Ok.is at c.in_ok-placed.ensures) (sym c.in-Some.ensures.table)
+    (without_room c.in-Some._table.now) _ (rw c.in-Ok.is at c.in_ok-placed.ensures.found) (sym c.in-Some.ensures.table)
     c.in_ok-answer-in-Some.ensures.answer
 
 pub returns-in-None-clause-answer : goal.returns-in-None-clause-answer
 returns-in-None-clause-answer c =
     let view = context_view c.args.context.now in
     on-none (codes "resource_id") view (tables_of c.args.tables.now) (delete_answer view) (located_now c.in-Ok.placed)
-    (rw c.in-Ok.is at c.in_ok-placed.ensures) (sym c.in-None.ensures.table)
+    (rw c.in-Ok.is at c.in_ok-placed.ensures.found) (sym c.in-None.ensures.table)

@@ -21,7 +21,7 @@ returns-in_ok-answer-in-Some-clause-answer c =
     ∙ ap (λ key. read_method key body)
     (c.as_slice-key.ensures ∙ c.key.ensures ∙ ap (λ (s : SchemaValue). s.key) c.schema.ensures) in
     on-there (codes "resource_id") view (tables_of c.args.tables.now) (upsert_answer view) placed t _
-    (rw c.in-Ok.is at c.in_ok-placed.ensures) (sym c.in-Some.ensures.table)
+    (rw c.in-Ok.is at c.in_ok-placed.ensures.found) (sym c.in-Some.ensures.table)
     (c.in_ok-answer-in-Some.ensures.answer t (sym c.in-Some.ensures.table)
     ∙ ap (λ how. upsert_answer_for view placed beside t how (read_records body)) read)
 
@@ -29,4 +29,4 @@ pub returns-in-None-clause-answer : goal.returns-in-None-clause-answer
 returns-in-None-clause-answer c =
     let view = context_view c.args.context.now in
     on-none (codes "resource_id") view (tables_of c.args.tables.now) (upsert_answer view) (located_now c.in-Ok.placed)
-    (rw c.in-Ok.is at c.in_ok-placed.ensures) (sym c.in-None.ensures.table)
+    (rw c.in-Ok.is at c.in_ok-placed.ensures.found) (sym c.in-None.ensures.table)

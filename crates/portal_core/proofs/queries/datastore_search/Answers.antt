@@ -16,7 +16,7 @@ returns-in_ok-answer-in-Some c =
     on-there (codes "resource_id") (context_view c.args.context.now) (tables_of c.args.tables.now)
     (search_answer_for_table body)
     (located_now c.in-Ok.positioned) t (map_answer change_of c.in_ok-answer-in-Some.answer)
-    (rw c.in-Ok.is at c.in_ok-positioned.ensures) (sym c.in-Some.ensures.table)
+    (rw c.in-Ok.is at c.in_ok-positioned.ensures.found) (sym c.in-Some.ensures.table)
     (c.in_ok-answer-in-Some.ensures
     ∙ ap (λ (id : List ℕ). search_answer body id t.table.schema.fields t.table.rows) c.in_ok-id-in-Some.ensures)
 
@@ -24,4 +24,4 @@ pub returns-in-None : goal.returns-in-None
 returns-in-None c =
     on-none (codes "resource_id") (context_view c.args.context.now) (tables_of c.args.tables.now)
     (search_answer_for_table c.args.context.now.call.now.request.body) (located_now c.in-Ok.positioned)
-    (rw c.in-Ok.is at c.in_ok-positioned.ensures) (sym c.in-None.ensures.table)
+    (rw c.in-Ok.is at c.in_ok-positioned.ensures.found) (sym c.in-None.ensures.table)

@@ -11,7 +11,7 @@ pub returns-in-Some : goal.returns-in-Some
 returns-in-Some c =
     subst (λ (expected : OrError (List ℕ)). IfOk c.find_rows.result (λ found. found ≡ expected))
     (found_there (context_view c.args.context.now) (tables_of c.args.tables.now) c.args.filters.now
-    (located_now c.in-Ok.positioned) (without_room c.in-Some.table.now) (rw c.in-Ok.is at c.in_ok-positioned.ensures)
+    (located_now c.in-Ok.positioned) (without_room c.in-Some.table.now) (rw c.in-Ok.is at c.in_ok-positioned.ensures.found)
     (sym c.in-Some.ensures.table))
     c.find_rows.ensures
 
@@ -19,4 +19,4 @@ pub returns-in-None : goal.returns-in-None
 returns-in-None c =
     ap Ok c.new-in-None.ensures
     ∙ found_nowhere (context_view c.args.context.now) (tables_of c.args.tables.now) c.args.filters.now
-    (located_now c.in-Ok.positioned) (rw c.in-Ok.is at c.in_ok-positioned.ensures) (sym c.in-None.ensures.table)
+    (located_now c.in-Ok.positioned) (rw c.in-Ok.is at c.in_ok-positioned.ensures.found) (sym c.in-None.ensures.table)
