@@ -7,8 +7,9 @@ use Rattle.portal_base.specs.declared.outside.Failed.{Failed}
 use Rattle.portal_core.specs.State.{State}
 use Rattle.portal_start.specs.Commands.{Plays, Serves}
 use Rattle.portal_start.specs.Start.{Beginning}
-use Rattle.portal_start.specs.Commands.{status_for, status_for_desk}
-use Rattle.portal_status.specs.declared.status.Status.TheVariants.{DataFault, ListenFault}
+use Rattle.portal_start.specs.Commands.{end_for_desk, status_for}
+use Rattle.portal_start.specs.declared.commands.ServeEnd.TheVariants as serve_end
+use Rattle.portal_status.specs.declared.status.Status.TheVariants.{DataFault}
 use Rattle.portal_serve.proofs.Playing.{all_from, part_from, read_from}
 use Rattle.portal_serve.specs.Desk.{DeskTrace, ServesDesk}
 use Rattle.portal_serve.specs.Run.{DeviceTrace, PlaysAll, PlaysPart, PlaysRead}
@@ -23,7 +24,7 @@ pub plays_by : (first state after : State) (old new : DeviceTrace) (end : PlayEn
     → (end ≢ playing.Done → (whole : List ℕ) → old.to_come ≡ Some whole
     → PlaysPart (begun_limit end) first whole after old new)
     → (end ≡ playing.ReadFault → (whole : List ℕ) → old.to_come ≡ Some whole → PlaysRead first whole after old new)
-    → Plays state old new (status_for end)
+    → Plays state old new end
 plays_by first state after old new playing.Done is all part read =
     λ whole observed. (after, all_from _ _ _ _ _ _ is (all refl whole observed))
 plays_by first state after old new playing.ReadFault is all part read =
@@ -31,7 +32,7 @@ plays_by first state after old new playing.ReadFault is all part read =
 plays_by first state after old new playing.WriteFault is all part read =
     λ whole observed. (after, part_from _ _ _ _ _ _ _ is (part (λ e. cc) whole observed))
 plays_by first state after old new playing.TooLong is all part read =
-    (λ whole observed. (after, part_from _ _ _ _ _ _ _ is (part (λ e. cc) whole observed)), refl)
+    λ whole observed. (after, part_from _ _ _ _ _ _ _ is (part (λ e. cc) whole observed))
 plays_by first state after old new playing.OutOfMemory is all part read =
     λ whole observed. (after, part_from _ _ _ _ _ _ _ is (part (λ e. cc) whole observed))
 
@@ -53,7 +54,7 @@ pub serves_by : {Peer : Type 0} (trace : Peer → LinkTrace) (beginning : Beginn
     (old new : DeskTrace Peer)
     (first after : State) (served : Result Unit Failed) → first ≡ beginning.state
     → ServesDesk trace beginning.digests first links old new after served
-    → Serves trace beginning links old new (status_for_desk served)
+    → Serves trace beginning links old new (end_for_desk served)
 serves_by trace beginning links old new first after (Ok done) same serves =
     (after, subst (λ state. ServesDesk trace beginning.digests state links old new after (Ok done)) same serves)
 serves_by trace beginning links old new first after (Err failed) same serves = (
@@ -64,6 +65,6 @@ serves_by trace beginning links old new first after (Err failed) same serves = (
 
 -- If a desk failed, its count of faults rose.
 pub fails_by : (before after : ℕ) (served : Result Unit Failed) → OnErr served (Rose before after)
-    → status_for_desk served ≡ ListenFault → Rose before after
+    → end_for_desk served ≡ serve_end.ListenFault → Rose before after
 fails_by before after (Ok done) rose is = absurd (cc)
 fails_by before after (Err failed) rose is = rose

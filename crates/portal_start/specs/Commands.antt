@@ -1,30 +1,37 @@
--- What playing a script and serving links did, by the status with which they ended.
+-- What playing a script and serving links did, by how they ended.
 use Rattle.std.specs.Prelude.{◌≡◌, ℕ, List, Some, Ok, Err, codes, Result}
 use Rattle.portal_base.specs.declared.outside.Failed.{Failed}
 use Rattle.portal_core.specs.State.{State}
 use Rattle.portal_start.specs.Start.{Beginning}
 use Rattle.portal_status.specs.declared.status.Status.{Status}
-use Rattle.portal_status.specs.declared.status.Status.TheVariants.{Done, Words, ReadFault, WriteFault}
-use Rattle.portal_status.specs.declared.status.Status.TheVariants.{OutOfMemory, PortalFile, FetchFault}
-use Rattle.portal_status.specs.declared.status.Status.TheVariants.{DataFault, Refused, ListenFault}
+use Rattle.portal_start.specs.declared.commands.ServeEnd.{ServeEnd}
+use Rattle.portal_start.specs.declared.commands.ServeEnd.TheVariants as serve_end
+use Rattle.portal_status.specs.declared.status.Status.TheVariants.{Done, ReadFault, WriteFault, OutOfMemory}
+use Rattle.portal_status.specs.declared.status.Status.TheVariants.{DataFault, ListenFault}
 use Rattle.portal_serve.specs.Desk.{DeskTrace, ServesDesk}
 use Rattle.portal_serve.specs.Run.{DeviceTrace, PlaysAll, PlaysPart, PlaysRead}
 use Rattle.portal_serve.specs.Served.{LinkTrace}
 use Rattle.portal_serve.specs.declared.play.PlayEnd.{PlayEnd}
-use Rattle.portal_serve.specs.declared.play.PlayEnd.TheVariants as end
+use Rattle.portal_serve.specs.declared.play.PlayEnd.TheVariants as play_end
 
 -- the status for the end of playing
 abbrev pub status_for : PlayEnd → Status
-status_for end.Done = Done
-status_for end.ReadFault = ReadFault
-status_for end.WriteFault = WriteFault
-status_for end.TooLong = DataFault (codes "input too long")
-status_for end.OutOfMemory = OutOfMemory
+status_for play_end.Done = Done
+status_for play_end.ReadFault = ReadFault
+status_for play_end.WriteFault = WriteFault
+status_for play_end.TooLong = DataFault (codes "input too long")
+status_for play_end.OutOfMemory = OutOfMemory
 
--- the status for the end of a desk
-abbrev pub status_for_desk : Result Unit Failed → Status
-status_for_desk (Ok served) = Done
-status_for_desk (Err failed) = ListenFault
+-- the status for the end of serving
+abbrev pub status_for_serve : ServeEnd → Status
+status_for_serve serve_end.Done = Done
+status_for_serve serve_end.ListenFault = ListenFault
+status_for_serve serve_end.OutOfMemory = OutOfMemory
+
+-- the end of a desk that was served
+abbrev pub end_for_desk : Result Unit Failed → ServeEnd
+end_for_desk (Ok served) = serve_end.Done
+end_for_desk (Err failed) = serve_end.ListenFault
 
 -- ---- play
 
@@ -45,34 +52,32 @@ abbrev pub PlaysToFault : State → DeviceTrace → DeviceTrace → Type 0
 PlaysToFault state old new =
     (whole : List ℕ) → old.to_come ≡ Some whole → (after : State) × PlaysRead state whole after old new
 
--- What a run of `play` did from a state, by its status. Input fails, or exceeds its limit, between two lines.
-abbrev pub Plays : State → DeviceTrace → DeviceTrace → Status → Type 0
-Plays state old new Done = PlaysToEnd state old new
-Plays state old new Words = ⊥
-Plays state old new ReadFault = PlaysToFault state old new
-Plays state old new WriteFault = PlaysToPosition 1 state old new
-Plays state old new OutOfMemory = PlaysToPosition 1 state old new
-Plays state old new (PortalFile text) = ⊥
-Plays state old new (FetchFault text) = ⊥
-Plays state old new (DataFault text) = PlaysToPosition 0 state old new × (text ≡ codes "input too long")
-Plays state old new Refused = ⊥
-Plays state old new ListenFault = ⊥
+-- What a run of `play` did from a state, by its end. Input fails, or exceeds its limit, between two lines.
+abbrev pub Plays : State → DeviceTrace → DeviceTrace → PlayEnd → Type 0
+Plays state old new play_end.Done = PlaysToEnd state old new
+Plays state old new play_end.ReadFault = PlaysToFault state old new
+Plays state old new play_end.WriteFault = PlaysToPosition 1 state old new
+Plays state old new play_end.TooLong = PlaysToPosition 0 state old new
+Plays state old new play_end.OutOfMemory = PlaysToPosition 1 state old new
+
+-- The status is that of an end, and the script was played to this end.
+abbrev pub PlaysWith : State → DeviceTrace → DeviceTrace → Status → Type 0
+PlaysWith state old new status = (end : PlayEnd) × (status ≡ status_for end) × Plays state old new end
 
 -- ---- serve
 
--- What a run of `serve` did from a portal, by its status. `trace` gives the trace of a link.
-abbrev pub Serves : {Peer : Type 0} → (Peer → LinkTrace) → Beginning → ℕ → DeskTrace Peer → DeskTrace Peer → Status
+-- What a run of `serve` did from a portal, by its end. `trace` gives the trace of a link.
+abbrev pub Serves : {Peer : Type 0} → (Peer → LinkTrace) → Beginning → ℕ → DeskTrace Peer → DeskTrace Peer → ServeEnd
     → Type 0
-Serves trace beginning links old new Done =
+Serves trace beginning links old new serve_end.Done =
     (after : State) × ServesDesk trace beginning.digests beginning.state links old new after (Ok tt)
-Serves trace beginning links old new Words = ⊥
-Serves trace beginning links old new ReadFault = ⊥
-Serves trace beginning links old new WriteFault = ⊥
-Serves trace beginning links old new OutOfMemory = new ≡ old
-Serves trace beginning links old new (PortalFile text) = ⊥
-Serves trace beginning links old new (FetchFault text) = ⊥
-Serves trace beginning links old new (DataFault text) = ⊥
-Serves trace beginning links old new Refused = ⊥
-Serves trace beginning links old new ListenFault =
+Serves trace beginning links old new serve_end.ListenFault =
     (failed : Failed) × (after : State) × ServesDesk trace beginning.digests beginning.state links old new after
     (Err failed)
+Serves trace beginning links old new serve_end.OutOfMemory = new ≡ old
+
+-- The status is that of an end, and links were served to this end.
+abbrev pub ServesWith : {Peer : Type 0} → (Peer → LinkTrace) → Beginning → ℕ → DeskTrace Peer → DeskTrace Peer → Status
+    → Type 0
+ServesWith trace beginning links old new status =
+    (end : ServeEnd) × (status ≡ status_for_serve end) × Serves trace beginning links old new end

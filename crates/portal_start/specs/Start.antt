@@ -1,5 +1,5 @@
 -- What a run begins with: the default portal, or that of a portal file. And why a run begins with none.
-use Rattle.std.specs.Prelude.{◌≡◌, ◌⊎◌, ◌≤◌, ℕ, List, ◌++◌, length, codes, Option, Some, None, IsSomeAnd, Ok}
+use Rattle.std.specs.Prelude.{◌≡◌, ◌⊎◌, ◌≤◌, ℕ, List, ◌++◌, length, codes, Option, Some, None, Ok}
 use Rattle.std.specs.Prelude.{Err}
 use Rattle.portal_base.specs.Outside.{Rose}
 use Rattle.portal_core.specs.Opened.{opened}
@@ -14,7 +14,7 @@ use Rattle.portal_serve.specs.Tokens.{Digests}
 use Rattle.portal_status.specs.declared.fetch.TheConstants.{LONGEST_FILE}
 use Rattle.portal_status.specs.declared.status.Status.{Status}
 use Rattle.portal_status.specs.declared.status.Status.TheVariants as status
-use Rattle.portal_status.specs.Fetch.{FetchTrace, HoldsFile, CannotFetch}
+use Rattle.portal_status.specs.Fetch.{FailsToFetch, FetchTrace, HoldsFile}
 
 -- the state of a portal, and the digests of its users' tokens
 pub record Beginning : Type 0 where
@@ -40,23 +40,13 @@ beginning_of_file file = beginning_with (opening_of file) file.tokens
 abbrev pub IsFileOf : List ℕ → Beginning → Type 0
 IsFileOf bytes beginning = (file : PortalFile) × (file_of bytes ≡ Ok file) × (beginning ≡ beginning_of_file file)
 
--- The bytes break the rule that the text names, and none before it.
-abbrev pub IsBrokenBy : List ℕ → List ℕ → Type 0
-IsBrokenBy text bytes =
-    (rule : FileRule) × (file_of bytes ≡ Err rule) × (text ≡ codes "portal file: " ++ rule_name rule)
-
--- why the bytes are no portal file, by the status: they break a rule, or memory ran out
+-- Why the bytes are no portal file, by the status: memory ran out, or they break the rule that it names, and none
+-- before it.
 abbrev pub RejectsFile : List ℕ → Status → Type 0
-RejectsFile bytes status.Done = ⊥
-RejectsFile bytes status.Words = ⊥
-RejectsFile bytes status.ReadFault = ⊥
-RejectsFile bytes status.WriteFault = ⊥
-RejectsFile bytes status.OutOfMemory = Unit {0}
-RejectsFile bytes (status.PortalFile text) = IsBrokenBy text bytes
-RejectsFile bytes (status.FetchFault text) = ⊥
-RejectsFile bytes (status.DataFault text) = ⊥
-RejectsFile bytes status.Refused = ⊥
-RejectsFile bytes status.ListenFault = ⊥
+RejectsFile bytes ended =
+    (ended ≡ status.OutOfMemory)
+    ⊎ ((rule : FileRule) × (file_of bytes ≡ Err rule)
+    × (ended ≡ status.PortalFile (codes "portal file: " ++ rule_name rule)))
 
 -- ---- over a fetcher
 
@@ -65,20 +55,11 @@ abbrev pub Begins : FetchTrace → Option (List ℕ) → Beginning → Type 0
 Begins fetch_trace None beginning = beginning ≡ default_beginning
 Begins fetch_trace (Some location) beginning = HoldsFile fetch_trace location (λ bytes. IsFileOf bytes beginning)
 
--- Why a run begins with no portal, by its status: the file breaks a rule, it can't be fetched, or memory ran out.
+-- Why a run begins with no portal, by its status: its file can't be fetched, or is no portal file, or memory ran out.
 abbrev pub FailsToBegin : FetchTrace → Option (List ℕ) → Status → Type 0
-FailsToBegin fetch_trace portal status.Done = ⊥
-FailsToBegin fetch_trace portal status.Words = ⊥
-FailsToBegin fetch_trace portal status.ReadFault = ⊥
-FailsToBegin fetch_trace portal status.WriteFault = ⊥
-FailsToBegin fetch_trace portal status.OutOfMemory = Unit {0}
-FailsToBegin fetch_trace portal (status.PortalFile text) =
-    IsSomeAnd portal (λ location. HoldsFile fetch_trace location (IsBrokenBy text))
-FailsToBegin fetch_trace portal (status.FetchFault text) =
-    IsSomeAnd portal (λ location. CannotFetch fetch_trace location × (text ≡ codes "cannot fetch " ++ location))
-FailsToBegin fetch_trace portal (status.DataFault text) = ⊥
-FailsToBegin fetch_trace portal status.Refused = ⊥
-FailsToBegin fetch_trace portal status.ListenFault = ⊥
+FailsToBegin fetch_trace None ended = ended ≡ status.OutOfMemory
+FailsToBegin fetch_trace (Some location) ended =
+    FailsToFetch fetch_trace location ended ⊎ HoldsFile fetch_trace location (λ bytes. RejectsFile bytes ended)
 
 -- A run began with a portal, and then did what P says. Or it began with none for the reason in its status, and left its
 -- devices untouched.

@@ -2,10 +2,10 @@
 ghost use Rattle.std.specs.Prelude.{◌≡◌, ◌↔◌, ◌≤◌, ℕ, List, Some, None, false, codes, IsTrue};
 ghost use Rattle.portal_base.specs.Outside.{Rose};
 ghost use Rattle.portal_core.specs.Opened.{is_opening, opened};
-ghost use Rattle.portal_start.specs.Commands.{Plays, Serves};
+ghost use Rattle.portal_start.specs.Commands.{Plays, PlaysWith, Serves, ServesWith};
 ghost use Rattle.portal_start.specs.Start.{BeginsAnd, beginning_with};
 ghost use Rattle.portal_status.specs.Fetch.{fetch_trace};
-ghost use Rattle.portal_start.specs.Commands.{status_for, status_for_desk};
+ghost use Rattle.portal_start.specs.Commands.{end_for_desk, status_for, status_for_serve};
 ghost use Rattle.portal_serve.specs.Desk.{desk_trace};
 ghost use Rattle.portal_serve.specs.Run.{device_trace, GaveTooMuch};
 ghost use Rattle.portal_serve.specs.Served.{link_trace};
@@ -40,19 +40,19 @@ fn play_script<S: Source, O: Sink, C: Clock, N: Nonces>(
     output: &mut O,
     clock: &mut C,
     nonces: &mut N,
-) -> Status
+) -> PlayEnd
     requires { IsTrue (is_opening start.now.opening) }
     ensures plays { Plays (opened start.now.opening)
         (device_trace (S.to_come input.old) (O.taken output.old) (C.given clock.old) (N.given nonces.old))
         (device_trace (S.to_come input.new) (O.taken output.new) (C.given clock.new) (N.given nonces.new)) result }
-    ensures read_fault { result ≡ Status.ReadFault → Rose (S.faults input.old) (S.faults input.new) }
-    ensures write_fault { result ≡ Status.WriteFault → Rose (O.faults output.old) (O.faults output.new) }
-    ensures too_much { (whole : List ℕ) → S.to_come input.old ≡ Some whole →
-        ((result ≡ Status.DataFault (codes "input too long")) ↔ GaveTooMuch whole (S.to_come input.new)) }
+    ensures read_fault { result ≡ PlayEnd.ReadFault → Rose (S.faults input.old) (S.faults input.new) }
+    ensures write_fault { result ≡ PlayEnd.WriteFault → Rose (O.faults output.old) (O.faults output.new) }
+    ensures too_long { (whole : List ℕ) → S.to_come input.old ≡ Some whole →
+        ((result ≡ PlayEnd.TooLong) ↔ GaveTooMuch whole (S.to_come input.new)) }
 {
     match Portal::open(alloc, &start.opening) {
-        Ok(mut portal) => status_of_end(play(alloc, &mut portal, input, output, clock, nonces)),
-        Err(_fault) => Status::OutOfMemory,
+        Ok(mut portal) => play(alloc, &mut portal, input, output, clock, nonces),
+        Err(_fault) => PlayEnd::OutOfMemory,
     }
 }
 
@@ -68,7 +68,7 @@ pub fn play_from<S: Source, O: Sink, F: Fetcher, C: Clock, N: Nonces>(
 ) -> Status
     ensures plays { BeginsAnd (fetch_trace (F.held fetcher.old) (F.faults fetcher.old) (F.faults fetcher.new))
         options.now.portal result
-        (λ beginning. Plays beginning.state
+        (λ beginning. PlaysWith beginning.state
         (device_trace (S.to_come input.old) (O.taken output.old) (C.given clock.old) (N.given nonces.old))
         (device_trace (S.to_come input.new) (O.taken output.new) (C.given clock.new) (N.given nonces.new)) result)
         ((device_trace (S.to_come input.new) (O.taken output.new) (C.given clock.new) (N.given nonces.new))
@@ -80,17 +80,37 @@ pub fn play_from<S: Source, O: Sink, F: Fetcher, C: Clock, N: Nonces>(
         ((result ≡ Status.DataFault (codes "input too long")) ↔ GaveTooMuch whole (S.to_come input.new)) }
 {
     match start_of(alloc, fetcher, &options.portal) {
-        Ok(start) => play_script(alloc, &start, input, output, clock, nonces),
+        Ok(start) => status_of_end(play_script(alloc, &start, input, output, clock, nonces)),
         Err(status) => status,
     }
 }
 
-fn status_of_desk(served: Result<(), Failed>) -> Status
-    ensures { result ≡ status_for_desk served }
+/// How a run of `serve` ended.
+#[derive(Drop)]
+pub enum ServeEnd {
+    /// All links were served.
+    Done,
+    /// The listener failed.
+    ListenFault,
+    OutOfMemory,
+}
+
+fn status_of_serve(end: ServeEnd) -> Status
+    ensures { result ≡ status_for_serve end }
+{
+    match end {
+        ServeEnd::Done => Status::Done,
+        ServeEnd::ListenFault => Status::ListenFault,
+        ServeEnd::OutOfMemory => Status::OutOfMemory,
+    }
+}
+
+fn end_of_desk(served: Result<(), Failed>) -> ServeEnd
+    ensures { result ≡ end_for_desk served }
 {
     match served {
-        Ok(()) => Status::Done,
-        Err(_failed) => Status::ListenFault,
+        Ok(()) => ServeEnd::Done,
+        Err(_failed) => ServeEnd::ListenFault,
     }
 }
 
@@ -100,7 +120,7 @@ fn serve_links<L: Listener, C: Clock, N: Nonces>(
     start: &Start,
     desk: &mut Desk<L, C, N>,
     links: u64,
-) -> Status
+) -> ServeEnd
     requires opening { IsTrue (is_opening start.now.opening) }
     requires home { L.is_out desk.old.listener ≡ false }
     ensures home { L.is_out desk.new.listener ≡ false }
@@ -111,15 +131,15 @@ fn serve_links<L: Listener, C: Clock, N: Nonces>(
         (desk_trace (L.to_come desk.new.listener) (L.taken_back desk.new.listener) (L.count desk.new.listener)
         (L.is_at_end desk.new.listener) (L.faults desk.new.listener) (C.given desk.new.clock) (N.given desk.new.nonces))
         result }
-    ensures listen_fault { result ≡ Status.ListenFault →
+    ensures listen_fault { result ≡ ServeEnd.ListenFault →
         Rose (L.faults desk.old.listener) (L.faults desk.new.listener) }
 {
     match Portal::open(alloc, &start.opening) {
         Ok(mut portal) => {
             let served = serve_desk(alloc, &mut portal, &start.tokens, desk, links);
-            status_of_desk(served)
+            end_of_desk(served)
         }
-        Err(_fault) => Status::OutOfMemory,
+        Err(_fault) => ServeEnd::OutOfMemory,
     }
 }
 
@@ -134,7 +154,7 @@ pub fn serve_from<F: Fetcher, L: Listener, C: Clock, N: Nonces>(
     ensures home { L.is_out desk.new.listener ≡ false }
     ensures serves { BeginsAnd (fetch_trace (F.held fetcher.old) (F.faults fetcher.old) (F.faults fetcher.new))
         options.now.portal result
-        (λ beginning. Serves (λ peer. link_trace (L.Peer.to_come peer) (L.Peer.taken peer) (L.Peer.faults peer))
+        (λ beginning. ServesWith (λ peer. link_trace (L.Peer.to_come peer) (L.Peer.taken peer) (L.Peer.faults peer))
         beginning options.now.links
         (desk_trace (L.to_come desk.old.listener) (L.taken_back desk.old.listener) (L.count desk.old.listener)
         (L.is_at_end desk.old.listener) (L.faults desk.old.listener) (C.given desk.old.clock) (N.given desk.old.nonces))
@@ -151,7 +171,7 @@ pub fn serve_from<F: Fetcher, L: Listener, C: Clock, N: Nonces>(
         Rose (L.faults desk.old.listener) (L.faults desk.new.listener) }
 {
     match start_of(alloc, fetcher, &options.portal) {
-        Ok(start) => serve_links(alloc, &start, desk, options.links),
+        Ok(start) => status_of_serve(serve_links(alloc, &start, desk, options.links)),
         Err(status) => status,
     }
 }
