@@ -1,11 +1,11 @@
 -- A load by the schema that was fetched.
-use Rattle.std.proofs.Common.{◌≡◌, ◌≤◌, ℕ, List, Some, length, subst, inr}
+use Rattle.std.proofs.Common.{◌≡◌, ◌≤◌, ℕ, List, length, subst, inr}
 use Rattle.portal_base.specs.Outside.{HoldsAt}
 use Rattle.portal_base.specs.declared.caller.Caller.TheVariants.{Named}
 use Rattle.portal_core.specs.State.{State}
 use Rattle.portal_serve.specs.Run.{DeviceTrace}
 use Rattle.portal_words.specs.declared.command.LoadOptions.{LoadOptions}
-use Rattle.portal_load.specs.Load.{EndsLoad, Loads, ReportsSchema, load_task}
+use Rattle.portal_load.specs.Load.{LoadsWith, ReportsSchema, load_task}
 use Rattle.portal_load.specs.SchemaFile.{LoadsFrom}
 use Rattle.portal_status.specs.Fetch.{FetchTrace}
 use Rattle.portal_status.specs.declared.status.Status.{Status}
@@ -15,28 +15,25 @@ use Rattle.portal_status.specs.declared.fetch.TheConstants.{LONGEST_FILE}
 pub loads_fetched : (trace : FetchTrace) (options : LoadOptions) (first state after : State) (old new : DeviceTrace)
     (status : Status) (location bytes schema resource : List ℕ) → HoldsAt trace.held location bytes
     → length bytes ≤ LONGEST_FILE → location ≡ options.schema → schema ≡ bytes → resource ≡ options.resource
-    → state ≡ first → EndsLoad status → ReportsSchema schema old new status
-    → ((whole : List ℕ) → old.to_come ≡ Some whole
-    → Loads (load_task (Named options.caller) schema resource) state whole after old new status)
+    → state ≡ first → ReportsSchema schema old new status
+    → LoadsWith (load_task (Named options.caller) schema resource) state after old new status
     → LoadsFrom trace options first old new status
 loads_fetched trace options first state after old new status location bytes schema resource holds within is_location
-    is_schema is_resource is_first ends reports loads = inr (
+    is_schema is_resource is_first reports loads = inr (
       bytes,
       subst (λ (l : List ℕ). HoldsAt trace.held l bytes) is_location holds,
       within,
       (
-        ends,
         subst (λ (s : List ℕ). ReportsSchema s old new status) is_schema reports,
-        λ whole is. (
+        (
           after,
-          subst (λ (s : State). Loads (load_task (Named options.caller) bytes options.resource) s whole after old new
+          subst (λ (s : State). LoadsWith (load_task (Named options.caller) bytes options.resource) s after old new
               status)
               is_first
-              (subst (λ (r : List ℕ). Loads (load_task (Named options.caller) bytes r) state whole after old new status)
+              (subst (λ (r : List ℕ). LoadsWith (load_task (Named options.caller) bytes r) state after old new status)
               is_resource
-              (subst (λ (s : List ℕ). Loads (load_task (Named options.caller) s resource) state whole after old new
-              status)
-              is_schema (loads whole is))),
+              (subst (λ (s : List ℕ). LoadsWith (load_task (Named options.caller) s resource) state after old new status)
+              is_schema loads)),
         ),
       ),
     )

@@ -27,37 +27,28 @@ use Rattle.typed_csv.specs.declared.fault.LoadFault.TheVariants as fault
 use Rattle.portal_load.proofs.Passing.{makes_on_append, makes_on_none, makes_on_one, refuses_on_append, refuses_on_one}
 use Rattle.portal_load.proofs.Passing.{refuses_on_within, stops_on_after, stops_on_one}
 use Rattle.portal_load.proofs.Passing.{stops_on_append, stops_on_none, stops_on_within}
-use Rattle.portal_load.specs.Load.{EndsLoad, call_of, create_body, create_call, insert_call}
+use Rattle.portal_load.specs.Load.{call_of, create_body, create_call, insert_call}
 use Rattle.portal_load.specs.Progress.{CallsEnd, InsertsEnd, MakesOn, RefusesOn, StopsOn, inserts_for}
 use Rattle.portal_load.specs.Progress.{pieces_until_fault}
-use Rattle.portal_load.specs.Progress.{status_for_call}
+use Rattle.portal_load.specs.Stop.{fault_for_stop, stop_for_fault}
 use Rattle.portal_load.specs.declared.load.Task.{Task}
-use Rattle.portal_status.specs.declared.status.Status.{Status}
-use Rattle.portal_status.specs.declared.status.Status.TheVariants.{Done, Words, ReadFault, WriteFault, OutOfMemory}
-use Rattle.portal_status.specs.declared.status.Status.TheVariants.{PortalFile, FetchFault, DataFault, Refused}
-use Rattle.portal_status.specs.declared.status.Status.TheVariants.{ListenFault}
+use Rattle.portal_load.specs.declared.stop.CallFault.{CallFault}
+use Rattle.portal_load.specs.declared.stop.CallFault.TheVariants as call_fault
+use Rattle.portal_load.specs.declared.stop.LoadStop.{LoadStop}
+use Rattle.portal_load.specs.declared.stop.LoadStop.TheVariants.{ReadFault, WriteFault, OutOfMemory, DataFault, Refused}
 
 -- a call whose line was not written whole
-ends_begun : (state after : State) (calls : List ScriptCall) (old new : StageTrace) (stop : CallStop)
-    → StopsOn 1 state calls after old new → CallsEnd state calls after old new (status_for_call stop)
+pub ends_begun : (state after : State) (calls : List ScriptCall) (old new : StageTrace) (stop : CallStop)
+    → StopsOn 1 state calls after old new → CallsEnd state calls after old new (fault_for_stop stop)
 ends_begun state after calls old new call_stop.WriteFault stops = stops
 ends_begun state after calls old new call_stop.OutOfMemory stops = stops
 
--- the end by a call that stopped
-pub ends_stopped : (r : Result Unit Status) (stop : CallStop) (state after : State) (calls : List ScriptCall)
-    (old new : StageTrace) → (status : Status) × (r ≡ Err status) × (status ≡ status_for_call stop)
-    → StopsOn 1 state calls after old new → IfErr r (CallsEnd state calls after old new)
-ends_stopped r stop state after calls old new exit stops =
-    subst (λ (x : Result Unit Status). IfErr x (CallsEnd state calls after old new)) (sym exit.1)
-    (subst (λ (s : Status). CallsEnd state calls after old new s) (sym exit.2)
-    (ends_begun state after calls old new stop stops))
-
 -- the exit of a `?` when memory ran out before a call
-pub ends_unbegun : (r : Result Unit Status) (state : State) (calls : List ScriptCall) (on : StageTrace)
-    → (status : Status) × (r ≡ Err status) × (status ≡ OutOfMemory) → IfErr r (CallsEnd state calls state on on)
+pub ends_unbegun : (r : Result Unit CallFault) (state : State) (calls : List ScriptCall) (on : StageTrace)
+    → (fault : CallFault) × (r ≡ Err fault) × (fault ≡ call_fault.OutOfMemory) → IfErr r (CallsEnd state calls state on on)
 ends_unbegun r state calls on exit =
-    subst (λ (x : Result Unit Status). IfErr x (CallsEnd state calls state on on)) (sym exit.1)
-    (subst (λ (s : Status). CallsEnd state calls state on on s) (sym exit.2) (stops_on_none 1 state calls on))
+    subst (λ (x : Result Unit CallFault). IfErr x (CallsEnd state calls state on on)) (sym exit.1)
+    (subst (λ (f : CallFault). CallsEnd state calls state on on f) (sym exit.2) (stops_on_none 1 state calls on))
 
 said_is : (caller other : Caller) (action named : List ℕ) (body : Json) → caller ≡ other → action ≡ named
     → call_of caller action body ≡ call_of other named body
@@ -113,27 +104,20 @@ insert_is task resource piece insert body same is given =
 
 -- The end of an insert is the end of the inserts from it on.
 pub ends_insert : (task : Task) (state after : State) (piece : List Json) (pieces rest : Pieces) (old new : StageTrace)
-    (status : Status) → pieces ≡ before piece rest
-    → CallsEnd state (inserts_for task (piece ∷ [])) after old new status
-    → InsertsEnd task state pieces after old new status
-ends_insert task state after piece pieces rest old new status same ended =
-    subst (λ (p : Pieces). InsertsEnd task state p after old new status) (sym same) (by status ended)
+    (fault : CallFault) → pieces ≡ before piece rest
+    → CallsEnd state (inserts_for task (piece ∷ [])) after old new fault
+    → InsertsEnd task state pieces after old new (stop_for_fault fault)
+ends_insert task state after piece pieces rest old new fault same ended =
+    subst (λ (p : Pieces). InsertsEnd task state p after old new (stop_for_fault fault)) (sym same) (by fault ended)
   where
-    by : (status : Status) → CallsEnd state (inserts_for task (piece ∷ [])) after old new status
-        → InsertsEnd task state (before piece rest) after old new status
-    by Done ended = absurd ended
-    by Words ended = absurd ended
-    by ReadFault ended = absurd ended
-    by WriteFault stops =
-        stops_on_within 1 state after (inserts_for task (piece ∷ [])) (inserts_for task rest.pieces) old new stops
-    by OutOfMemory stops =
-        stops_on_within 1 state after (inserts_for task (piece ∷ [])) (inserts_for task rest.pieces) old new stops
-    by (PortalFile text) ended = absurd ended
-    by (FetchFault text) ended = absurd ended
-    by (DataFault text) ended = absurd ended
-    by Refused refuses =
+    by : (fault : CallFault) → CallsEnd state (inserts_for task (piece ∷ [])) after old new fault
+        → InsertsEnd task state (before piece rest) after old new (stop_for_fault fault)
+    by call_fault.Refused refuses =
         refuses_on_within state after (inserts_for task (piece ∷ [])) (inserts_for task rest.pieces) old new refuses
-    by ListenFault ended = absurd ended
+    by call_fault.WriteFault stops =
+        stops_on_within 1 state after (inserts_for task (piece ∷ [])) (inserts_for task rest.pieces) old new stops
+    by call_fault.OutOfMemory stops =
+        stops_on_within 1 state after (inserts_for task (piece ∷ [])) (inserts_for task rest.pieces) old new stops
 
 -- the pieces after the first
 remaining_more : (now next : Option Pieces) (piece : List Json) (rest : Pieces) → now ≡ Some rest
@@ -143,21 +127,22 @@ remaining_more now None piece rest observed gives = absurd (cc)
 remaining_more now (Some left) piece rest observed gives = (left, refl, cc)
 
 -- the exit of a `?` at an insert
-pub ends_at_insert : (r : Result Bool Status) (end : Status) (task : Task) (resource : List ℕ) (state after : State)
+pub ends_at_insert : (r : Result Bool LoadStop) (fault : CallFault) (task : Task) (resource : List ℕ)
+    (state after : State)
     (insert : Insert) (body : Json) (remaining left : Option Pieces) (old new : StageTrace)
-    → (status : Status) × (r ≡ Err status) × (status ≡ end) → resource ≡ task.resource.now → body ≡ insert.body
-    → Answers resource remaining (Ok (Some insert)) left
-    → CallsEnd state (call_of task.caller.now (codes "datastore_upsert") body ∷ []) after old new end
-    → IfErr r (λ status. (pieces : Pieces) → remaining ≡ Some pieces
-    → InsertsEnd task state pieces after old new status)
-ends_at_insert r end task resource state after insert body remaining left old new exit same is given ended =
-    subst (λ (x : Result Bool Status). IfErr x (λ status. (pieces : Pieces) → remaining ≡ Some pieces
-    → InsertsEnd task state pieces after old new status)) (sym exit.1)
+    → (stop : LoadStop) × (r ≡ Err stop) × (stop ≡ stop_for_fault fault) → resource ≡ task.resource.now
+    → body ≡ insert.body → Answers resource remaining (Ok (Some insert)) left
+    → CallsEnd state (call_of task.caller.now (codes "datastore_upsert") body ∷ []) after old new fault
+    → IfErr r (λ stop. (pieces : Pieces) → remaining ≡ Some pieces
+    → InsertsEnd task state pieces after old new stop)
+ends_at_insert r fault task resource state after insert body remaining left old new exit same is given ended =
+    subst (λ (x : Result Bool LoadStop). IfErr x (λ stop. (pieces : Pieces) → remaining ≡ Some pieces
+    → InsertsEnd task state pieces after old new stop)) (sym exit.1)
     (λ pieces observed.
     let rest = remaining_more remaining left given.0 pieces observed given.2 in
-    ends_insert task state after given.0 pieces rest.0 old new exit.0 rest.2
-    (subst (λ (s : Status). CallsEnd state (inserts_for task (given.0 ∷ [])) after old new s) (sym exit.2)
-    (subst (λ (call : ScriptCall). CallsEnd state (call ∷ []) after old new end)
+    subst (λ (s : LoadStop). InsertsEnd task state pieces after old new s) (sym exit.2)
+    (ends_insert task state after given.0 pieces rest.0 old new fault rest.2
+    (subst (λ (call : ScriptCall). CallsEnd state (call ∷ []) after old new fault)
     (insert_is task resource given.0 insert body same is given.1) ended)))
 
 -- an insert that was granted
@@ -176,64 +161,64 @@ goes_on_insert task resource state after insert body remaining left old new same
 
 -- ---- the end of inserts by a fault of the rows
 
--- the status of a fault
-pub record ReportsFault (why : LoadFault) (status : Status) : Type 0 where
-  pub read_fault : (why ≡ fault.ReadFault) ↔ (status ≡ ReadFault)
-  pub too_long : (why ≡ fault.TooLong) ↔ (status ≡ DataFault (codes "input too long"))
-  pub reported : status ≢ ReadFault → (status ≡ DataFault (load_fault_text why)) ⊎ (status ≡ OutOfMemory)
-  pub memory : why ≡ fault.OutOfMemory → status ≡ OutOfMemory
+-- where a fault of the CSV stops a load
+pub record ReportsFault (why : LoadFault) (stop : LoadStop) : Type 0 where
+  pub read_fault : (why ≡ fault.ReadFault) ↔ (stop ≡ ReadFault)
+  pub too_long : (why ≡ fault.TooLong) ↔ (stop ≡ DataFault (codes "input too long"))
+  pub reported : stop ≢ ReadFault → (stop ≡ DataFault (load_fault_text why)) ⊎ (stop ≡ OutOfMemory)
+  pub memory : why ≡ fault.OutOfMemory → stop ≡ OutOfMemory
 
 -- a fault of a row or of the reading ends the inserts before its piece
-ends_faulty : (task : Task) (state : State) (why : LoadFault) (pieces : Pieces) (on : StageTrace) (status : Status)
-    → pieces ≡ faulty why → (status ≡ DataFault (load_fault_text why)) ⊎ (status ≡ OutOfMemory)
-    → InsertsEnd task state pieces state on on status
-ends_faulty task state why pieces on status same (inl observed) =
-    subst (λ (s : Status). InsertsEnd task state pieces state on on s) (sym observed)
+ends_faulty : (task : Task) (state : State) (why : LoadFault) (pieces : Pieces) (on : StageTrace) (stop : LoadStop)
+    → pieces ≡ faulty why → (stop ≡ DataFault (load_fault_text why)) ⊎ (stop ≡ OutOfMemory)
+    → InsertsEnd task state pieces state on on stop
+ends_faulty task state why pieces on stop same (inl observed) =
+    subst (λ (s : LoadStop). InsertsEnd task state pieces state on on s) (sym observed)
     (subst (λ (p : Pieces). InsertsEnd task state p state on on (DataFault (load_fault_text why))) (sym same)
     (inl (why, refl, refl, makes_on_none state on)))
-ends_faulty task state why pieces on status same (inr memory) =
-    subst (λ (s : Status). InsertsEnd task state pieces state on on s) (sym memory)
+ends_faulty task state why pieces on stop same (inr memory) =
+    subst (λ (s : LoadStop). InsertsEnd task state pieces state on on s) (sym memory)
     (stops_on_none 1 state (inserts_for task pieces.pieces) on)
 
 -- a fault that ends the inserts before any further one
-pub ends_fault : (task : Task) (state : State) (why : LoadFault) (pieces : Pieces) (on : StageTrace) (status : Status)
-    → IsOutside why ⊎ (pieces ≡ faulty why) → ReportsFault why status
-    → InsertsEnd task state pieces state on on status
-ends_fault task state fault.ReadFault pieces on status answers reports =
-    subst (λ (s : Status). InsertsEnd task state pieces state on on s) (sym (reports.read_fault.0 refl))
+pub ends_fault : (task : Task) (state : State) (why : LoadFault) (pieces : Pieces) (on : StageTrace) (stop : LoadStop)
+    → IsOutside why ⊎ (pieces ≡ faulty why) → ReportsFault why stop
+    → InsertsEnd task state pieces state on on stop
+ends_fault task state fault.ReadFault pieces on stop answers reports =
+    subst (λ (s : LoadStop). InsertsEnd task state pieces state on on s) (sym (reports.read_fault.0 refl))
     (stops_on_none 0 state (inserts_for task pieces.pieces) on)
-ends_fault task state fault.TooLong pieces on status answers reports =
-    subst (λ (s : Status). InsertsEnd task state pieces state on on s) (sym (reports.too_long.0 refl))
+ends_fault task state fault.TooLong pieces on stop answers reports =
+    subst (λ (s : LoadStop). InsertsEnd task state pieces state on on s) (sym (reports.too_long.0 refl))
     (inr (refl, stops_on_none 0 state (inserts_for task pieces.pieces) on))
-ends_fault task state fault.OutOfMemory pieces on status answers reports =
-    subst (λ (s : Status). InsertsEnd task state pieces state on on s) (sym (reports.memory refl))
+ends_fault task state fault.OutOfMemory pieces on stop answers reports =
+    subst (λ (s : LoadStop). InsertsEnd task state pieces state on on s) (sym (reports.memory refl))
     (stops_on_none 1 state (inserts_for task pieces.pieces) on)
-ends_fault task state why pieces on status (inl outside) reports = absurd outside
-ends_fault task state why pieces on status (inr same) reports =
-    ends_faulty task state why pieces on status same
+ends_fault task state why pieces on stop (inl outside) reports = absurd outside
+ends_fault task state why pieces on stop (inr same) reports =
+    ends_faulty task state why pieces on stop same
     (reports.reported (λ read. let e : why ≡ fault.ReadFault = reports.read_fault.1 read in absurd (cc)))
 
 -- a fault in the place of the next insert
 pub ends_answer : (task : Task) (resource : List ℕ) (state : State) (why : LoadFault) (pieces : Pieces)
-    (before left : Option Pieces) (on : StageTrace) (status : Status) → why ≢ fault.Spent → before ≡ Some pieces
-    → Answers resource before (Err why) left → ReportsFault why status → InsertsEnd task state pieces state on on status
-ends_answer task resource state why pieces before left on status unspent observed (inl outside) reports =
-    ends_fault task state why pieces on status (inl outside) reports
-ends_answer task resource state why pieces before left on status unspent observed (inr (inl spent)) reports =
+    (before left : Option Pieces) (on : StageTrace) (stop : LoadStop) → why ≢ fault.Spent → before ≡ Some pieces
+    → Answers resource before (Err why) left → ReportsFault why stop → InsertsEnd task state pieces state on on stop
+ends_answer task resource state why pieces before left on stop unspent observed (inl outside) reports =
+    ends_fault task state why pieces on stop (inl outside) reports
+ends_answer task resource state why pieces before left on stop unspent observed (inr (inl spent)) reports =
     absurd (unspent spent)
-ends_answer task resource state why pieces before left on status unspent observed (inr (inr same)) reports =
-    ends_fault task state why pieces on status
+ends_answer task resource state why pieces before left on stop unspent observed (inr (inr same)) reports =
+    ends_fault task state why pieces on stop
     (inr (subst (λ (o : Option Pieces). IfSome o (λ p. p ≡ faulty why)) observed same)) reports
 
 -- a fault before the first insert
 pub ends_start : (task : Task) (resource : List ℕ) (fields : List FieldValue) (state : State) (why : LoadFault)
-    (whole : List ℕ) (observed : Option (List ℕ)) (on : StageTrace) (status : Status) → observed ≡ Some whole
-    → RefusesHeader resource fields observed why → ReportsFault why status
-    → InsertsEnd task state (pieces_until_fault (inserts_of resource fields whole)) state on on status
-ends_start task resource fields state why whole observed on status is (inl outside) reports =
-    ends_fault task state why (pieces_until_fault (inserts_of resource fields whole)) on status (inl outside) reports
-ends_start task resource fields state why whole observed on status is (inr header) reports =
-    ends_fault task state why (pieces_until_fault (inserts_of resource fields whole)) on status
+    (whole : List ℕ) (observed : Option (List ℕ)) (on : StageTrace) (stop : LoadStop) → observed ≡ Some whole
+    → RefusesHeader resource fields observed why → ReportsFault why stop
+    → InsertsEnd task state (pieces_until_fault (inserts_of resource fields whole)) state on on stop
+ends_start task resource fields state why whole observed on stop is (inl outside) reports =
+    ends_fault task state why (pieces_until_fault (inserts_of resource fields whole)) on stop (inl outside) reports
+ends_start task resource fields state why whole observed on stop is (inr header) reports =
+    ends_fault task state why (pieces_until_fault (inserts_of resource fields whole)) on stop
     (inr (ap pieces_until_fault
     (subst (λ (o : Option (List ℕ)). IfSome o (λ text. inserts_of resource fields text ≡ Err why)) is header)))
     reports
@@ -299,10 +284,10 @@ to_stop most task state mid pieces rest old on to =
     (stops_on_after most state mid (inserts_for task to.first) (inserts_for task rest.pieces) old on to.makes)
 
 -- the end of the remaining inserts is the end of all
-pub to_end : (task : Task) (state mid after : State) (pieces rest : Pieces) (old on new : StageTrace) (status : Status)
-    → InsertsTo task state pieces mid rest old on → InsertsEnd task mid rest after on new status
-    → InsertsEnd task state pieces after old new status
-to_end task state mid after pieces rest old on new status to ended = by status ended
+pub to_end : (task : Task) (state mid after : State) (pieces rest : Pieces) (old on new : StageTrace) (stop : LoadStop)
+    → InsertsTo task state pieces mid rest old on → InsertsEnd task mid rest after on new stop
+    → InsertsEnd task state pieces after old new stop
+to_end task state mid after pieces rest old on new stop to ended = by stop ended
   where
     stops : (most : ℕ) → StopsOn most mid (inserts_for task rest.pieces) after on new
         → StopsOn most state (inserts_for task pieces.pieces) after old new
@@ -318,15 +303,11 @@ to_end task state mid after pieces rest old on new status to ended = by status e
         (makes_on_append state mid after (inserts_for task to.first) (inserts_for task rest.pieces) old on new to.makes
         more)
 
-    by : (status : Status) → InsertsEnd task mid rest after on new status
-        → InsertsEnd task state pieces after old new status
-    by Done ended = absurd ended
-    by Words ended = absurd ended
+    by : (stop : LoadStop) → InsertsEnd task mid rest after on new stop
+        → InsertsEnd task state pieces after old new stop
     by ReadFault more = stops 0 more
     by WriteFault more = stops 1 more
     by OutOfMemory more = stops 1 more
-    by (PortalFile text) ended = absurd ended
-    by (FetchFault text) ended = absurd ended
     by (DataFault text) (inl f) = inl (f.0, to.fault ∙ f.1, f.2, makes f.3)
     by (DataFault text) (inr f) = inr (f.0, stops 0 f.1)
     by Refused more = subst (λ (calls : List ScriptCall). RefusesOn state calls after old new)
@@ -334,7 +315,6 @@ to_end task state mid after pieces rest old on new status to ended = by status e
         (refuses_on_append state mid after (inserts_for task to.first)
         (inserts_for task rest.pieces) old on new to.makes
         more)
-    by ListenFault ended = absurd ended
 
 -- ---- turns
 
@@ -373,14 +353,14 @@ plays_all task state mid first now old on plays none pieces observed =
     to_all task state mid pieces to.0 old on to.2
     (subst (λ (o : Option Pieces). IfSome o (λ p. p ≡ no_pieces)) to.1 none)
 
--- the remaining inserts ended with this status
+-- the remaining inserts stopped so
 pub plays_end : (task : Task) (state mid after : State) (first now : Option Pieces) (old on new : StageTrace)
-    (status : Status) → PlaysTo task state first mid now old on
-    → ((rest : Pieces) → now ≡ Some rest → InsertsEnd task mid rest after on new status)
-    → (pieces : Pieces) → first ≡ Some pieces → InsertsEnd task state pieces after old new status
-plays_end task state mid after first now old on new status plays ended pieces observed =
+    (stop : LoadStop) → PlaysTo task state first mid now old on
+    → ((rest : Pieces) → now ≡ Some rest → InsertsEnd task mid rest after on new stop)
+    → (pieces : Pieces) → first ≡ Some pieces → InsertsEnd task state pieces after old new stop
+plays_end task state mid after first now old on new stop plays ended pieces observed =
     let to = plays pieces observed in
-    to_end task state mid after pieces to.0 old on new status to.2 (ended to.0 to.1)
+    to_end task state mid after pieces to.0 old on new stop to.2 (ended to.0 to.1)
 
 -- no further one was begun
 pub plays_stop : (most : ℕ) (task : Task) (state mid : State) (first now : Option Pieces) (old on : StageTrace)
@@ -404,15 +384,15 @@ counted_more observed mid left given now then first second = (
 -- ---- what holds after several turns
 
 -- after a granted insert, and at the end, input is not too long
-pub granted_within : (r : Result Bool Status) (more : Bool) (given : ℕ) → r ≡ Ok more
+pub granted_within : (r : Result Bool LoadStop) (more : Bool) (given : ℕ) → r ≡ Ok more
     → (r ≡ Err (DataFault (codes "input too long"))) ↔ (2 ^ 40 < given) → given ≤ 2 ^ 40
 granted_within r more given is same =
     let few : 2 ^ 40 < given → ⊥ = λ much.
     let e : r ≡ Err (DataFault (codes "input too long")) = same.1 much in absurd (cc) in
     omega (arith, few)
 
--- another status, when input is not too long
-pub not_too_long : (r : Result Unit Status) (given : ℕ) → r ≢ Err (DataFault (codes "input too long"))
+-- another end, when input is not too long
+pub not_too_long : (r : Result Unit LoadStop) (given : ℕ) → r ≢ Err (DataFault (codes "input too long"))
     → given ≤ 2 ^ 40 → (r ≡ Err (DataFault (codes "input too long"))) ↔ (2 ^ 40 < given)
 not_too_long r given other few = (λ e. absurd (other e), λ much. absurd (omega arith))
 
@@ -420,43 +400,3 @@ not_too_long r given other few = (λ e. absurd (other e), λ much. absurd (omega
 pub within_turns : (counter given : ℕ) → (counter ≡ 0) ⊎ (given ≤ 2 ^ 40) → 1 ≤ counter → given ≤ 2 ^ 40
 within_turns counter given (inl none) turns = absurd (omega arith)
 within_turns counter given (inr few) turns = few
-
--- ---- the statuses that end them
-
-calls_end : (state after : State) (calls : List ScriptCall) (old new : StageTrace) (status : Status)
-    → CallsEnd state calls after old new status → EndsLoad status
-calls_end state after calls old new Done ended = tt
-calls_end state after calls old new Words ended = absurd ended
-calls_end state after calls old new ReadFault ended = tt
-calls_end state after calls old new WriteFault ended = tt
-calls_end state after calls old new OutOfMemory ended = tt
-calls_end state after calls old new (PortalFile text) ended = absurd ended
-calls_end state after calls old new (FetchFault text) ended = absurd ended
-calls_end state after calls old new (DataFault text) ended = tt
-calls_end state after calls old new Refused ended = tt
-calls_end state after calls old new ListenFault ended = absurd ended
-
--- the exit of a `?` at a call
-pub exit_ends : {X : Type 0} (r : Result X Status) (end : Status) (state after : State) (calls : List ScriptCall)
-    (old new : StageTrace) → (status : Status) × (r ≡ Err status) × (status ≡ end)
-    → CallsEnd state calls after old new end → IfErr r EndsLoad
-exit_ends {X} r end state after calls old new exit ended =
-    subst (λ (x : Result X Status). IfErr x EndsLoad) (sym exit.1)
-    (subst EndsLoad (sym exit.2) (calls_end state after calls old new end ended))
-
-error_ends : (status : Status) (text : List ℕ) → (status ≡ DataFault text) ⊎ (status ≡ OutOfMemory)
-    → EndsLoad status
-error_ends status text (inl observed) = subst EndsLoad (sym observed) tt
-error_ends status text (inr memory) = subst EndsLoad (sym memory) tt
-
--- the status of a fault of the rows
-pub reported_ends : (why : LoadFault) (status : Status) → ReportsFault why status → EndsLoad status
-reported_ends fault.ReadFault status reports = subst EndsLoad (sym (reports.read_fault.0 refl)) tt
-reported_ends why status reports =
-    error_ends status (load_fault_text why)
-    (reports.reported (λ read. let e : why ≡ fault.ReadFault = reports.read_fault.1 read in absurd (cc)))
-
--- and one of the schema
-pub schema_ends : (status : Status) (text : List ℕ) → (status ≡ DataFault text) ⊎ (status ≡ OutOfMemory)
-    → EndsLoad status
-schema_ends status text reported = error_ends status text reported

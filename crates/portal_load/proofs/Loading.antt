@@ -11,7 +11,7 @@ use Rattle.portal_base.specs.declared.caller.Caller.{Caller}
 use Rattle.portal_base.specs.declared.json_value.Json.{Json}
 use Rattle.portal_core.specs.State.{State}
 use Rattle.portal_serve.specs.Calls.{MakesAllCalls, MakesCallsToRefusal, StopsCalls}
-use Rattle.portal_serve.specs.Run.{DeviceTrace, StageTrace, Passed, device_trace, input_limit, with_input}
+use Rattle.portal_serve.specs.Run.{DeviceTrace, GaveTooMuch, StageTrace, Passed, device_trace, input_limit, with_input}
 use Rattle.portal_serve.specs.Script.{ScriptCall}
 use Rattle.row_inserts.specs.InsertsValue.{Begins}
 use Rattle.row_inserts.specs.Inserts.{Pieces, inserts_of, pieces_read}
@@ -32,10 +32,12 @@ use Rattle.portal_load.specs.Load.{script_by, script_of, script_under}
 use Rattle.portal_load.specs.Progress.{CallsEnd, InsertsEnd, MakesOn, PassesOutlet, RefusesOn, StopsOn, inserts_for}
 use Rattle.portal_load.specs.Progress.{pieces_until_fault}
 use Rattle.portal_load.specs.declared.load.Task.{Task}
-use Rattle.portal_status.specs.declared.status.Status.{Status}
-use Rattle.portal_status.specs.declared.status.Status.TheVariants.{Done, Words, ReadFault, WriteFault, OutOfMemory}
-use Rattle.portal_status.specs.declared.status.Status.TheVariants.{PortalFile, FetchFault, DataFault, Refused}
-use Rattle.portal_status.specs.declared.status.Status.TheVariants.{ListenFault}
+use Rattle.portal_load.specs.Stop.{status_for_load, stop_for_fault}
+use Rattle.portal_load.specs.declared.stop.CallFault.{CallFault}
+use Rattle.portal_load.specs.declared.stop.CallFault.TheVariants as call_fault
+use Rattle.portal_load.specs.declared.stop.LoadStop.{LoadStop}
+use Rattle.portal_load.specs.declared.stop.LoadStop.TheVariants.{ReadFault, WriteFault, OutOfMemory, DataFault, Refused}
+use Rattle.portal_status.specs.declared.status.Status.TheVariants as status
 
 -- ---- the script
 
@@ -134,30 +136,23 @@ loads_to_fault why task state after calls whole bytes rest before left old new s
 -- ---- where the call that makes the table ends a load
 
 pub loads_first : (task : LoadTask) (state after : State) (calls rest : List ScriptCall) (whole : List ℕ)
-    (before left : Option (List ℕ)) (old new : StageTrace) (status : Status) → script_of task whole ≡ calls ++ rest
-    → left ≡ Some whole → CallsEnd state calls after old new status
-    → Loads task state whole after (with_input before old) (with_input left new) status
-loads_first task state after calls rest whole before left old new status script observed ended = by status ended
+    (before left : Option (List ℕ)) (old new : StageTrace) (fault : CallFault) → script_of task whole ≡ calls ++ rest
+    → left ≡ Some whole → CallsEnd state calls after old new fault
+    → Loads task state whole after (with_input before old) (with_input left new) (Err (stop_for_fault fault))
+loads_first task state after calls rest whole before left old new fault script observed ended = by fault ended
   where
     stops : StopsOn 1 state calls after old new
         → LoadsPart 1 task state whole after (with_input before old) (with_input left new)
     stops on = loads_part 1 task state after (calls ++ rest) whole [] whole before left old new script observed refl
         (stops_on_within 1 state after calls rest old new on)
 
-    by : (status : Status) → CallsEnd state calls after old new status
-        → Loads task state whole after (with_input before old) (with_input left new) status
-    by Done ended = absurd ended
-    by Words ended = absurd ended
-    by ReadFault ended = absurd ended
-    by WriteFault on = stops on
-    by OutOfMemory on = stops on
-    by (PortalFile text) ended = absurd ended
-    by (FetchFault text) ended = absurd ended
-    by (DataFault text) ended = absurd ended
-    by Refused on = loads_refusal task state after (calls ++ rest) whole [] whole before left old new script observed
-        refl
+    by : (fault : CallFault) → CallsEnd state calls after old new fault
+        → Loads task state whole after (with_input before old) (with_input left new) (Err (stop_for_fault fault))
+    by call_fault.Refused on = loads_refusal task state after (calls ++ rest) whole [] whole before left old new script
+        observed refl
         (refuses_on_within state after calls rest old new on) (λ one. refl)
-    by ListenFault ended = absurd ended
+    by call_fault.WriteFault on = stops on
+    by call_fault.OutOfMemory on = stops on
 
 -- ---- where the inserts end it
 
@@ -194,12 +189,12 @@ begun_script own schema whole json value state mid old on begun =
 
 -- how inserts ended, after the call that makes the table
 pub loads_inserts : (own : Task) (schema whole bytes rest : List ℕ) (json : Json) (value : SchemaValue)
-    (state mid after : State) (old on new : StageTrace) (before left : Option (List ℕ)) (status : Status)
+    (state mid after : State) (old on new : StageTrace) (before left : Option (List ℕ)) (stop : LoadStop)
     → Begun own schema json value state mid old on → left ≡ Some rest → whole ≡ bytes ++ rest
-    → InsertsEnd own mid (pieces_by own value whole) after on new status
-    → Loads (task_of own schema) state whole after (with_input before old) (with_input left new) status
-loads_inserts own schema whole bytes rest json value state mid after old on new before left status begun observed splits
-    ended = by status ended
+    → InsertsEnd own mid (pieces_by own value whole) after on new stop
+    → Loads (task_of own schema) state whole after (with_input before old) (with_input left new) (Err stop)
+loads_inserts own schema whole bytes rest json value state mid after old on new before left stop begun observed splits
+    ended = by stop ended
   where
     script : script_of (task_of own schema) whole ≡ calls_with own json (pieces_by own value whole).pieces
     script = begun_script own schema whole json value state mid old on begun
@@ -238,19 +233,14 @@ loads_inserts own schema whole bytes rest json value state mid after old on new 
         (inserts_for own (pieces_by own value whole).pieces) old on new begun.made
         makes)
 
-    by : (status : Status) → InsertsEnd own mid (pieces_by own value whole) after on new status
-        → Loads (task_of own schema) state whole after (with_input before old) (with_input left new) status
-    by Done ended = absurd ended
-    by Words ended = absurd ended
+    by : (stop : LoadStop) → InsertsEnd own mid (pieces_by own value whole) after on new stop
+        → Loads (task_of own schema) state whole after (with_input before old) (with_input left new) (Err stop)
     by ReadFault stops = part 0 stops
     by WriteFault stops = part 1 stops
     by OutOfMemory stops = part 1 stops
-    by (PortalFile text) ended = absurd ended
-    by (FetchFault text) ended = absurd ended
     by (DataFault text) (inl f) = inr (inl (f.0, to_fault f.0 f.1 f.3, f.2))
     by (DataFault text) (inr f) = inr (inr (part 0 f.1, f.0))
     by Refused refuses = refusal refuses
-    by ListenFault ended = absurd ended
 
 -- all of them were granted, and input was read to its end
 pub loads_all : (own : Task) (schema whole bytes rest : List ℕ) (json : Json) (value : SchemaValue)
@@ -301,28 +291,35 @@ remaining_pieces resource fields whole observed (Some pieces) is begins =
 
 -- nothing was played
 pub loads_not : (task : LoadTask) (state : State) (whole : List ℕ) (before : Option (List ℕ)) (on : StageTrace)
-    (why : SchemaFault) (status : Status) → before ≡ Some whole
+    (why : SchemaFault) (stop : LoadStop) → before ≡ Some whole
     → (why ≡ schema_fault.OutOfMemory) ⊎ (bytes_reading task.schema ≡ Err why)
-    → (status ≡ DataFault (schema_text why)) ⊎ (status ≡ OutOfMemory)
-    → (why ≡ schema_fault.OutOfMemory → status ≡ OutOfMemory)
-    → Loads task state whole state (with_input before on) (with_input before on) status
-loads_not task state whole before on why status observed is (inr memory) full =
-    subst (λ (s : Status). Loads task state whole state (with_input before on) (with_input before on) s) (sym memory)
-    (loads_part 1 task state state (script_of task whole) whole [] whole before before on on refl observed refl
-    (stops_on_none 1 state (script_of task whole) on))
-loads_not task state whole before on why status observed (inl memory) (inl reports) full =
-    subst (λ (s : Status). Loads task state whole state (with_input before on) (with_input before on) s)
-    (sym (full memory))
-    (loads_part 1 task state state (script_of task whole) whole [] whole before before on on refl observed refl
-    (stops_on_none 1 state (script_of task whole) on))
-loads_not task state whole before on why status observed (inr is) (inl reports) full =
-    subst (λ (s : Status). Loads task state whole state (with_input before on) (with_input before on) s) (sym reports)
-    (inl (why, is, refl, refl, refl))
+    → (stop ≡ DataFault (schema_text why)) ⊎ (stop ≡ OutOfMemory)
+    → (why ≡ schema_fault.OutOfMemory → stop ≡ OutOfMemory)
+    → Loads task state whole state (with_input before on) (with_input before on) (Err stop)
+loads_not task state whole before on why stop observed is reports full = by is reports
+  where
+    nothing : stop ≡ OutOfMemory
+        → Loads task state whole state (with_input before on) (with_input before on) (Err stop)
+    nothing memory =
+        subst (λ (s : LoadStop). Loads task state whole state (with_input before on) (with_input before on) (Err s))
+        (sym memory)
+        (loads_part 1 task state state (script_of task whole) whole [] whole before before on on refl observed refl
+        (stops_on_none 1 state (script_of task whole) on))
+
+    by : (why ≡ schema_fault.OutOfMemory) ⊎ (bytes_reading task.schema ≡ Err why)
+        → (stop ≡ DataFault (schema_text why)) ⊎ (stop ≡ OutOfMemory)
+        → Loads task state whole state (with_input before on) (with_input before on) (Err stop)
+    by is (inr memory) = nothing memory
+    by (inl memory) (inl reports) = nothing (full memory)
+    by (inr is) (inl reports) =
+        subst (λ (s : LoadStop). Loads task state whole state (with_input before on) (with_input before on) (Err s))
+        (sym reports)
+        (inl (why, is, refl, refl, refl))
 
 -- ---- the rows of a source
 
 -- the end of the inserts, where input is observable
-pub rows_done : (r : Result Unit Status) (own : Task) (fields : List FieldValue) (observed : Option (List ℕ))
+pub rows_done : (r : Result Unit LoadStop) (own : Task) (fields : List FieldValue) (observed : Option (List ℕ))
     (remaining : Option Pieces) (state after : State) (old new : StageTrace)
     → Begins own.resource.now fields observed remaining
     → OnOk r ((pieces : Pieces) → remaining ≡ Some pieces → (pieces.fault ≡ None)
@@ -354,30 +351,27 @@ rows_received P observed mid left given now first more same =
 -- ---- a load by a schema that was read
 
 -- the exit of a `?` at the call that makes the table
-pub loads_unmade : (r : Result Unit Status) (end : Status) (own : Task) (json : Json) (value : SchemaValue)
+pub loads_unmade : (r : Result Unit LoadStop) (fault : CallFault) (own : Task) (json : Json) (value : SchemaValue)
     (state after : State) (observed : Option (List ℕ)) (old new : StageTrace)
-    → (status : Status) × (r ≡ Err status) × (status ≡ end) → schema_reading json ≡ Ok value
-    → CallsEnd state (create_call own.caller.now own.resource.now json ∷ []) after old new end
-    → IfErr r (λ status. (schema whole : List ℕ) → json_reading schema ≡ Ok json → observed ≡ Some whole
+    → (stop : LoadStop) × (r ≡ Err stop) × (stop ≡ stop_for_fault fault) → schema_reading json ≡ Ok value
+    → CallsEnd state (create_call own.caller.now own.resource.now json ∷ []) after old new fault
+    → (schema whole : List ℕ) → json_reading schema ≡ Ok json → observed ≡ Some whole
     → Loads (load_task own.caller.now schema own.resource.now) state whole after (with_input observed old)
-    (with_input observed new) status)
-loads_unmade r end own json value state after observed old new exit is ended =
-    subst (λ (x : Result Unit Status). IfErr x (λ status. (schema whole : List ℕ) → json_reading schema ≡ Ok json
-    → observed ≡ Some whole → Loads (load_task own.caller.now schema own.resource.now) state whole after
-    (with_input observed old) (with_input observed new) status)) (sym exit.1)
-    (λ schema whole read reports.
-    loads_first (task_of own schema) state after (create_of own json ∷ [])
+    (with_input observed new) r
+loads_unmade r fault own json value state after observed old new exit is ended schema whole read reports =
+    subst (λ (x : Result Unit LoadStop). Loads (task_of own schema) state whole after (with_input observed old)
+    (with_input observed new) x) (sym (exit.1 ∙ ap (λ (s : LoadStop). Err s) exit.2))
+    (loads_first (task_of own schema) state after (create_of own json ∷ [])
     (inserts_for own (pieces_in
-    (inserts_of own.resource.now value.fields whole))) whole observed observed old new exit.0
-    (script_is own.caller.now schema whole own.resource.now json value read is) reports
-    (subst (λ (s : Status). CallsEnd state (create_of own json ∷ []) after old new s) (sym exit.2) ended))
+    (inserts_of own.resource.now value.fields whole))) whole observed observed old new fault
+    (script_is own.caller.now schema whole own.resource.now json value read is) reports ended)
 
 few_bytes : (bytes : List ℕ) (P : Type 0) → (P → ⊥) → P ↔ (2 ^ 40 < length bytes) → length bytes ≤ input_limit
 few_bytes bytes P never same =
     let few : 2 ^ 40 < length bytes → ⊥ = λ much. never (same.1 much) in omega (arith, few)
 
--- all of it was loaded
-pub loads_done : (r : Result Unit Status) (own : Task) (json : Json) (value : SchemaValue) (state mid after : State)
+-- The table was made, and its inserts came to this end.
+pub loads_made : (r : Result Unit LoadStop) (own : Task) (json : Json) (value : SchemaValue) (state mid after : State)
     (observed left : Option (List ℕ)) (old on new : StageTrace) → schema_reading json ≡ Ok value
     → MakesOn state (create_call own.caller.now own.resource.now json ∷ []) mid old on
     → OnOk r ((whole : List ℕ) → observed ≡ Some whole
@@ -385,41 +379,48 @@ pub loads_done : (r : Result Unit Status) (own : Task) (json : Json) (value : Sc
     × MakesOn mid (inserts_for own (pieces_until_fault
     (inserts_of own.resource.now value.fields whole)).pieces) after on new)
     → OnOk r (IsAtEnd left)
+    → IfErr r (λ stop. (whole : List ℕ) → observed ≡ Some whole
+    → InsertsEnd own mid (pieces_until_fault (inserts_of own.resource.now value.fields whole)) after on new stop)
     → ((bytes : List ℕ) × Gives observed bytes left
     × ((r ≡ Err (DataFault (codes "input too long"))) ↔ (2 ^ 40 < length bytes)))
-    → OnOk r ((schema whole : List ℕ) → json_reading schema ≡ Ok json → observed ≡ Some whole
-    → LoadsAll (load_task own.caller.now schema own.resource.now) state whole after (with_input observed old)
-    (with_input left new))
-loads_done (Err status) own json value state mid after observed left old on new is made done ended came = tt
-loads_done (Ok loaded) own json value state mid after observed left old on new is made done ended came =
-    λ schema whole read reports.
+    → (schema whole : List ℕ) → json_reading schema ≡ Ok json → observed ≡ Some whole
+    → Loads (load_task own.caller.now schema own.resource.now) state whole after (with_input observed old)
+    (with_input left new) r
+loads_made (Ok loaded) own json value state mid after observed left old on new is made done at_end ended came schema
+    whole read reports =
     let gave = moved whole came.0 observed left reports came.1 in
     loads_all own schema whole came.0 gave.0 json value state mid after old on new observed left
-    (record { read = read; is = is; made = made }) gave.1 gave.2 ended
+    (record { read = read; is = is; made = made }) gave.1 gave.2 at_end
     (few_bytes came.0 (Ok loaded ≡ Err (DataFault (codes "input too long"))) (λ e. absurd (cc)) came.2)
     (done whole reports)
-
--- its inserts ended with this status
-pub loads_ended : (r : Result Unit Status) (own : Task) (json : Json) (value : SchemaValue) (state mid after : State)
-    (observed left : Option (List ℕ)) (old on new : StageTrace) → schema_reading json ≡ Ok value
-    → MakesOn state (create_call own.caller.now own.resource.now json ∷ []) mid old on
-    → IfErr r (λ status. (whole : List ℕ) → observed ≡ Some whole
-    → InsertsEnd own mid (pieces_until_fault (inserts_of own.resource.now value.fields whole)) after on new status)
-    → ((bytes : List ℕ) × Gives observed bytes left
-    × ((r ≡ Err (DataFault (codes "input too long"))) ↔ (2 ^ 40 < length bytes)))
-    → IfErr r (λ status. (schema whole : List ℕ) → json_reading schema ≡ Ok json → observed ≡ Some whole
-    → Loads (load_task own.caller.now schema own.resource.now) state whole after (with_input observed old)
-    (with_input left new) status)
-loads_ended (Ok loaded) own json value state mid after observed left old on new is made ended came = tt
-loads_ended (Err status) own json value state mid after observed left old on new is made ended came =
-    λ schema whole read reports.
+loads_made (Err stop) own json value state mid after observed left old on new is made done at_end ended came schema
+    whole read reports =
     let gave = moved whole came.0 observed left reports came.1 in
-    loads_inserts own schema whole came.0 gave.0 json value state mid after old on new observed left status
+    loads_inserts own schema whole came.0 gave.0 json value state mid after old on new observed left stop
     (record { read = read; is = is; made = made }) gave.1 gave.2 (ended whole reports)
+
+-- ---- the size of input
+
+-- Input gave too much exactly if the bytes that it gave are too many.
+pub too_much_by : (P : Type 0) (whole : List ℕ) (observed left at : Option (List ℕ))
+    → ((bytes : List ℕ) × Gives observed bytes left × (P ↔ (2 ^ 40 < length bytes))) → left ≡ at
+    → observed ≡ Some whole → P ↔ GaveTooMuch whole at
+too_much_by P whole observed left at came same is =
+    let gave = moved whole came.0 observed left is came.1 in
+    let sizes : length whole ≡ length came.0 + length gave.0 = ap length gave.2 ∙ length-append came.0 gave.0 in (
+      λ p.
+          let much : 2 ^ 40 < length came.0 = came.2.0 p in
+          (gave.0, sym same ∙ gave.1, omega (arith, sizes, much)),
+      λ too.
+          let both : Some gave.0 ≡ Some too.0 = sym gave.1 ∙ (same ∙ too.1) in
+          let rests : gave.0 ≡ too.0 = cc in
+          let lengths : length gave.0 ≡ length too.0 = ap length rests in
+          came.2.1 (omega (arith, sizes, lengths, too.2)),
+    )
 
 -- ---- the devices at the end
 
-pub loads_done_at : (r : Result Unit Status) (own : Task) (json : Json) (value : SchemaValue)
+pub loads_made_at : (r : Result Unit LoadStop) (own : Task) (json : Json) (value : SchemaValue)
     (state mid after : State) (observed left at : Option (List ℕ)) (old on new : StageTrace) → schema_reading json
     ≡ Ok value
     → MakesOn state (create_call own.caller.now own.resource.now json ∷ []) mid old on
@@ -428,44 +429,44 @@ pub loads_done_at : (r : Result Unit Status) (own : Task) (json : Json) (value :
     × MakesOn mid (inserts_for own (pieces_until_fault
     (inserts_of own.resource.now value.fields whole)).pieces) after on new)
     → OnOk r (IsAtEnd left)
+    → IfErr r (λ stop. (whole : List ℕ) → observed ≡ Some whole
+    → InsertsEnd own mid (pieces_until_fault (inserts_of own.resource.now value.fields whole)) after on new stop)
     → ((bytes : List ℕ) × Gives observed bytes left
     × ((r ≡ Err (DataFault (codes "input too long"))) ↔ (2 ^ 40 < length bytes)))
     → left ≡ at
-    → OnOk r ((schema whole : List ℕ) → json_reading schema ≡ Ok json → observed ≡ Some whole
-    → LoadsAll (load_task own.caller.now schema own.resource.now) state whole after (with_input observed old)
-    (with_input at new))
-loads_done_at r own json value state mid after observed left at old on new is made done ended came same =
-    subst (λ (o : Option (List ℕ)). OnOk r ((schema whole : List ℕ) → json_reading schema ≡ Ok json → observed
-    ≡ Some whole
-    → LoadsAll (load_task own.caller.now schema own.resource.now) state whole after (with_input observed old)
-    (with_input o new))) same
-    (loads_done r own json value state mid after observed left old on new is made done ended came)
-
-pub loads_ended_at : (r : Result Unit Status) (own : Task) (json : Json) (value : SchemaValue)
-    (state mid after : State) (observed left at : Option (List ℕ)) (old on new : StageTrace) → schema_reading json
-    ≡ Ok value
-    → MakesOn state (create_call own.caller.now own.resource.now json ∷ []) mid old on
-    → IfErr r (λ status. (whole : List ℕ) → observed ≡ Some whole
-    → InsertsEnd own mid (pieces_until_fault (inserts_of own.resource.now value.fields whole)) after on new status)
-    → ((bytes : List ℕ) × Gives observed bytes left
-    × ((r ≡ Err (DataFault (codes "input too long"))) ↔ (2 ^ 40 < length bytes)))
-    → left ≡ at
-    → IfErr r (λ status. (schema whole : List ℕ) → json_reading schema ≡ Ok json → observed ≡ Some whole
+    → (schema whole : List ℕ) → json_reading schema ≡ Ok json → observed ≡ Some whole
     → Loads (load_task own.caller.now schema own.resource.now) state whole after (with_input observed old)
-    (with_input at new) status)
-loads_ended_at r own json value state mid after observed left at old on new is made ended came same =
-    subst (λ (o : Option (List ℕ)). IfErr r (λ status. (schema whole : List ℕ) → json_reading schema ≡ Ok json
-    → observed ≡ Some whole → Loads (load_task own.caller.now schema own.resource.now) state whole after
-    (with_input observed old) (with_input o new) status)) same
-    (loads_ended r own json value state mid after observed left old on new is made ended came)
+    (with_input at new) r
+loads_made_at r own json value state mid after observed left at old on new is made done at_end ended came same schema
+    whole read reports =
+    subst (λ (o : Option (List ℕ)). Loads (load_task own.caller.now schema own.resource.now) state whole after
+    (with_input observed old) (with_input o new) r) same
+    (loads_made r own json value state mid after observed left old on new is made done at_end ended came schema whole
+    read reports)
 
 pub loads_at : (task : LoadTask) (state after : State) (whole : List ℕ) (old : DeviceTrace)
     (left taken taken_at : Option (List ℕ)) (moments moments_at : Option (List ℤ))
-    (numbers numbers_at : Option (List ℕ))
-    → LoadsAll task state whole after old (device_trace left taken moments numbers)
+    (numbers numbers_at : Option (List ℕ)) (r : Result Unit LoadStop)
+    → Loads task state whole after old (device_trace left taken moments numbers) r
     → taken ≡ taken_at → moments ≡ moments_at → numbers ≡ numbers_at
-    → LoadsAll task state whole after old (device_trace left taken_at moments_at numbers_at)
-loads_at task state after whole old left taken taken_at moments moments_at numbers numbers_at loads a b c =
-    subst (λ (o : Option (List ℕ)). LoadsAll task state whole after old (device_trace left o moments_at numbers_at)) a
-    (subst (λ (o : Option (List ℤ)). LoadsAll task state whole after old (device_trace left taken o numbers_at)) b
-    (subst (λ (o : Option (List ℕ)). LoadsAll task state whole after old (device_trace left taken moments o)) c loads))
+    → Loads task state whole after old (device_trace left taken_at moments_at numbers_at) r
+loads_at task state after whole old left taken taken_at moments moments_at numbers numbers_at r loads a b c =
+    subst (λ (o : Option (List ℕ)). Loads task state whole after old (device_trace left o moments_at numbers_at) r) a
+    (subst (λ (o : Option (List ℤ)). Loads task state whole after old (device_trace left taken o numbers_at) r) b
+    (subst (λ (o : Option (List ℕ)). Loads task state whole after old (device_trace left taken moments o) r) c loads))
+
+-- ---- the status for the end
+
+-- The status tells of input that is too long exactly if the load stopped for it.
+pub too_long_by : (end : Result Unit LoadStop) (P : Type 0) → (end ≡ Err (DataFault (codes "input too long"))) ↔ P
+    → (status_for_load end ≡ status.DataFault (codes "input too long")) ↔ P
+too_long_by end P same = (λ is. same.0 (to end is), λ p. ap status_for_load (same.1 p))
+  where
+    to : (end : Result Unit LoadStop) → status_for_load end ≡ status.DataFault (codes "input too long")
+        → end ≡ Err (DataFault (codes "input too long"))
+    to (Ok loaded) is = absurd (cc)
+    to (Err ReadFault) is = absurd (cc)
+    to (Err WriteFault) is = absurd (cc)
+    to (Err OutOfMemory) is = absurd (cc)
+    to (Err (DataFault text)) is = cc
+    to (Err Refused) is = absurd (cc)

@@ -1,3 +1,4 @@
 pub mod Load
 pub mod Progress
 pub mod SchemaFile
+pub mod Stop

@@ -1,4 +1,4 @@
--- The calls of a load, and what a load did by its status.
+-- The calls of a load, and what a load did, by its end.
 use Rattle.std.specs.Prelude.{◌≡◌, ◌⊎◌, ◌≤◌, ℕ, List, [], ◌∷◌, ◌++◌, length, map, codes, Option, Some, None, Result}
 use Rattle.std.specs.Prelude.{Ok, Err}
 use Rattle.portal_base.specs.Json.{json_reading}
@@ -19,9 +19,10 @@ use Rattle.typed_csv.specs.Messages.{load_fault_text}
 use Rattle.typed_csv.specs.Rows.{Rows, rows_of}
 use Rattle.typed_csv.specs.declared.fault.LoadFault.{LoadFault}
 use Rattle.portal_status.specs.declared.status.Status.{Status}
-use Rattle.portal_status.specs.declared.status.Status.TheVariants.{Done, Words, ReadFault, WriteFault, OutOfMemory}
-use Rattle.portal_status.specs.declared.status.Status.TheVariants.{PortalFile, FetchFault, DataFault, Refused}
-use Rattle.portal_status.specs.declared.status.Status.TheVariants.{ListenFault}
+use Rattle.portal_status.specs.declared.status.Status.TheVariants.{DataFault, OutOfMemory}
+use Rattle.portal_load.specs.Stop.{status_for_load}
+use Rattle.portal_load.specs.declared.stop.LoadStop.{LoadStop}
+use Rattle.portal_load.specs.declared.stop.LoadStop.TheVariants as stop
 
 -- ---- the script
 
@@ -131,31 +132,20 @@ FindsFault text task state whole after old new =
     ⊎ (((why : LoadFault) × LoadsToFault why task state whole after old new × (text ≡ load_fault_text why))
     ⊎ (LoadsPart 0 task state whole after old new × (text ≡ codes "input too long")))
 
--- the statuses with which a load can end
-abbrev pub EndsLoad : Status → Type 0
-EndsLoad Done = Unit {0}
-EndsLoad Words = ⊥
-EndsLoad ReadFault = Unit {0}
-EndsLoad WriteFault = Unit {0}
-EndsLoad OutOfMemory = Unit {0}
-EndsLoad (PortalFile text) = ⊥
-EndsLoad (FetchFault text) = ⊥
-EndsLoad (DataFault text) = Unit {0}
-EndsLoad Refused = Unit {0}
-EndsLoad ListenFault = ⊥
+-- What a load of a CSV did from a state, by its end. Input fails, or exceeds its limit, between two calls.
+abbrev pub Loads : LoadTask → State → List ℕ → State → DeviceTrace → DeviceTrace → Result Unit LoadStop → Type 0
+Loads task state whole after old new (Ok loaded) = LoadsAll task state whole after old new
+Loads task state whole after old new (Err stop.ReadFault) = LoadsPart 0 task state whole after old new
+Loads task state whole after old new (Err stop.WriteFault) = LoadsPart 1 task state whole after old new
+Loads task state whole after old new (Err stop.OutOfMemory) = LoadsPart 1 task state whole after old new
+Loads task state whole after old new (Err (stop.DataFault text)) = FindsFault text task state whole after old new
+Loads task state whole after old new (Err stop.Refused) = LoadsToRefusal task state whole after old new
 
--- What a load of a CSV did from a state, by its status. Input fails, or exceeds its limit, between two calls.
-abbrev pub Loads : LoadTask → State → List ℕ → State → DeviceTrace → DeviceTrace → Status → Type 0
-Loads task state whole after old new Done = LoadsAll task state whole after old new
-Loads task state whole after old new Words = ⊥
-Loads task state whole after old new ReadFault = LoadsPart 0 task state whole after old new
-Loads task state whole after old new WriteFault = LoadsPart 1 task state whole after old new
-Loads task state whole after old new OutOfMemory = LoadsPart 1 task state whole after old new
-Loads task state whole after old new (PortalFile text) = ⊥
-Loads task state whole after old new (FetchFault text) = ⊥
-Loads task state whole after old new (DataFault text) = FindsFault text task state whole after old new
-Loads task state whole after old new Refused = LoadsToRefusal task state whole after old new
-Loads task state whole after old new ListenFault = ⊥
+-- The status is that of an end, and the CSV on input was loaded to this end, where input is observable.
+abbrev pub LoadsWith : LoadTask → State → State → DeviceTrace → DeviceTrace → Status → Type 0
+LoadsWith task state after old new status =
+    (end : Result Unit LoadStop) × (status ≡ status_for_load end)
+    × ((whole : List ℕ) → old.to_come ≡ Some whole → Loads task state whole after old new end)
 
 -- A fault of the schema is reported before anything passes the devices, unless memory runs out.
 abbrev pub ReportsSchema : List ℕ → DeviceTrace → DeviceTrace → Status → Type 0

@@ -11,17 +11,10 @@ use Rattle.typed_csv.specs.Messages.{load_fault_text}
 use Rattle.typed_csv.specs.declared.fault.LoadFault.{LoadFault}
 use Rattle.portal_load.specs.Load.{insert_call}
 use Rattle.portal_load.specs.declared.load.Task.{Task}
-use Rattle.portal_status.specs.declared.status.Status.{Status}
-use Rattle.portal_status.specs.declared.status.Status.TheVariants.{Done, Words, ReadFault, WriteFault}
-use Rattle.portal_status.specs.declared.status.Status.TheVariants.{OutOfMemory, PortalFile, FetchFault}
-use Rattle.portal_status.specs.declared.status.Status.TheVariants.{DataFault, Refused, ListenFault}
-use Rattle.portal_serve.specs.declared.calls.CallStop.{CallStop}
-use Rattle.portal_serve.specs.declared.calls.CallStop.TheVariants as call_stop
-
--- the status of a call whose line was not written whole
-abbrev pub status_for_call : CallStop → Status
-status_for_call call_stop.WriteFault = WriteFault
-status_for_call call_stop.OutOfMemory = OutOfMemory
+use Rattle.portal_load.specs.declared.stop.CallFault.{CallFault}
+use Rattle.portal_load.specs.declared.stop.CallFault.TheVariants as call_fault
+use Rattle.portal_load.specs.declared.stop.LoadStop.{LoadStop}
+use Rattle.portal_load.specs.declared.stop.LoadStop.TheVariants as stop
 
 -- P holds of the moments and numbers that were drawn and of the bytes that output took.
 pub record PassesOutlet (P : List ℤ → List ℕ → List ℕ → Type 0) (old new : StageTrace) : Type 0 where
@@ -48,19 +41,12 @@ abbrev pub StopsOn : ℕ → State → List ScriptCall → State → StageTrace 
 StopsOn most state calls after old new =
     PassesOutlet (λ moments nonces written. StopsCalls most state calls moments nonces written after) old new
 
--- The calls that were made before this status ended them: up to a refusal; or up to a fault of output or of memory,
--- when one more may have been begun.
-abbrev pub CallsEnd : State → List ScriptCall → State → StageTrace → StageTrace → Status → Type 0
-CallsEnd state calls after old new Done = ⊥
-CallsEnd state calls after old new Words = ⊥
-CallsEnd state calls after old new ReadFault = ⊥
-CallsEnd state calls after old new WriteFault = StopsOn 1 state calls after old new
-CallsEnd state calls after old new OutOfMemory = StopsOn 1 state calls after old new
-CallsEnd state calls after old new (PortalFile text) = ⊥
-CallsEnd state calls after old new (FetchFault text) = ⊥
-CallsEnd state calls after old new (DataFault text) = ⊥
-CallsEnd state calls after old new Refused = RefusesOn state calls after old new
-CallsEnd state calls after old new ListenFault = ⊥
+-- The calls that were made before this fault ended them: up to a refusal; or up to a fault of output or of memory, when
+-- one more may have been begun.
+abbrev pub CallsEnd : State → List ScriptCall → State → StageTrace → StageTrace → CallFault → Type 0
+CallsEnd state calls after old new call_fault.Refused = RefusesOn state calls after old new
+CallsEnd state calls after old new call_fault.WriteFault = StopsOn 1 state calls after old new
+CallsEnd state calls after old new call_fault.OutOfMemory = StopsOn 1 state calls after old new
 
 -- the inserts of these pieces
 abbrev pub inserts_for : Task → List (List Json) → List ScriptCall
@@ -71,19 +57,17 @@ abbrev pub pieces_until_fault : Result Pieces LoadFault → Pieces
 pieces_until_fault (Ok pieces) = pieces
 pieces_until_fault (Err why) = faulty why
 
--- The inserts that were played before this status ended them: as with other calls; or some were granted, and then input
--- failed or was too long; or all were granted, and then came the fault of the rows.
-abbrev pub InsertsEnd : Task → State → Pieces → State → StageTrace → StageTrace → Status → Type 0
-InsertsEnd task state pieces after old new Done = ⊥
-InsertsEnd task state pieces after old new Words = ⊥
-InsertsEnd task state pieces after old new ReadFault = StopsOn 0 state (inserts_for task pieces.pieces) after old new
-InsertsEnd task state pieces after old new WriteFault = StopsOn 1 state (inserts_for task pieces.pieces) after old new
-InsertsEnd task state pieces after old new OutOfMemory = StopsOn 1 state (inserts_for task pieces.pieces) after old new
-InsertsEnd task state pieces after old new (PortalFile text) = ⊥
-InsertsEnd task state pieces after old new (FetchFault text) = ⊥
-InsertsEnd task state pieces after old new (DataFault text) =
+-- The inserts that were played before the load stopped: as with other calls; or some were granted, and then input failed
+-- or was too long; or all were granted, and then came the fault of the rows.
+abbrev pub InsertsEnd : Task → State → Pieces → State → StageTrace → StageTrace → LoadStop → Type 0
+InsertsEnd task state pieces after old new stop.ReadFault =
+    StopsOn 0 state (inserts_for task pieces.pieces) after old new
+InsertsEnd task state pieces after old new stop.WriteFault =
+    StopsOn 1 state (inserts_for task pieces.pieces) after old new
+InsertsEnd task state pieces after old new stop.OutOfMemory =
+    StopsOn 1 state (inserts_for task pieces.pieces) after old new
+InsertsEnd task state pieces after old new (stop.DataFault text) =
     ((why : LoadFault) × (pieces.fault ≡ Some why) × (text ≡ load_fault_text why)
     × MakesOn state (inserts_for task pieces.pieces) after old new)
     ⊎ ((text ≡ codes "input too long") × StopsOn 0 state (inserts_for task pieces.pieces) after old new)
-InsertsEnd task state pieces after old new Refused = RefusesOn state (inserts_for task pieces.pieces) after old new
-InsertsEnd task state pieces after old new ListenFault = ⊥
+InsertsEnd task state pieces after old new stop.Refused = RefusesOn state (inserts_for task pieces.pieces) after old new

@@ -3,3 +3,4 @@
 
 pub mod load;
 pub mod schema_file;
+pub mod stop;

@@ -11,11 +11,12 @@ ghost use Rattle.row_inserts.specs.InsertsValue.{IsGiven};
 ghost use Rattle.row_inserts.specs.Inserts.{Pieces, before, inserts_of, no_pieces};
 ghost use Rattle.portal_serve.specs.Run.{device_trace, with_input, GaveTooMuch};
 ghost use Rattle.portal_serve.specs.Stage.{AreSameLoans, trace_of};
-ghost use Rattle.portal_load.specs.Load.{EndsLoad, Loads, LoadsAll, ReportsSchema, call_of, create_call, load_task};
+ghost use Rattle.portal_load.specs.Load.{Loads, LoadsWith, ReportsSchema, call_of, create_call, load_task};
 ghost use Rattle.portal_load.specs.Load.{schema_text};
 ghost use Rattle.portal_load.specs.Progress.{CallsEnd, InsertsEnd, MakesOn, inserts_for, pieces_until_fault};
-ghost use Rattle.portal_load.specs.Progress.{status_for_call};
+ghost use Rattle.portal_load.specs.Stop.{fault_for_stop, status_for_load};
 
+use crate::stop::{CallFault, LoadStop};
 use portal_base::caller::Caller;
 use portal_base::copy::TryClone;
 use portal_base::dictionary::Value;
@@ -47,50 +48,64 @@ struct ReadSchema {
     schema: Schema,
 }
 
-/// The status of a call whose line was not written whole.
-fn status_of_stop(stop: CallStop) -> Status
-    ensures { result ≡ status_for_call stop }
+/// The status for the end of a load.
+fn status_of_end(end: Result<(), LoadStop>) -> Status
+    ensures { result ≡ status_for_load end }
+{
+    match end {
+        Ok(()) => Status::Done,
+        Err(LoadStop::ReadFault) => Status::ReadFault,
+        Err(LoadStop::WriteFault) => Status::WriteFault,
+        Err(LoadStop::OutOfMemory) => Status::OutOfMemory,
+        Err(LoadStop::DataFault(text)) => Status::DataFault(text),
+        Err(LoadStop::Refused) => Status::Refused,
+    }
+}
+
+/// The fault of a call whose line was not written whole.
+fn fault_of_stop(stop: CallStop) -> CallFault
+    ensures { result ≡ fault_for_stop stop }
 {
     match stop {
-        CallStop::WriteFault => Status::WriteFault,
-        CallStop::OutOfMemory => Status::OutOfMemory,
+        CallStop::WriteFault => CallFault::WriteFault,
+        CallStop::OutOfMemory => CallFault::OutOfMemory,
     }
 }
 
-/// The status of a fault of the data with this text.
-fn data_fault(text: Result<String, AllocError>) -> Status
-    ensures { MatchResult text (λ text. result ≡ Status.DataFault (string_bytes text))
-        (λ _. result ≡ Status.OutOfMemory) }
+/// A load stops at a fault of the data with this text.
+fn data_fault(text: Result<String, AllocError>) -> LoadStop
+    ensures { MatchResult text (λ text. result ≡ LoadStop.DataFault (string_bytes text))
+        (λ _. result ≡ LoadStop.OutOfMemory) }
 {
     match text {
-        Ok(text) => Status::DataFault(Text::from(text)),
-        Err(_refused) => Status::OutOfMemory,
+        Ok(text) => LoadStop::DataFault(Text::from(text)),
+        Err(_refused) => LoadStop::OutOfMemory,
     }
 }
 
-/// The status of a schema's fault.
-fn status_of_schema(alloc: Global, fault: &SchemaFault) -> Status
-    ensures reported { (result ≡ Status.DataFault (schema_text fault.now)) ⊎ (result ≡ Status.OutOfMemory) }
-    ensures memory { fault.now ≡ SchemaFault.OutOfMemory → result ≡ Status.OutOfMemory }
+/// A load stops at a schema's fault.
+fn stop_of_schema(alloc: Global, fault: &SchemaFault) -> LoadStop
+    ensures reported { (result ≡ LoadStop.DataFault (schema_text fault.now)) ⊎ (result ≡ LoadStop.OutOfMemory) }
+    ensures memory { fault.now ≡ SchemaFault.OutOfMemory → result ≡ LoadStop.OutOfMemory }
 {
     match fault {
-        SchemaFault::OutOfMemory => Status::OutOfMemory,
+        SchemaFault::OutOfMemory => LoadStop::OutOfMemory,
         _ => data_fault(format!(in alloc; "schema: {fault}")),
     }
 }
 
-/// The status of a fault of the CSV. An input that gave its last insert isn't asked for another.
-fn status_of_load(alloc: Global, fault: &LoadFault) -> Status
-    ensures read_fault { (fault.now ≡ LoadFault.ReadFault) ↔ (result ≡ Status.ReadFault) }
-    ensures too_long { (fault.now ≡ LoadFault.TooLong) ↔ (result ≡ Status.DataFault (codes "input too long")) }
-    ensures reported { result ≢ Status.ReadFault
-        → (result ≡ Status.DataFault (load_fault_text fault.now)) ⊎ (result ≡ Status.OutOfMemory) }
-    ensures memory { fault.now ≡ LoadFault.OutOfMemory → result ≡ Status.OutOfMemory }
+/// A load stops at a fault of the CSV. An input that gave its last insert isn't asked for another.
+fn stop_of_csv(alloc: Global, fault: &LoadFault) -> LoadStop
+    ensures read_fault { (fault.now ≡ LoadFault.ReadFault) ↔ (result ≡ LoadStop.ReadFault) }
+    ensures too_long { (fault.now ≡ LoadFault.TooLong) ↔ (result ≡ LoadStop.DataFault (codes "input too long")) }
+    ensures reported { result ≢ LoadStop.ReadFault
+        → (result ≡ LoadStop.DataFault (load_fault_text fault.now)) ⊎ (result ≡ LoadStop.OutOfMemory) }
+    ensures memory { fault.now ≡ LoadFault.OutOfMemory → result ≡ LoadStop.OutOfMemory }
 {
     match fault {
-        LoadFault::ReadFault => Status::ReadFault,
-        LoadFault::TooLong => Status::DataFault(Text::from_static("input too long")),
-        LoadFault::OutOfMemory => Status::OutOfMemory,
+        LoadFault::ReadFault => LoadStop::ReadFault,
+        LoadFault::TooLong => LoadStop::DataFault(Text::from_static("input too long")),
+        LoadFault::OutOfMemory => LoadStop::OutOfMemory,
         _ => data_fault(format!(in alloc; "{fault}")),
     }
 }
@@ -120,7 +135,7 @@ fn copy_caller(alloc: Global, caller: &Caller) -> Result<Caller, AllocError>
     }
 }
 
-/// Plays a call of the task's caller. `size` is the length of its body's compact text. The status is `Refused` if the
+/// Plays a call of the task's caller. `size` is the length of its body's compact text. The fault is `Refused` if the
 /// reply isn't 200.
 fn play_call<O: Sink, C: Clock, N: Nonces>(
     alloc: Global,
@@ -130,13 +145,13 @@ fn play_call<O: Sink, C: Clock, N: Nonces>(
     body: Json,
     size: usize,
     stage: &mut Stage<'_, '_, '_, O, C, N>,
-) -> Result<(), Status>
+) -> Result<(), CallFault>
     requires { size ≡ length (json_text body) }
     ensures made { OnOk result (MakesOn portal.old (call_of task.now.caller.now action.now body ∷ []) portal.new
         (trace_of O.taken C.given N.given stage.old) (trace_of O.taken C.given N.given stage.new)) }
     ensures ended { IfErr result (CallsEnd portal.old (call_of task.now.caller.now action.now body ∷ []) portal.new
         (trace_of O.taken C.given N.given stage.old) (trace_of O.taken C.given N.given stage.new)) }
-    ensures write_fault { result ≡ Err Status.WriteFault
+    ensures write_fault { result ≡ Err CallFault.WriteFault
         → Rose (O.faults stage.old.output.now) (O.faults stage.new.output.now) }
     ensures counts { O.faults stage.old.output.now ≤ O.faults stage.new.output.now }
     ensures loans { AreSameLoans stage.old stage.new }
@@ -148,11 +163,11 @@ fn play_call<O: Sink, C: Clock, N: Nonces>(
     };
     let status = match make_call(alloc, portal, call, size as u64, stage) {
         Ok(status) => status,
-        Err(stop) => return Err(status_of_stop(stop)),
+        Err(stop) => return Err(fault_of_stop(stop)),
     };
     match status {
         200 => Ok(()),
-        _ => Err(Status::Refused),
+        _ => Err(CallFault::Refused),
     }
 }
 
@@ -163,14 +178,14 @@ fn play_create<O: Sink, C: Clock, N: Nonces>(
     task: &Task<'_>,
     schema: Json,
     stage: &mut Stage<'_, '_, '_, O, C, N>,
-) -> Result<(), Status>
+) -> Result<(), CallFault>
     ensures made { OnOk result (MakesOn portal.old
         (create_call task.now.caller.now task.now.resource.now schema ∷ []) portal.new
         (trace_of O.taken C.given N.given stage.old) (trace_of O.taken C.given N.given stage.new)) }
     ensures ended { IfErr result (CallsEnd portal.old
         (create_call task.now.caller.now task.now.resource.now schema ∷ []) portal.new
         (trace_of O.taken C.given N.given stage.old) (trace_of O.taken C.given N.given stage.new)) }
-    ensures write_fault { result ≡ Err Status.WriteFault
+    ensures write_fault { result ≡ Err CallFault.WriteFault
         → Rose (O.faults stage.old.output.now) (O.faults stage.new.output.now) }
     ensures counts { O.faults stage.old.output.now ≤ O.faults stage.new.output.now }
     ensures loans { AreSameLoans stage.old stage.new }
@@ -193,7 +208,7 @@ fn play_insert<S: Source, O: Sink, C: Clock, N: Nonces>(
     task: &Task<'_>,
     inserts: &mut Inserts<S>,
     stage: &mut Stage<'_, '_, '_, O, C, N>,
-) -> Result<bool, Status>
+) -> Result<bool, LoadStop>
     requires resource { inserts.old.resource ≡ task.now.resource.now }
     requires goes_on { inserts.old.is_spent ≡ false }
     ensures resource { inserts.new.resource ≡ inserts.old.resource }
@@ -204,18 +219,17 @@ fn play_insert<S: Source, O: Sink, C: Clock, N: Nonces>(
         (trace_of O.taken C.given N.given stage.old) (trace_of O.taken C.given N.given stage.new) }
     ensures end { result ≡ Ok false → IfSome inserts.old.remaining (λ pieces. pieces ≡ no_pieces)
         × IsAtEnd (S.to_come inserts.new.source) × (portal.new ≡ portal.old) × (stage.new ≡ stage.old) }
-    ensures ended { IfErr result (λ status. (pieces : Pieces) → inserts.old.remaining ≡ Some pieces
+    ensures ended { IfErr result (λ stop. (pieces : Pieces) → inserts.old.remaining ≡ Some pieces
         → InsertsEnd task.now portal.old pieces portal.new
-        (trace_of O.taken C.given N.given stage.old) (trace_of O.taken C.given N.given stage.new) status) }
-    ensures ends { IfErr result EndsLoad }
+        (trace_of O.taken C.given N.given stage.old) (trace_of O.taken C.given N.given stage.new) stop) }
     ensures received { IsGiven S.to_come inserts.old inserts.new }
-    ensures read_fault { result ≡ Err Status.ReadFault
+    ensures read_fault { result ≡ Err LoadStop.ReadFault
         → Rose (S.faults inserts.old.source) (S.faults inserts.new.source) }
     ensures reads { S.faults inserts.old.source ≤ S.faults inserts.new.source }
-    ensures too_long { (result ≡ Err (Status.DataFault (codes "input too long")))
+    ensures too_long { (result ≡ Err (LoadStop.DataFault (codes "input too long")))
         ↔ (2 ^ 40 < inserts.new.given) }
     ensures loan { S.loan inserts.new.source ≡ S.loan inserts.old.source }
-    ensures write_fault { result ≡ Err Status.WriteFault
+    ensures write_fault { result ≡ Err LoadStop.WriteFault
         → Rose (O.faults stage.old.output.now) (O.faults stage.new.output.now) }
     ensures counts { O.faults stage.old.output.now ≤ O.faults stage.new.output.now }
     ensures loans { AreSameLoans stage.old stage.new }
@@ -226,7 +240,7 @@ fn play_insert<S: Source, O: Sink, C: Clock, N: Nonces>(
             Ok(true)
         }
         Ok(None) => Ok(false),
-        Err(fault) => Err(status_of_load(alloc, &fault)),
+        Err(fault) => Err(stop_of_csv(alloc, &fault)),
     }
 }
 
@@ -237,25 +251,24 @@ fn play_inserts<S: Source, O: Sink, C: Clock, N: Nonces>(
     task: &Task<'_>,
     inserts: &mut Inserts<S>,
     stage: &mut Stage<'_, '_, '_, O, C, N>,
-) -> Result<(), Status>
+) -> Result<(), LoadStop>
     requires resource { inserts.old.resource ≡ task.now.resource.now }
     requires goes_on { inserts.old.is_spent ≡ false }
     ensures done { OnOk result ((pieces : Pieces) → inserts.old.remaining ≡ Some pieces → (pieces.fault ≡ None)
         × MakesOn portal.old (inserts_for task.now pieces.pieces) portal.new
         (trace_of O.taken C.given N.given stage.old) (trace_of O.taken C.given N.given stage.new)) }
     ensures end { OnOk result (IsAtEnd (S.to_come inserts.new.source)) }
-    ensures ended { IfErr result (λ status. (pieces : Pieces) → inserts.old.remaining ≡ Some pieces
+    ensures ended { IfErr result (λ stop. (pieces : Pieces) → inserts.old.remaining ≡ Some pieces
         → InsertsEnd task.now portal.old pieces portal.new
-        (trace_of O.taken C.given N.given stage.old) (trace_of O.taken C.given N.given stage.new) status) }
-    ensures ends { IfErr result EndsLoad }
+        (trace_of O.taken C.given N.given stage.old) (trace_of O.taken C.given N.given stage.new) stop) }
     ensures received { IsGiven S.to_come inserts.old inserts.new }
-    ensures read_fault { result ≡ Err Status.ReadFault
+    ensures read_fault { result ≡ Err LoadStop.ReadFault
         → Rose (S.faults inserts.old.source) (S.faults inserts.new.source) }
     ensures reads { S.faults inserts.old.source ≤ S.faults inserts.new.source }
-    ensures too_long { (result ≡ Err (Status.DataFault (codes "input too long")))
+    ensures too_long { (result ≡ Err (LoadStop.DataFault (codes "input too long")))
         ↔ (2 ^ 40 < inserts.new.given) }
     ensures loan { S.loan inserts.new.source ≡ S.loan inserts.old.source }
-    ensures write_fault { result ≡ Err Status.WriteFault
+    ensures write_fault { result ≡ Err LoadStop.WriteFault
         → Rose (O.faults stage.old.output.now) (O.faults stage.new.output.now) }
     ensures counts { O.faults stage.old.output.now ≤ O.faults stage.new.output.now }
     ensures loans { AreSameLoans stage.old stage.new }
@@ -264,11 +277,11 @@ fn play_inserts<S: Source, O: Sink, C: Clock, N: Nonces>(
         match play_insert(alloc, portal, task, inserts, stage) {
             Ok(true) => {}
             Ok(false) => return Ok(()),
-            Err(status) => return Err(status),
+            Err(stop) => return Err(stop),
         }
     }
     // The input had more inserts than a `u64` counts, which is impossible in practice.
-    Err(Status::OutOfMemory)
+    Err(LoadStop::OutOfMemory)
 }
 
 /// Plays the inserts of the rows of a source, and returns the source as far as it was read. The result is put into
@@ -280,7 +293,7 @@ fn play_rows<S: Source, O: Sink, C: Clock, N: Nonces>(
     schema: Schema,
     source: S,
     stage: &mut Stage<'_, '_, '_, O, C, N>,
-    played: &mut Result<(), Status>,
+    played: &mut Result<(), LoadStop>,
 ) -> S
     ensures done { OnOk played.new ((whole : List ℕ) → S.to_come source ≡ Some whole
         → ((pieces_until_fault (inserts_of task.now.resource.now schema.fields whole)).fault ≡ None)
@@ -288,17 +301,16 @@ fn play_rows<S: Source, O: Sink, C: Clock, N: Nonces>(
         (inserts_for task.now (pieces_until_fault
         (inserts_of task.now.resource.now schema.fields whole)).pieces) portal.new
         (trace_of O.taken C.given N.given stage.old) (trace_of O.taken C.given N.given stage.new)) }
-    ensures ended { IfErr played.new (λ status. (whole : List ℕ) → S.to_come source ≡ Some whole
+    ensures ended { IfErr played.new (λ stop. (whole : List ℕ) → S.to_come source ≡ Some whole
         → InsertsEnd task.now portal.old (pieces_until_fault
         (inserts_of task.now.resource.now schema.fields whole)) portal.new
-        (trace_of O.taken C.given N.given stage.old) (trace_of O.taken C.given N.given stage.new) status) }
-    ensures ends { IfErr played.new EndsLoad }
+        (trace_of O.taken C.given N.given stage.old) (trace_of O.taken C.given N.given stage.new) stop) }
     ensures end { OnOk played.new (IsAtEnd (S.to_come result)) }
     ensures received { (bytes : List ℕ) × Gives (S.to_come source) bytes (S.to_come result)
-        × ((played.new ≡ Err (Status.DataFault (codes "input too long"))) ↔ (2 ^ 40 < length bytes)) }
-    ensures read_fault { played.new ≡ Err Status.ReadFault → Rose (S.faults source) (S.faults result) }
+        × ((played.new ≡ Err (LoadStop.DataFault (codes "input too long"))) ↔ (2 ^ 40 < length bytes)) }
+    ensures read_fault { played.new ≡ Err LoadStop.ReadFault → Rose (S.faults source) (S.faults result) }
     ensures loan { S.loan result ≡ S.loan source }
-    ensures write_fault { played.new ≡ Err Status.WriteFault
+    ensures write_fault { played.new ≡ Err LoadStop.WriteFault
         → Rose (O.faults stage.old.output.now) (O.faults stage.new.output.now) }
     ensures counts { O.faults stage.old.output.now ≤ O.faults stage.new.output.now }
     ensures loans { AreSameLoans stage.old stage.new }
@@ -309,7 +321,7 @@ fn play_rows<S: Source, O: Sink, C: Clock, N: Nonces>(
             inserts.into_source()
         }
         Err((fault, source)) => {
-            *played = Err(status_of_load(alloc, &fault));
+            *played = Err(stop_of_csv(alloc, &fault));
             source
         }
     }
@@ -323,23 +335,16 @@ fn load_by<S: Source, O: Sink, C: Clock, N: Nonces>(
     read: ReadSchema,
     input: &mut S,
     stage: &mut Stage<'_, '_, '_, O, C, N>,
-) -> Result<(), Status>
+) -> Result<(), LoadStop>
     requires { schema_reading read.json ≡ Ok read.schema }
-    ensures done { OnOk result ((schema whole : List ℕ) → json_reading schema ≡ Ok read.json
-        → S.to_come input.old ≡ Some whole
-        → LoadsAll (load_task task.now.caller.now schema task.now.resource.now) portal.old whole portal.new
-        (with_input (S.to_come input.old) (trace_of O.taken C.given N.given stage.old))
-        (with_input (S.to_come input.new) (trace_of O.taken C.given N.given stage.new))) }
-    ensures ended { IfErr result (λ status. (schema whole : List ℕ) → json_reading schema ≡ Ok read.json
-        → S.to_come input.old ≡ Some whole
+    ensures loads { (schema whole : List ℕ) → json_reading schema ≡ Ok read.json → S.to_come input.old ≡ Some whole
         → Loads (load_task task.now.caller.now schema task.now.resource.now) portal.old whole portal.new
         (with_input (S.to_come input.old) (trace_of O.taken C.given N.given stage.old))
-        (with_input (S.to_come input.new) (trace_of O.taken C.given N.given stage.new)) status) }
-    ensures ends { IfErr result EndsLoad }
-    ensures read_fault { result ≡ Err Status.ReadFault → Rose (S.faults input.old) (S.faults input.new) }
+        (with_input (S.to_come input.new) (trace_of O.taken C.given N.given stage.new)) result }
+    ensures read_fault { result ≡ Err LoadStop.ReadFault → Rose (S.faults input.old) (S.faults input.new) }
     ensures too_much { (whole : List ℕ) → S.to_come input.old ≡ Some whole →
-        ((result ≡ Err (Status.DataFault (codes "input too long"))) ↔ GaveTooMuch whole (S.to_come input.new)) }
-    ensures write_fault { result ≡ Err Status.WriteFault
+        ((result ≡ Err (LoadStop.DataFault (codes "input too long"))) ↔ GaveTooMuch whole (S.to_come input.new)) }
+    ensures write_fault { result ≡ Err LoadStop.WriteFault
         → Rose (O.faults stage.old.output.now) (O.faults stage.new.output.now) }
     ensures counts { O.faults stage.old.output.now ≤ O.faults stage.new.output.now }
     ensures loans { AreSameLoans stage.old stage.new }
@@ -377,10 +382,9 @@ pub fn load<S: Source, O: Sink, C: Clock, N: Nonces>(
     clock: &mut C,
     nonces: &mut N,
 ) -> Status
-    // Where input is observable: the calls of the script that were made, by the status, what was written for them, and
-    // the state in which they leave the portal.
-    ensures loads { (whole : List ℕ) → S.to_come input.old ≡ Some whole
-        → Loads (load_task caller.now schema.now resource.now) portal.old whole portal.new
+    // The status is that of an end of a load. Where input is observable: the calls of the script that were made, by this
+    // end, what was written for them, and the state in which they leave the portal.
+    ensures loads { LoadsWith (load_task caller.now schema.now resource.now) portal.old portal.new
         (device_trace (S.to_come input.old) (O.taken output.old) (C.given clock.old) (N.given nonces.old))
         (device_trace (S.to_come input.new) (O.taken output.new) (C.given clock.new) (N.given nonces.new)) result }
     // A fault of the schema is reported before everything else, and leaves the devices as they were.
@@ -388,7 +392,6 @@ pub fn load<S: Source, O: Sink, C: Clock, N: Nonces>(
         (device_trace (S.to_come input.old) (O.taken output.old) (C.given clock.old) (N.given nonces.old))
         (device_trace (S.to_come input.new) (O.taken output.new) (C.given clock.new) (N.given nonces.new)) result }
 
-    ensures ends { EndsLoad result }
     ensures read_fault { result ≡ Status.ReadFault → Rose (S.faults input.old) (S.faults input.new) }
     ensures write_fault { result ≡ Status.WriteFault → Rose (O.faults output.old) (O.faults output.new) }
     ensures too_much { (whole : List ℕ) → S.to_come input.old ≡ Some whole →
@@ -396,7 +399,7 @@ pub fn load<S: Source, O: Sink, C: Clock, N: Nonces>(
 {
     let read = match read_schema(alloc, schema) {
         Ok(read) => read,
-        Err(fault) => return status_of_schema(alloc, &fault),
+        Err(fault) => return status_of_end(Err(stop_of_schema(alloc, &fault))),
     };
     let task = Task { caller, resource };
     let mut stage = Stage {
@@ -404,8 +407,5 @@ pub fn load<S: Source, O: Sink, C: Clock, N: Nonces>(
         clock,
         nonces,
     };
-    match load_by(alloc, portal, &task, read, input, &mut stage) {
-        Ok(()) => Status::Done,
-        Err(status) => status,
-    }
+    status_of_end(load_by(alloc, portal, &task, read, input, &mut stage))
 }

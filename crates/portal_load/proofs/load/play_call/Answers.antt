@@ -1,7 +1,7 @@
 -- The call's one exchange is what it was made or begun with.
-use Rattle.std.proofs.Common.{◌≢◌, Err, arith, refl}
+use Rattle.std.proofs.Common.{◌≢◌, arith}
 use Rattle.std.proofs.lemmas.Result.{err_from_is_err_and}
-use Rattle.portal_load.proofs.Inserting.{ends_stopped, ends_unbegun, makes_said, refuses_said, stops_said}
+use Rattle.portal_load.proofs.Inserting.{ends_begun, ends_unbegun, makes_said, refuses_said, stops_said}
 use Rattle.portal_load.proofs.load.play_call.Goals as goal
 
 pub returns-in_err-copy_caller-clause-ended : goal.returns-in_err-copy_caller-clause-ended
@@ -23,8 +23,8 @@ returns-in_default-clause-ended g c =
 
 pub returns-in-Err-clause-ended : goal.returns-in-Err-clause-ended
 returns-in-Err-clause-ended g c =
-    ends_stopped (Err c.status_of_stop.result) c.in-Err.stop _ _ _ _ _
-    (c.status_of_stop.result, refl, c.status_of_stop.ensures)
+    rw c.fault_of_stop.ensures
+    (ends_begun _ _ _ _ _ c.in-Err.stop
     (stops_said c.args.portal.now c.make_call.new.portal c.in_ok-copy_caller.field-0 c.args.task.now.caller.now
     c.from_static.result c.args.action.now c.args.body c.args.size _ _ c.in_ok-copy_caller.ensures c.from_static.ensures
-    c.requires c.in-Err.ensures.begun)
+    c.requires c.in-Err.ensures.begun))

@@ -1,7 +1,7 @@
 -- The insert is that of the first piece. A fault ends the inserts before its piece.
 use Rattle.std.proofs.Common.{◌≡◌, ◌≢◌, true, Err, ap, refl}
 use Rattle.std.proofs.lemmas.Result.{err_from_is_err_and}
-use Rattle.portal_load.proofs.Inserting.{ends_answer, ends_at_insert, exit_ends, goes_on_insert, reported_ends}
+use Rattle.portal_load.proofs.Inserting.{ends_answer, ends_at_insert, goes_on_insert}
 use Rattle.typed_csv.specs.declared.fault.LoadFault.{LoadFault}
 use Rattle.typed_csv.specs.declared.fault.LoadFault.TheVariants.{Spent}
 use Rattle.portal_load.proofs.load.play_insert.Goals as goal
@@ -15,12 +15,6 @@ returns-in_err-play_call-in-Ok-Some-clause-ended g c =
     c.next.new.self.remaining _ _
     (err_from_is_err_and c.from_residual.result c.from_residual.ensures.1) c.requires.resource
     refl given c.in_err-play_call-in-Ok-Some.ensures.ended
-
-pub returns-in_err-play_call-in-Ok-Some-clause-ends : goal.returns-in_err-play_call-in-Ok-Some-clause-ends
-returns-in_err-play_call-in-Ok-Some-clause-ends g c =
-    exit_ends c.from_residual.result _ c.args.portal.now c.play_call.new.portal _ _ _
-    (err_from_is_err_and c.from_residual.result c.from_residual.ensures.1)
-    c.in_err-play_call-in-Ok-Some.ensures.ended
 
 pub returns-in_ok-play_call-in-Ok-Some-clause-more :
     goal.returns-in_ok-play_call-in-Ok-Some-clause-more
@@ -37,20 +31,10 @@ returns-in-Err-clause-ended g c =
     let spent : c.args.inserts.now.is_spent ≡ true = c.in-Err.ensures.spent.0 (ap (λ (f : LoadFault). Err f) e) in
     absurd (cc) in
     λ pieces observed. ends_answer c.args.task.now c.args.inserts.now.resource c.args.portal.now c.in-Err.fault pieces
-    c.args.inserts.now.remaining c.next.new.self.remaining _ c.status_of_load.result unspent observed c.in-Err.ensures.answers
+    c.args.inserts.now.remaining c.next.new.self.remaining _ c.stop_of_csv.result unspent observed c.in-Err.ensures.answers
     (record {
-      read_fault = c.status_of_load.ensures.read_fault;
-      too_long = c.status_of_load.ensures.too_long;
-      reported = c.status_of_load.ensures.reported;
-      memory = c.status_of_load.ensures.memory;
-    })
-
-pub returns-in-Err-clause-ends : goal.returns-in-Err-clause-ends
-returns-in-Err-clause-ends g c =
-    reported_ends c.in-Err.fault c.status_of_load.result
-    (record {
-      read_fault = c.status_of_load.ensures.read_fault;
-      too_long = c.status_of_load.ensures.too_long;
-      reported = c.status_of_load.ensures.reported;
-      memory = c.status_of_load.ensures.memory;
+      read_fault = c.stop_of_csv.ensures.read_fault;
+      too_long = c.stop_of_csv.ensures.too_long;
+      reported = c.stop_of_csv.ensures.reported;
+      memory = c.stop_of_csv.ensures.memory;
     })

@@ -50,7 +50,7 @@ returns-in-Ok-false-clause-received g c =
 pub returns-in-Err-clause-ended : goal.returns-in-Err-clause-ended
 returns-in-Err-clause-ended g c =
     plays_end c.args.task.now c.args.portal.now c.loop.portal c.play_insert.new.portal c.args.inserts.now.remaining
-    c.loop.inserts.remaining _ _ _ c.in-Err.status c.loop.invariant.plays c.in-Err.ensures.ended
+    c.loop.inserts.remaining _ _ _ c.in-Err.stop c.loop.invariant.plays c.in-Err.ensures.ended
 
 pub returns-in-Err-clause-received : goal.returns-in-Err-clause-received
 returns-in-Err-clause-received g c =

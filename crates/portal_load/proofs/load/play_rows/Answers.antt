@@ -1,5 +1,5 @@
 -- The inserts are those of the source's bytes, as far as they were begun.
-use Rattle.portal_load.proofs.Inserting.{ends_start, reported_ends}
+use Rattle.portal_load.proofs.Inserting.{ends_start}
 use Rattle.portal_load.proofs.Loading.{rows_done, rows_received}
 use Rattle.portal_load.proofs.load.play_rows.Goals as goal
 
@@ -17,20 +17,10 @@ returns-in-Ok-clause-received g c =
 pub returns-in-Err-clause-ended : goal.returns-in-Err-clause-ended
 returns-in-Err-clause-ended g c =
     λ whole is. ends_start c.args.task.now c.args.task.now.resource.now c.args.schema.fields c.args.portal.now
-    c.in-Err.fault whole _ _ c.status_of_load.result is c.in-Err.ensures.refused
+    c.in-Err.fault whole _ _ c.stop_of_csv.result is c.in-Err.ensures.refused
     (record {
-      read_fault = c.status_of_load.ensures.read_fault;
-      too_long = c.status_of_load.ensures.too_long;
-      reported = c.status_of_load.ensures.reported;
-      memory = c.status_of_load.ensures.memory;
-    })
-
-pub returns-in-Err-clause-ends : goal.returns-in-Err-clause-ends
-returns-in-Err-clause-ends g c =
-    reported_ends c.in-Err.fault c.status_of_load.result
-    (record {
-      read_fault = c.status_of_load.ensures.read_fault;
-      too_long = c.status_of_load.ensures.too_long;
-      reported = c.status_of_load.ensures.reported;
-      memory = c.status_of_load.ensures.memory;
+      read_fault = c.stop_of_csv.ensures.read_fault;
+      too_long = c.stop_of_csv.ensures.too_long;
+      reported = c.stop_of_csv.ensures.reported;
+      memory = c.stop_of_csv.ensures.memory;
     })

@@ -12,5 +12,4 @@ returns-in-Ok-fetch_file-clause-loads g c =
     c.args.options (opened c.args.opening.now) c.in-Ok.portal c.load.new.portal _ _ c.load.result
     c.as_str.result.now c.in-Ok-fetch_file.schema.items c.as_slice.result.now c.as_str-in-Ok-fetch_file.result.now
     c.in-Ok-fetch_file.ensures.bytes c.in-Ok-fetch_file.ensures.within (cc) (cc)
-    (cc) c.in-Ok.ensures c.load.ensures.ends
-    c.load.ensures.schema c.load.ensures.loads
+    (cc) c.in-Ok.ensures c.load.ensures.schema c.load.ensures.loads
