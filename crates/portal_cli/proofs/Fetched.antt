@@ -1,12 +1,16 @@
 -- A load fetches two files, so the fetcher has one trace over both.
-use Rattle.std.proofs.Common.{◌≡◌, ◌≢◌, ◌≤◌, ℕ, List, Option, Some, None, subst, inl, inr}
+use Rattle.std.proofs.Common.{◌≡◌, ◌≢◌, ◌≤◌, ℕ, List, Option, Some, None, Result, Ok, Err, subst, sym, inl, inr}
 use Rattle.std.proofs.Common.{arith}
 use Rattle.portal_base.specs.Outside.{Holdings, Rose}
+use Rattle.portal_base.specs.declared.caller.Caller.TheVariants.{Named}
 use Rattle.portal_core.specs.State.{State}
 use Rattle.portal_serve.specs.Run.{DeviceTrace}
 use Rattle.portal_words.specs.declared.command.LoadOptions.{LoadOptions}
-use Rattle.portal_load.specs.Load.{EndsLoad}
-use Rattle.portal_load.specs.SchemaFile.{LoadsFrom}
+use Rattle.portal_load.specs.Stop.{status_for_load}
+use Rattle.portal_load.specs.declared.stop.LoadStop.{LoadStop}
+use Rattle.portal_load.specs.declared.stop.LoadStop.TheVariants as stop
+use Rattle.portal_load.specs.Load.{LoadTask, LoadsWith, load_task}
+use Rattle.portal_load.specs.SchemaFile.{LoadsBy, LoadsFrom}
 use Rattle.portal_start.specs.Start.{Beginning, Begins, BeginsAnd, FailsToBegin}
 use Rattle.portal_status.specs.Fetch.{FailsToFetch, FetchTrace, fetch_trace}
 use Rattle.portal_status.specs.declared.status.Status.{Status}
@@ -55,26 +59,61 @@ loads_begun held now first before after options beginning old new status same le
 
 -- ---- the statuses of a run that loads
 
+-- A status that is neither that of words which name no command nor that of a listener.
+abbrev IsOfLoad : Status → Type 0
+IsOfLoad status = (status ≢ Words) × (status ≢ ListenFault)
+
+end_is : (end : Result Unit LoadStop) → IsOfLoad (status_for_load end)
+end_is (Ok loaded) = (λ is. absurd (cc), λ is. absurd (cc))
+end_is (Err stop.ReadFault) = (λ is. absurd (cc), λ is. absurd (cc))
+end_is (Err stop.WriteFault) = (λ is. absurd (cc), λ is. absurd (cc))
+end_is (Err stop.OutOfMemory) = (λ is. absurd (cc), λ is. absurd (cc))
+end_is (Err (stop.DataFault text)) = (λ is. absurd (cc), λ is. absurd (cc))
+end_is (Err stop.Refused) = (λ is. absurd (cc), λ is. absurd (cc))
+
+with_is : (task : LoadTask) (state after : State) (old new : DeviceTrace) (status : Status)
+    → LoadsWith task state after old new status → IsOfLoad status
+with_is task state after old new status (end, ends, loads) = subst IsOfLoad (sym ends) (end_is end)
+
+loads_is : (options : LoadOptions) (state : State) (old new : DeviceTrace) (status : Status) (schema : List ℕ)
+    → LoadsBy options state old new status schema → IsOfLoad status
+loads_is options state old new status schema (reports, loads) =
+    with_is (load_task (Named options.caller) schema options.resource) state loads.0 old new status loads.1
+
+fetch_is : (trace : FetchTrace) (location : List ℕ) (status : Status) → FailsToFetch trace location status
+    → IsOfLoad status
+fetch_is trace location status (inl memory) = (λ is. absurd (cc), λ is. absurd (cc))
+fetch_is trace location status (inr (other, why)) = (λ is. absurd (cc), λ is. absurd (cc))
+
+begin_is : (trace : FetchTrace) (portal : Option (List ℕ)) (status : Status) → FailsToBegin trace portal status
+    → IsOfLoad status
+begin_is trace None status memory = (λ is. absurd (cc), λ is. absurd (cc))
+begin_is trace (Some location) status (inl fails) = fetch_is trace location status fails
+begin_is trace (Some location) status (inr (bytes, held, within, inl memory)) =
+    (λ is. absurd (cc), λ is. absurd (cc))
+begin_is trace (Some location) status (inr (bytes, held, within, inr (why, is_so, named))) =
+    (λ is. absurd (cc), λ is. absurd (cc))
+
+load_is : (trace : FetchTrace) (options : LoadOptions) (old new : DeviceTrace) (status : Status)
+    → BeginsAnd trace options.portal status (λ beginning. LoadsFrom trace options beginning.state old new status)
+    (new ≡ old)
+    → IsOfLoad status
+load_is trace options old new status (inl (beginning, begins, inl (fails, same))) =
+    fetch_is trace options.schema status fails
+load_is trace options old new status (inl (beginning, begins, inr (bytes, held, within, loads))) =
+    loads_is options beginning.state old new status bytes loads
+load_is trace options old new status (inr (none, same)) = begin_is trace options.portal status none
+
 -- The words name a command.
 pub load_no_words : (trace : FetchTrace) (options : LoadOptions) (old new : DeviceTrace) (status : Status)
     → BeginsAnd trace options.portal status (λ beginning. LoadsFrom trace options beginning.state old new status)
     (new ≡ old)
     → status ≢ Words
-load_no_words trace options old new status (inl (beginning, begins, inl (inl memory, same))) is = absurd (cc)
-load_no_words trace options old new status (inl (beginning, begins, inl (inr (other, why), same))) is = absurd (cc)
-load_no_words trace options old new status (inl (beginning, begins, inr (bytes, held, within, loads))) is =
-    absurd (subst EndsLoad is loads.0)
-load_no_words trace options old new status (inr (none, same)) is =
-    absurd (subst (λ (s : Status). FailsToBegin trace options.portal s) is none)
+load_no_words trace options old new status loads = (load_is trace options old new status loads).0
 
 -- A load uses no listener.
 pub load_no_listener : (trace : FetchTrace) (options : LoadOptions) (old new : DeviceTrace) (status : Status)
     → BeginsAnd trace options.portal status (λ beginning. LoadsFrom trace options beginning.state old new status)
     (new ≡ old)
     → status ≢ ListenFault
-load_no_listener trace options old new status (inl (beginning, begins, inl (inl memory, same))) is = absurd (cc)
-load_no_listener trace options old new status (inl (beginning, begins, inl (inr (other, why), same))) is = absurd (cc)
-load_no_listener trace options old new status (inl (beginning, begins, inr (bytes, held, within, loads))) is =
-    absurd (subst EndsLoad is loads.0)
-load_no_listener trace options old new status (inr (none, same)) is =
-    absurd (subst (λ (s : Status). FailsToBegin trace options.portal s) is none)
+load_no_listener trace options old new status loads = (load_is trace options old new status loads).1

@@ -10,7 +10,7 @@ use Rattle.portal_serve.specs.Served.{LinkTrace}
 use Rattle.portal_words.specs.declared.command.Command.{Command}
 use Rattle.portal_words.specs.declared.command.Command.TheVariants.{Play, Load, Serve}
 use Rattle.portal_load.specs.SchemaFile.{LoadsFrom}
-use Rattle.portal_start.specs.Commands.{Plays, Serves}
+use Rattle.portal_start.specs.Commands.{PlaysWith, ServesWith}
 
 -- The list has one item before and after a call, and P holds of these two.
 abbrev pub HoldsOfOnly : {X : Type 0} → List X → List X → (X → X → Type 0) → Type 0
@@ -34,14 +34,14 @@ abbrev pub Runs : {Peer : Type 0} → (Peer → LinkTrace) → Option Command �
     → Type 0
 Runs trace None fetch_trace old new status = (status ≡ Words) ⊎ (status ≡ OutOfMemory)
 Runs trace (Some (Play options)) fetch_trace old new status =
-    BeginsAnd fetch_trace options.portal status (λ beginning. Plays beginning.state old.script new.script status)
+    BeginsAnd fetch_trace options.portal status (λ beginning. PlaysWith beginning.state old.script new.script status)
     (new.script ≡ old.script)
 Runs trace (Some (Load options)) fetch_trace old new status =
     BeginsAnd fetch_trace options.portal status
     (λ beginning. LoadsFrom fetch_trace options beginning.state old.script new.script status) (new.script ≡ old.script)
 Runs trace (Some (Serve options)) fetch_trace old new status =
     BeginsAnd fetch_trace options.portal status
-    (λ beginning. Serves trace beginning options.links old.desk new.desk status)
+    (λ beginning. ServesWith trace beginning options.links old.desk new.desk status)
     (new.desk ≡ old.desk)
 
 -- the location of the portal file, if the words name one
