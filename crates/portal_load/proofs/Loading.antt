@@ -22,7 +22,6 @@ use Rattle.table_schema.specs.declared.fault.SchemaFault.TheVariants as schema_f
 use Rattle.typed_csv.specs.ReaderValue.{IsCounted}
 use Rattle.typed_csv.specs.Rows.{Rows, rows_of}
 use Rattle.typed_csv.specs.declared.fault.LoadFault.{LoadFault}
-use Rattle.typed_csv.specs.declared.fault.LoadFault.TheVariants as fault
 use Rattle.portal_load.proofs.Passing.{makes_on_append, refuses_on_second, refuses_on_within}
 use Rattle.portal_load.proofs.Passing.{stops_on_append, stops_on_none, stops_on_within}
 use Rattle.portal_load.specs.Load.{IsReadTo, LoadTask, Loads, LoadsAll, LoadsPart, LoadsToFault, LoadsToRefusal}
