@@ -1,5 +1,5 @@
 -- Readings of dates and times of day, and the moments made of them.
-use Rattle.std.proofs.Common.{◌≡◌, ◌≢◌, ℕ, ◌+◌, ◌-◌, ◌*◌, ◌<◌, ◌≤◌, true, false, ◌&&◌, nat_le, nat_lt, cond, refl}
+use Rattle.std.proofs.Common.{◌≡◌, ◌≢◌, ◌↔◌, ℕ, ◌+◌, ◌-◌, ◌*◌, ◌<◌, ◌≤◌, true, false, ◌&&◌, nat_le, nat_lt, cond, refl}
 use Rattle.std.proofs.Common.{sym, ap, ◌∙◌, subst, arith, Bool, List, [], ◌++◌, ◌∷◌, length, take, drop, get_or, ℤ, pos}
 use Rattle.std.proofs.Common.{◌+ℤ◌, ◌*ℤ◌, length-drop, w8, w16, w32, w64, to_z, of_z}
 use Rattle.std.specs.Prelude.{Option, Some, None, IsSome, IfSome, option_map, option_and_then, codes}
@@ -19,22 +19,14 @@ use Rattle.portal_base.specs.MomentReading.{names_moment, seconds_in, moment_rea
 use Rattle.portal_base.proofs.FormLemmas.{fits_form-digit, fits_form-other_length, fits_form-other_position}
 use Rattle.portal_base.proofs.ReadingLemmas.{pos-le, has_day-is, from_year_zero, moment_reading-other_form}
 
--- jiff's date of a text.
-pub named-IsDate : (y m d y' m' d' : ℕ) → y ≡ y' → m ≡ m' → d ≡ d' → y < 10000 → m < 100 → d < 100
-    → has_day y' m' d' ≡ true → IsDate (to_z w16 y) (to_z w8 m) (to_z w8 d)
-named-IsDate y m d y' m' d' year month day yb mb db t =
+-- the days that the calendar has, as jiff's integers
+pub has_day-is-IsDate : (y m d : ℕ) → y < 10000 → m < 100 → d < 100
+    → (has_day y m d ≡ true) ↔ IsDate (to_z w16 y) (to_z w8 m) (to_z w8 d)
+has_day-is-IsDate y m d yb mb db =
     let ys : to_z w16 y ≡ pos y = to_z_pos w16 y (omega arith) in
     let ms : to_z w8 m ≡ pos m = to_z_pos w8 m (omega arith) in
     let ds : to_z w8 d ≡ pos d = to_z_pos w8 d (omega arith) in
-    let here : has_day y m d ≡ true = rw (year, month, day) t in
-    rw (ys, ms, ds) ((has_day-is y m d (omega arith)).0 here)
-
-pub date_reading-unnamed : (text : List ℕ) → has_day (year_in text) (number_at 5 text) (number_at 8 text) ≡ false
-    → None ≡ date_reading text
-unfolding date_reading
-date_reading-unnamed text h =
-    elim (fits_form (codes "0000-00-00") text) as (λ b. None ≡ cond b (day_in text) None)
-    [ true ↦ rw h refl | false ↦ refl ]
+    rw (ys, ms, ds) (has_day-is y m d (omega arith))
 
 -- ---- ranges of what is read
 

@@ -13,11 +13,14 @@ IsDay day = (negsuc 719527 ≤ℤ day) × (day ≤ℤ pos 2932896)
 abbrev pub has_month : ℕ → Bool
 has_month month = nat_le 1 month && nat_le month 12
 
+-- a date, as days since 1970-01-01, if the calendar has it
+abbrev pub day_number : ℕ → ℕ → ℕ → Option ℤ
+day_number year month day =
+    if has_day year month day then Some (days_from_civil (pos year) month day) else None
+
 -- `YYYY-MM-DD`, as days since 1970-01-01
 abbrev pub day_in : List ℕ → Option ℤ
-day_in text =
-    if has_day (year_in text) (number_at 5 text) (number_at 8 text)
-    then Some (days_from_civil (pos (year_in text)) (number_at 5 text) (number_at 8 text)) else None
+day_in text = day_number (year_in text) (number_at 5 text) (number_at 8 text)
 
 unfoldable pub date_reading : List ℕ → Option ℤ
 date_reading text = if fits_form (codes "0000-00-00") text then day_in text else None

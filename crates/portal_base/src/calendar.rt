@@ -1,7 +1,7 @@
 //! Parsers of dates, times of day, years and year-months. Every parser of a date or a time uses these.
 ghost use Rattle.std.specs.Prelude.{◌≡◌, ◌+◌, ◌<◌, IfSome, IsTrue, slice_index, length};
 ghost use Rattle.std.specs.Char.{is_ascii_digit};
-ghost use Rattle.portal_base.specs.Calendar.{date_reading, day_in, has_month, minute_reading, second_in, time_reading};
+ghost use Rattle.portal_base.specs.Calendar.{date_reading, day_in, day_number, has_month, minute_reading, second_in, time_reading};
 ghost use Rattle.portal_base.specs.Calendar.{year_reading, yearmonth_reading};
 ghost use Rattle.portal_base.specs.MomentReading.{fits_form, fits_character, has_day, has_time, number_at, year_in};
 
@@ -16,10 +16,17 @@ pub fn date_of(text: &[u8]) -> Option<i32>
     if !fits(b"0000-00-00", text) {
         return None;
     }
-    let year = year_at_start(text) as i16;
-    let month = number_at(text, 5) as i8;
-    let day = number_at(text, 8) as i8;
-    match Date::new(year, month, day) {
+    day_number(year_at_start(text), number_at(text, 5), number_at(text, 8))
+}
+
+// The number of days from 1970-01-01 to the date, if the calendar has it.
+fn day_number(year: u16, month: u8, day: u8) -> Option<i32>
+    requires year { year < 10000 }
+    requires month { month < 100 }
+    requires day { day < 100 }
+    ensures { result ≡ day_number year month day }
+{
+    match Date::new(year as i16, month as i8, day as i8) {
         Ok(date) => Some(date.to_plain().to_unix_epoch_day()),
         Err(_) => None,
     }

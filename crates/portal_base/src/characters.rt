@@ -1,5 +1,7 @@
 //! Counts and tests of the characters of texts.
 ghost use Rattle.std.specs.Prelude.{◌≡◌, length};
+ghost use Rattle.std.specs.Char.{is_ascii_digit};
+ghost use Rattle.std.specs.List.{list_all};
 ghost use Rattle.std.specs.Str.{chars};
 ghost use Rattle.portal_base.specs.Characters.{is_word_category, is_word_character};
 
@@ -10,6 +12,13 @@ pub fn count_of_characters(text: &str) -> usize
     ensures { result ≡ length (chars text.now) }
 {
     text.chars().count()
+}
+
+/// Whether each byte is an ASCII digit. It is true of no bytes.
+pub fn has_only_digits(bytes: &[u8]) -> bool
+    ensures { result ≡ list_all is_ascii_digit bytes.now }
+{
+    bytes.iter().all(|byte| byte.is_ascii_digit())
 }
 
 /// Whether the character is a letter, a mark or a number by its general category (Unicode, section 4.5).

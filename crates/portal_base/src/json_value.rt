@@ -3,6 +3,7 @@ ghost use Rattle.std.specs.Prelude.{find, bytes_eq, ◌≡◌, ◌⊎◌, Ok, Er
 ghost use Rattle.std.specs.Option.{option_copied};
 ghost use Rattle.portal_base.specs.Json.{json_text, json_reading, member_of, first_of, IsReadable};
 
+mod copy;
 mod read;
 mod write;
 

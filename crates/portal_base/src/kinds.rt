@@ -4,8 +4,6 @@
 //! (`text_at`) returns `None` if the key is absent, and otherwise the value or its first fault: the kind is checked
 //! before the bound. `required` refuses an absent key.
 ghost use Rattle.std.specs.Prelude.{◌≡◌, ◌<◌, ◌∷◌, ◌++◌, [], IfOk, OnOk, IfNone, IfSome, filter, length};
-ghost use Rattle.std.specs.Char.{is_ascii_digit};
-ghost use Rattle.std.specs.List.{list_all};
 ghost use Rattle.std.specs.Option.{option_copied};
 ghost use Rattle.std.specs.Result.{result_map_both};
 ghost use Rattle.portal_base.specs.Kinds.{present, text_in, list_in, dictionary_in, is_digits, digits_spelled};
@@ -14,6 +12,7 @@ ghost use Rattle.portal_base.specs.Kinds.{trimmed_end, trimmed, is_nonempty, tex
 ghost use Rattle.portal_base.specs.Kinds.{whole_at, count_at, truth_at, texts_at, list_at, dictionary_at};
 ghost use Rattle.portal_base.specs.Kinds.{short_text_at, required, message_of};
 
+use crate::characters::has_only_digits;
 use crate::json_value::Json;
 use crate::seq::Seq;
 use crate::text::Text;
@@ -173,13 +172,7 @@ fn digits_spelled(text: &str) -> Option<u64>
 fn is_digits(text: &str) -> bool
     ensures { result ≡ is_digits text.now }
 {
-    !text.is_empty() && text.len() <= 18 && has_digits_alone(text.as_bytes())
-}
-
-fn has_digits_alone(bytes: &[u8]) -> bool
-    ensures { result ≡ list_all is_ascii_digit bytes.now }
-{
-    bytes.iter().all(|byte| byte.is_ascii_digit())
+    !text.is_empty() && text.len() <= 18 && has_only_digits(text.as_bytes())
 }
 
 // Parses a truth value.
@@ -232,11 +225,7 @@ fn push_part(alloc: Global, texts: &mut Vec<Text>, part: &str) -> Result<(), All
 fn trimmed(text: &str) -> &str
     ensures { result.now ≡ trimmed text.now }
 {
-    let mut rest = trimmed_start(text);
-    while let Some(before) = strip_trailing_blank(rest) {
-        rest = before;
-    }
-    rest
+    trimmed_end(trimmed_start(text))
 }
 
 // The text without the spaces and tabs at its start.
@@ -246,6 +235,17 @@ fn trimmed_start(text: &str) -> &str
     let mut rest = text;
     while let Some(after) = strip_leading_blank(rest) {
         rest = after;
+    }
+    rest
+}
+
+// The text without the spaces and tabs at its end.
+fn trimmed_end(text: &str) -> &str
+    ensures { result.now ≡ trimmed_end text.now }
+{
+    let mut rest = text;
+    while let Some(before) = strip_trailing_blank(rest) {
+        rest = before;
     }
     rest
 }

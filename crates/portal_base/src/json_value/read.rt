@@ -1,9 +1,9 @@
 //! Conversion from `serde_json::Value` to `Json`.
-ghost use Rattle.std.specs.Prelude.{◌≡◌, ◌⊎◌, None, Some, IfOk, IfErr, OnOk};
+ghost use Rattle.std.specs.Prelude.{◌≡◌, ◌⊎◌, None, Some, IfOk, IfErr, OnOk, OnSome};
+ghost use Rattle.serde_json.specs.Data.{number, array, object};
 ghost use Rattle.serde_json.specs.Find.{as_integer};
 ghost use Rattle.serde_json.specs.View.{view, number_view, items_view, members_view};
-ghost use Rattle.portal_base.specs.Json.{json_of, list_of, entries_of, Fits, IsOrderly, ItemsAreOrderly};
-ghost use Rattle.portal_base.specs.Json.{MembersAreOrderly};
+ghost use Rattle.portal_base.specs.Json.{json_of, Fits, IsOrderly, ItemsAreOrderly, MembersAreOrderly};
 
 use super::{Json, JsonFault};
 use crate::seq::Seq;
@@ -22,33 +22,53 @@ pub(crate) fn value_of(alloc: Global, value: &Value) -> Result<Json, JsonFault>
     match value {
         Value::Null => Ok(Json::Null),
         Value::Bool(truth) => Ok(Json::Truth(*truth)),
-        Value::Number(number) => Ok(Json::Whole(read_whole(number)?)),
-        Value::String(text) => Ok(Json::Text(Text::from_str(alloc, text.as_str())?)),
-        Value::Array(items) => Ok(Json::List(list(alloc, items)?)),
-        Value::Object(members) => Ok(Json::Map(entries(alloc, members)?)),
+        Value::Number(number) => whole(number),
+        Value::String(text) => text_value(alloc, text.as_str()),
+        Value::Array(items) => list(alloc, items),
+        Value::Object(members) => map(alloc, members),
     }
 }
 
-fn read_whole(number: &Number) -> Result<i128, JsonFault>
-    ensures ok { IfOk result (λ z. as_integer (number_view number.now) ≡ Some z) }
-    ensures fault { IfErr result (λ fault. (fault ≡ JsonFault.Fraction)
-        × (as_integer (number_view number.now) ≡ None)) }
-    ensures orderly { OnOk result (Fits (number_view number.now)) }
+// A text with these bytes.
+fn text_value(alloc: Global, text: &str) -> Result<Json, JsonFault>
+    ensures ok { IfOk result (λ j. j ≡ Json.Text text.now) }
+    ensures fault { IfErr result (λ fault. fault ≡ JsonFault.OutOfMemory) }
 {
-    if let Some(whole) = number.as_u64() {
-        return Ok(whole as i128);
-    }
-    match number.as_i64() {
-        Some(whole) => Ok(whole as i128),
+    Ok(Json::Text(Text::from_str(alloc, text)?))
+}
+
+// The whole number.
+fn whole(value: &Number) -> Result<Json, JsonFault>
+    ensures ok { IfOk result (λ j. json_of (number (number_view value.now)) ≡ Some j) }
+    ensures fault { IfErr result (λ fault. (fault ≡ JsonFault.Fraction)
+        × (json_of (number (number_view value.now)) ≡ None)) }
+    ensures orderly { OnOk result (Fits (number_view value.now)) }
+{
+    match read_whole(value) {
+        Some(whole) => Ok(Json::Whole(whole)),
         None => Err(JsonFault::Fraction),
     }
 }
 
+// The number, if it is an `i64` or a `u64`.
+fn read_whole(value: &Number) -> Option<i128>
+    ensures integer { result ≡ as_integer (number_view value.now) }
+    ensures orderly { OnSome result (Fits (number_view value.now)) }
+{
+    if let Some(whole) = value.as_u64() {
+        return Some(whole as i128);
+    }
+    match value.as_i64() {
+        Some(whole) => Some(whole as i128),
+        None => None,
+    }
+}
+
 #[cycle(value_of)]
-fn list(alloc: Global, items: &Vec<Value>) -> Result<Seq<Json>, JsonFault>
-    ensures ok { IfOk result (λ js. list_of (items_view items.now.items) ≡ Some js) }
+fn list(alloc: Global, items: &Vec<Value>) -> Result<Json, JsonFault>
+    ensures ok { IfOk result (λ j. json_of (array (items_view items.now.items)) ≡ Some j) }
     ensures fault { IfErr result (λ fault. (fault ≡ JsonFault.OutOfMemory)
-        ⊎ ((fault ≡ JsonFault.Fraction) × (list_of (items_view items.now.items) ≡ None))) }
+        ⊎ ((fault ≡ JsonFault.Fraction) × (json_of (array (items_view items.now.items)) ≡ None))) }
     ensures orderly { OnOk result (ItemsAreOrderly (items_view items.now.items)) }
 {
     let mut list = Vec::with_capacity(alloc, items.len())?;
@@ -58,15 +78,15 @@ fn list(alloc: Global, items: &Vec<Value>) -> Result<Seq<Json>, JsonFault>
             return Err(JsonFault::OutOfMemory);
         }
     }
-    Ok(Seq::from(list))
+    Ok(Json::List(Seq::from(list)))
 }
 
 #[cycle(value_of)]
-fn entries(alloc: Global, members: &Map<String, Value>) -> Result<Seq<(Text, Json)>, JsonFault>
-    ensures ok { IfOk result (λ es. entries_of (members_view members.now.entries) ≡ Some es) }
+fn map(alloc: Global, members: &Map<String, Value>) -> Result<Json, JsonFault>
+    ensures ok { IfOk result (λ j. json_of (object (members_view members.now.entries)) ≡ Some j) }
     ensures fault { IfErr result (λ fault. (fault ≡ JsonFault.OutOfMemory)
         ⊎ ((fault ≡ JsonFault.Fraction)
-        × (entries_of (members_view members.now.entries) ≡ None))) }
+        × (json_of (object (members_view members.now.entries)) ≡ None))) }
     ensures orderly { OnOk result (MembersAreOrderly (members_view members.now.entries)) }
 {
     let mut entries = Vec::with_capacity(alloc, members.len())?;
@@ -77,5 +97,5 @@ fn entries(alloc: Global, members: &Map<String, Value>) -> Result<Seq<(Text, Jso
             return Err(JsonFault::OutOfMemory);
         }
     }
-    Ok(Seq::from(entries))
+    Ok(Json::Map(Seq::from(entries)))
 }

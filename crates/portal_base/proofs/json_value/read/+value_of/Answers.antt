@@ -19,8 +19,8 @@ first_below : (k : String Global) (ks : List (String Global)) → IsStrictlySort
 unfolding IsStrictlySortedBy
 first_below k ks h = h.0
 
-pub entries-loop-key-preserved : goal.entries-loop-key-preserved
-entries-loop-key-preserved t c =
+pub map-loop-key-preserved : goal.map-loop-key-preserved
+map-loop-key-preserved t c =
     let l = c.loop-key in
     let k = string_bytes c.in-Some.key.now in
     let left = c.next.new.self in

@@ -13,8 +13,8 @@ invariant-list-loop-item l =
     × (list_of (items_view l.item-items)
     ≡ option_map (λ js. l.list.items ++ js) (list_of (items_view (drop l.item-index l.item-items))))
 
-abbrev pub invariant-entries-loop-key : goal.invariant-entries-loop-key
-invariant-entries-loop-key l =
+abbrev pub invariant-map-loop-key : goal.invariant-map-loop-key
+invariant-map-loop-key l =
     IsStrictlySortedBy string_cmp (keys_of l.key-iterator)
     × (MembersAreOrderly (members_view l.key-iterator) → MembersAreOrderly (members_view l.initial.key-iterator))
     × (entries_of (members_view l.initial.key-iterator) ≡ option_map (λ es. l.entries.items ++ es)

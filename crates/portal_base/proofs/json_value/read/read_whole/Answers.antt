@@ -28,11 +28,11 @@ pub returns-in-Some-clause-orderly : goal.returns-in-Some-clause-orderly
 returns-in-Some-clause-orderly c =
     let whole = c.in-Some.whole in
     let small : whole < 2 ^ 64 = search rules in
-    fits_unsigned (number_view c.args.number.now) whole c.in-Some.ensures small
+    fits_unsigned (number_view c.args.value.now) whole c.in-Some.ensures small
 
 pub returns-in-Some-as_i64-clause-orderly : goal.returns-in-Some-as_i64-clause-orderly
 returns-in-Some-as_i64-clause-orderly c =
-    let number = c.args.number.now in
+    let number = c.args.value.now in
     let whole = c.in-Some-as_i64.whole in
     let small : FitsSigned w64 whole = search rules in
     fits_signed number.n whole number.valid c.in-Some-as_i64.ensures c.in_default.ensures small
