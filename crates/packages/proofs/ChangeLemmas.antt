@@ -5,13 +5,13 @@ use Rattle.std.specs.Option.{option_map, option_map_or}
 use Rattle.slab.specs.Slab.{Slab, get, entries, slab_len, with_value, Updates}
 use Rattle.slab.proofs.SlabLemmas.{Updates-with_value}
 use Rattle.portal_base.specs.Ordered.{upserted, dropped}
-use Rattle.packages.specs.Index.{digest_of, Enters, Leaves, DropsColliding}
+use Rattle.digest_index.specs.Index.{IndexState, Enters, Leaves}
+use Rattle.packages.specs.Digest.{digest_of}
 use Rattle.packages.specs.ShelfInvariant.{IsConsistent, is_named_at, shelf_state}
 use Rattle.packages.specs.Named.{is_named}
 use Rattle.packages.specs.Order.{dataset_cmp}
 use Rattle.packages.specs.Shelf.{ShelfState, IsValidShelf, at_number, package_at, number_in, datasets_of}
 use Rattle.packages.specs.Shelf.{with_package, without_number, with_room}
-use Rattle.packages.specs.declared.index.Index.{Index}
 use Rattle.packages.specs.declared.package.Package.{Package}
 use Rattle.packages.proofs.DatasetLemmas.{free-none, datasets_by_id-with, datasets_by_id-without}
 use Rattle.packages.proofs.DatasetLemmas.{IsValidShelf-consistent, package_at_slab}
@@ -20,7 +20,7 @@ use Rattle.packages.proofs.ShelfInvariantLemmas.{length-with_value, same_some}
 use Rattle.packages.proofs.EntryLemmas.{entries-with, entries-without}
 
 -- the new datasets and index are consistent, and this is the shelf's value, with these datasets by id
-pub record IsChanged (new : Slab Package) (index : Index) (b : Bool) (after : ShelfState) (datasets : List Package)
+pub record IsChanged (new : Slab Package) (index : IndexState ℕ) (b : Bool) (after : ShelfState) (datasets : List Package)
     : Type 0 where
   pub kept : IsConsistent new index b
   pub same_state : shelf_state new b ≡ after
@@ -55,7 +55,7 @@ is_prepared old b s same_state room = by b (subst (λ t. IsSome t.room) (sym sam
     by true h = refl
     by false h = absurd (cc)
 
-pub changed-put : (old new : Slab Package) (first second third : Index) (b : Bool) (n m : ℕ) (p : Package)
+pub changed-put : (old new : Slab Package) (first second third : IndexState ℕ) (b : Bool) (n m : ℕ) (p : Package)
     (s : ShelfState)
     → shelf_state old b ≡ s → IsConsistent old first b → IsSome s.room → number_in p.id s ≡ None
     → number_in p.name s ≡ None
@@ -92,7 +92,7 @@ same_text : (old : Slab Package) (b : Bool) (s : ShelfState) (n : ℕ) (q : Pack
 same_text old b s n q text t same_state there has =
     same_some (text q) t (sym (ap (option_map text) (package_at_seen old b s n same_state ∙ there)) ∙ has)
 
-pub changed-replace : (old : Slab Package) (index : Index) (b : Bool) (n : ℕ) (p q : Package) (s : ShelfState)
+pub changed-replace : (old : Slab Package) (index : IndexState ℕ) (b : Bool) (n : ℕ) (p q : Package) (s : ShelfState)
     → shelf_state old b ≡ s → IsConsistent old index b → get old n ≡ Some q
     → option_map (λ d. d.id) (package_at n s) ≡ Some p.id → option_map (λ d. d.name) (package_at n s) ≡ Some p.name
     → IsChanged (with_value old n p) index b (with_package n p s) (upserted dataset_cmp p (datasets_of s))
@@ -125,15 +125,15 @@ no_text o t none some =
 
 -- ---- remove
 
-pub changed-remove : (old new : Slab Package) (first second third last : Index) (b : Bool) (n : ℕ) (p : Package)
+pub changed-remove : (old new : Slab Package) (first second third : IndexState ℕ) (b : Bool) (n : ℕ) (p : Package)
     (s : ShelfState) → shelf_state old b ≡ s → IsConsistent old first b → get old n ≡ Some p → Updates old new n None
     → slab_len new + 1 ≤ new.capacity → new.vacant_key ≡ n
-    → Leaves first second (digest_of p.id) n → Leaves second third (digest_of p.name) n → DropsColliding third last n
-    → IsChanged new last b (with_room (option_map (λ _. n) s.room) (without_number n s))
+    → Leaves first second (digest_of p.id) n → Leaves second third (digest_of p.name) n
+    → IsChanged new third b (with_room (option_map (λ _. n) s.room) (without_number n s))
     (dropped (λ d. dataset_cmp d p) (datasets_of s))
-changed-remove old new first second third last b n p s same_state keeps there change room next left and_name forgotten =
-    let now : IsConsistent new last b =
-    IsConsistent-remove old new first second third last n p b keeps there change room next left and_name forgotten in
+changed-remove old new first second third b n p s same_state keeps there change room next left and_name =
+    let now : IsConsistent new third b =
+    IsConsistent-remove old new first second third n p b keeps there change room next left and_name in
     record {
       kept = now;
       same_state = subst (λ t. shelf_state new b ≡ with_room (option_map (λ _. n) t.room) (without_number n t))
@@ -142,7 +142,7 @@ changed-remove old new first second third last b n p s same_state keeps there ch
           ∙ ap (λ r. with_entries r (dropped (at_number n) (entries old))) (rooms b));
       by_id = subst (λ t. datasets_of (shelf_state new b) ≡ dropped (λ d. dataset_cmp d p) (datasets_of t)) same_state
           (datasets_by_id-without old new n p keeps.apart now.apart change there);
-      valid = IsValidShelf-consistent new last b now;
+      valid = IsValidShelf-consistent new third b now;
     }
   where
     rooms : (c : Bool)

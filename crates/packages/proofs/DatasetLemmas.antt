@@ -15,13 +15,13 @@ use Rattle.portal_base.proofs.Upserted.{IsAscending-upserted, IsAscending-droppe
 use Rattle.portal_base.proofs.Upserted.{upserted-IsIn_other, IsIn-dropped, dropped-IsIn}
 use Rattle.portal_base.proofs.Filtered.{IsIn-filter, filter-IsIn}
 use Rattle.portal_base.proofs.Unique.{IsIn, unique, below_in, IsIn-ascending, ascending-IsIn}
-use Rattle.packages.specs.Index.{digest_of, IsCandidate}
+use Rattle.digest_index.specs.Index.{IndexState, IsUnder}
+use Rattle.packages.specs.Digest.{digest_of}
 use Rattle.packages.specs.ShelfInvariant.{HasUniqueKeys, IsConsistent, IsReady, is_named_at, shelf_state}
 use Rattle.packages.specs.Named.{is_named}
 use Rattle.packages.specs.Order.{dataset_cmp, dataset_cmp_total}
 use Rattle.packages.specs.Shelf.{IsValidShelf, number_cmp, package_at, number_in}
 use Rattle.packages.specs.Tags.{text_set}
-use Rattle.packages.specs.declared.index.Index.{Index}
 use Rattle.packages.specs.declared.package.Package.{Package}
 use Rattle.packages.proofs.FindLemmas.{find-none, none-find, none-list_any, find-alone, IsIn-map, map-IsIn}
 use Rattle.packages.proofs.FindLemmas.{list_any-map, count-map, count-ascending}
@@ -182,7 +182,7 @@ package_at_slab n s b = by (get s n) refl (package_at n (shelf_state s b)) refl
     by None none (Some d) is = sym (entries-IsIn n d s (IsIn-package_at n d (entries s) is)) ∙ none
 
 -- The value of a consistent shelf is valid.
-pub IsValidShelf-consistent : (s : Slab Package) (index : Index) (b : Bool) → IsConsistent s index b
+pub IsValidShelf-consistent : (s : Slab Package) (index : IndexState ℕ) (b : Bool) → IsConsistent s index b
     → IsValidShelf (shelf_state s b)
 IsValidShelf-consistent s index b kept =
     record {
@@ -238,10 +238,10 @@ pub free-none : (s : Slab Package) (b : Bool) (p : Package) → number_in p.id (
 free-none s b p id name m d there = (none_named s b p.id id m d there, none_named s b p.name name m d there)
 
 -- The number that is found among the candidates is that of the dataset with the key.
-pub number_of-found : (s : Slab Package) (index : Index) (b : Bool) (key : List ℕ) (r : Option ℕ)
+pub number_of-found : (s : Slab Package) (index : IndexState ℕ) (b : Bool) (key : List ℕ) (r : Option ℕ)
     → IsConsistent s index b
     → IfSome r (λ n. IsTrue (is_named_at n key s))
-    → IfNone r ((n : ℕ) → IsCandidate index (digest_of key) n → is_named_at n key s ≡ false)
+    → IfNone r ((n : ℕ) → IsUnder index (digest_of key) n → is_named_at n key s ≡ false)
     → r ≡ number_in key (shelf_state s b)
 number_of-found s index b key None kept named none =
     sym (number_none s b key (λ n d there. by n d there (is_named key d) refl))

@@ -8,10 +8,10 @@ use Rattle.std.proofs.lemmas.List.Sums.{sum_by-set}
 use Rattle.std.proofs.lemmas.Slice.Eq.{bytes_eq-Decides}
 use Rattle.slab.specs.Slab.{Slab, get, slab_len, with_value, Updates}
 use Rattle.slab.proofs.SlabLemmas.{ContainsKey-within}
-use Rattle.packages.specs.Index.{digest_of, number_under, IsCandidate, Enters, Leaves, DropsColliding}
+use Rattle.digest_index.specs.Index.{IndexState, IsUnder, Enters, Leaves, first_under, further_under}
+use Rattle.packages.specs.Digest.{digest_of}
 use Rattle.packages.specs.ShelfInvariant.{HasDigest, HasUniqueKeys, IsIndexed, IsConsistent, IsReady}
 use Rattle.packages.specs.Named.{is_named}
-use Rattle.packages.specs.declared.index.Index.{Index}
 use Rattle.packages.specs.declared.package.Package.{Package}
 
 -- ---- names
@@ -73,6 +73,34 @@ vacant_apart s m n d none there same =
     let both : Some d ≡ None = sym there ∙ ap (get s) same ∙ none in
     absurd (cc)
 
+-- ---- room that is reserved
+
+-- The numbers under each digest are those of another index with the same parts.
+under_same : (one other : IndexState ℕ) → ((d : ℕ) → first_under d one ≡ first_under d other)
+    → one.further ≡ other.further → (d n : ℕ) → IsUnder one d n → IsUnder other d n
+under_same one other first further d n (inl is) = inl (sym (first d) ∙ is)
+under_same one other first further d n (inr among) =
+    inr (subst (λ es. Contains (further_under d es) n) further among)
+
+pub IsConsistent-reserved : (old new : Slab Package) (first second : IndexState ℕ) (b c : Bool)
+    → IsConsistent old first b → ((m : ℕ) → get new m ≡ get old m)
+    → ((d : ℕ) → first_under d second ≡ first_under d first) → second.further ≡ first.further
+    → (c ≡ true → IsReady new second) → IsConsistent new second c
+IsConsistent-reserved old new first second b c kept same firsts further ready =
+    record {
+      below = λ m d at_m. kept.below m d (sym (same m) ∙ at_m);
+      apart = λ key m k d e at_m at_k. kept.apart key m k d e (sym (same m) ∙ at_m) (sym (same k) ∙ at_k);
+      indexed = record {
+        candidate = λ key m d at_m named.
+            under_same first second (λ digest. sym (firsts digest)) (sym further) (digest_of key) m
+            (kept.indexed.candidate key m d (sym (same m) ∙ at_m) named);
+        of_dataset = λ digest m under.
+            let w = kept.indexed.of_dataset digest m (under_same second first firsts further digest m under) in
+            (w.0, same m ∙ w.1, w.2);
+      };
+      ready = ready;
+    }
+
 -- ---- a dataset that is put
 
 -- no dataset has this one's id or name
@@ -101,61 +129,41 @@ put_apart old new n p apart free change key m k d e at_m at_k named also =
     by (inr x) (inr y) = apart key m k d e x.1 y.1 named also
 
 -- the index, once the number was entered under the digests of the dataset's id and name
-module _ (old new : Slab Package) (first second third : Index) (n : ℕ) (p : Package) where
+module _ (old new : Slab Package) (first second third : IndexState ℕ) (n : ℕ) (p : Package) where
   put_candidate : IsIndexed old first → Enters first second (digest_of p.id) n
       → Enters second third (digest_of p.name) n → Updates old new n (Some p)
       → (key : List ℕ) (m : ℕ) (d : Package) → get new m ≡ Some d → is_named key d ≡ true
-      → IsCandidate third (digest_of key) m
+      → IsUnder third (digest_of key) m
   put_candidate index id name change key m d there named = by (after_update old new n p change m d there)
     where
-      mine : m ≡ n → (p.id ≡ key) ⊎ (p.name ≡ key) → IsCandidate third (digest_of key) m
+      mine : m ≡ n → (p.id ≡ key) ⊎ (p.name ≡ key) → IsUnder third (digest_of key) m
       mine same (inl e) =
-          subst (λ k. IsCandidate third (digest_of k) m) e
-          (subst (λ j. IsCandidate third (digest_of p.id) j) (sym same) (name.kept (digest_of p.id) n id.entered))
-      mine same (inr e) =
-          subst (λ k. IsCandidate third (digest_of k) m) e
-          (subst (λ j. IsCandidate third (digest_of p.name) j) (sym same) name.entered)
+          (name.under (digest_of key) m).1
+          (inl ((id.under (digest_of key) m).1 (inr (ap digest_of (sym e), same))))
+      mine same (inr e) = (name.under (digest_of key) m).1 (inr (ap digest_of (sym e), same))
 
-      by : IsAfterUpdate old n p m d → IsCandidate third (digest_of key) m
+      by : IsAfterUpdate old n p m d → IsUnder third (digest_of key) m
       by (inl x) = mine x.0 (named-cases key p (ap (is_named key) (sym x.1) ∙ named))
       by (inr x) =
-          name.kept (digest_of key) m (id.kept (digest_of key) m (index.candidate key m d x.1 named))
+          (name.under (digest_of key) m).1
+          (inl ((id.under (digest_of key) m).1 (inl (index.candidate key m d x.1 named))))
 
-  put_led : IsIndexed old first → Enters first second (digest_of p.id) n
+  put_of_dataset : IsIndexed old first → Enters first second (digest_of p.id) n
       → Enters second third (digest_of p.name) n → Updates old new n (Some p) → get old n ≡ None
-      → (digest m : ℕ) → number_under third digest ≡ Some m
-      → (d : Package) × (get new m ≡ Some d) × HasDigest digest d
-  put_led index id name change none digest m under = by_name (name.under_digest digest m under)
+      → (digest m : ℕ) → IsUnder third digest m → (d : Package) × (get new m ≡ Some d) × HasDigest digest d
+  put_of_dataset index id name change none digest m under = by_name ((name.under digest m).0 under)
     where
-      by_id : (number_under first digest ≡ Some m) ⊎ ((digest ≡ digest_of p.id) × (m ≡ n))
+      by_id : IsUnder first digest m ⊎ ((digest ≡ digest_of p.id) × (m ≡ n))
           → (d : Package) × (get new m ≡ Some d) × HasDigest digest d
       by_id (inl was) =
-          let w = index.under_digest digest m was in
+          let w = index.of_dataset digest m was in
           (w.0, unchanged old new n (Some p) change m w.0 (vacant_apart old m n w.0 none w.1) w.1, w.2)
       by_id (inr x) = (p, ap (get new) x.1 ∙ change.changed, inl x.0)
 
-      by_name : (number_under second digest ≡ Some m) ⊎ ((digest ≡ digest_of p.name) × (m ≡ n))
+      by_name : IsUnder second digest m ⊎ ((digest ≡ digest_of p.name) × (m ≡ n))
           → (d : Package) × (get new m ≡ Some d) × HasDigest digest d
-      by_name (inl was) = by_id (id.under_digest digest m was)
+      by_name (inl was) = by_id ((id.under digest m).0 was)
       by_name (inr x) = (p, ap (get new) x.1 ∙ change.changed, inr x.0)
-
-  put_colliding : IsIndexed old first → Enters first second (digest_of p.id) n
-      → Enters second third (digest_of p.name) n → Updates old new n (Some p) → get old n ≡ None
-      → (m : ℕ) → Contains third.colliding.items m → IsSome (get new m)
-  put_colliding index id name change none m there = by_name (name.colliding m there)
-    where
-      mine : m ≡ n → IsSome (get new m)
-      mine same = ap is_some (ap (get new) same ∙ change.changed)
-
-      by_id : Contains first.colliding.items m ⊎ (m ≡ n) → IsSome (get new m)
-      by_id (inl was) =
-          let w = some_there (get old m) (index.colliding m was) in
-          ap is_some (unchanged old new n (Some p) change m w.0 (vacant_apart old m n w.0 none w.1) w.1)
-      by_id (inr same) = mine same
-
-      by_name : Contains second.colliding.items m ⊎ (m ≡ n) → IsSome (get new m)
-      by_name (inl was) = by_id (id.colliding m was)
-      by_name (inr same) = mine same
 
   pub IsConsistent-put : IsConsistent old first true → IsFree old p → Updates old new n (Some p) → n ≡ old.vacant_key
       → Enters first second (digest_of p.id) n → Enters second third (digest_of p.name) n
@@ -167,8 +175,7 @@ module _ (old new : Slab Package) (first second third : Index) (n : ℕ) (p : Pa
         apart = put_apart old new n p kept.apart free change;
         indexed = record {
           candidate = put_candidate kept.indexed id name change;
-          under_digest = put_led kept.indexed id name change none;
-          colliding = put_colliding kept.indexed id name change none;
+          of_dataset = put_of_dataset kept.indexed id name change none;
         };
         ready = λ h. absurd (true≢false (sym h));
       }
@@ -196,7 +203,7 @@ replace_apart old new n p q apart there id name change key m k d e at_m at_k nam
     by (inr x) (inl y) = apart key m n d q x.1 there named (was e y.1 also) ∙ sym y.0
     by (inr x) (inr y) = apart key m k d e x.1 y.1 named also
 
-module _ (old new : Slab Package) (index : Index) (n : ℕ) (p q : Package) where
+module _ (old new : Slab Package) (index : IndexState ℕ) (n : ℕ) (p q : Package) where
   -- a number with a dataset has the new one, or the same
   now_there : get old n ≡ Some q → Updates old new n (Some p) → (m : ℕ) (d : Package) → get old m ≡ Some d
       → ((m ≡ n) × (d ≡ q) × (get new m ≡ Some p)) ⊎ (get new m ≡ Some d)
@@ -213,22 +220,21 @@ module _ (old new : Slab Package) (index : Index) (n : ℕ) (p q : Package) wher
   replace_indexed : IsIndexed old index → get old n ≡ Some q → q.id ≡ p.id → q.name ≡ p.name
       → Updates old new n (Some p) → IsIndexed new index
   replace_indexed indexed there id name change =
-      record { candidate = candidate; under_digest = under_digest; colliding = colliding }
+      record { candidate = candidate; of_dataset = of_dataset }
     where
       candidate : (key : List ℕ) (m : ℕ) (d : Package) → get new m ≡ Some d → is_named key d ≡ true
-          → IsCandidate index (digest_of key) m
+          → IsUnder index (digest_of key) m
       candidate key m d at_m named = by (after_update old new n p change m d at_m)
         where
-          by : IsAfterUpdate old n p m d → IsCandidate index (digest_of key) m
+          by : IsAfterUpdate old n p m d → IsUnder index (digest_of key) m
           by (inl x) =
-              subst (λ k. IsCandidate index (digest_of key) k) (sym x.0)
+              subst (λ k. IsUnder index (digest_of key) k) (sym x.0)
               (indexed.candidate key n q there
               (named_alike key q p id name ∙ ap (is_named key) (sym x.1) ∙ named))
           by (inr x) = indexed.candidate key m d x.1 named
 
-      under_digest : (digest m : ℕ) → number_under index digest ≡ Some m
-          → (d : Package) × (get new m ≡ Some d) × HasDigest digest d
-      under_digest digest m under = by (indexed.under_digest digest m under)
+      of_dataset : (digest m : ℕ) → IsUnder index digest m → (d : Package) × (get new m ≡ Some d) × HasDigest digest d
+      of_dataset digest m under = by (indexed.of_dataset digest m under)
         where
           alike : (d : Package) → d ≡ q → HasDigest digest d → HasDigest digest p
           alike d same (inl e) = inl (e ∙ ap (λ f. digest_of f.id) same ∙ ap digest_of id)
@@ -242,14 +248,6 @@ module _ (old new : Slab Package) (index : Index) (n : ℕ) (p q : Package) wher
                 | inr same ↦ (w.0, same, w.2)
               ]
 
-      colliding : (m : ℕ) → Contains index.colliding.items m → IsSome (get new m)
-      colliding m among =
-          let w = some_there (get old m) (indexed.colliding m among) in
-          elim (now_there there change m w.0 w.1) [
-            | inl x ↦ ap is_some x.2
-            | inr same ↦ ap is_some same
-          ]
-
 -- a write at a number with a dataset keeps the count
 pub length-with_value : (s : Slab Package) (n : ℕ) (p q : Package) → get s n ≡ Some q
     → slab_len (with_value s n p) ≡ slab_len s
@@ -259,7 +257,7 @@ length-with_value s n p q there =
     let was : count (get_or s.slots n None) ≡ 1 = ap count there in
     omega (arith, both, was)
 
-pub IsConsistent-replace : (old new : Slab Package) (index : Index) (b : Bool) (n : ℕ) (p q : Package)
+pub IsConsistent-replace : (old new : Slab Package) (index : IndexState ℕ) (b : Bool) (n : ℕ) (p q : Package)
     → IsConsistent old index b
     → get old n ≡ Some q → q.id ≡ p.id → q.name ≡ p.name → Updates old new n (Some p)
     → slab_len new ≡ slab_len old → new.capacity ≡ old.capacity → new.vacant_key ≡ old.vacant_key
@@ -295,63 +293,47 @@ IsConsistent-replace old new index b n p q kept there id name change len capacit
 
 -- ---- a dataset that is removed
 
-module _ (old new : Slab Package) (first second third last : Index) (n : ℕ) (p : Package) where
+module _ (old new : Slab Package) (first second third : IndexState ℕ) (n : ℕ) (p : Package) where
   remove_indexed : IsIndexed old first → get old n ≡ Some p → Updates old new n None
-      → Leaves first second (digest_of p.id) n → Leaves second third (digest_of p.name) n → DropsColliding third last n
-      → IsIndexed new last
-  remove_indexed indexed there change id name forgets =
-      record { candidate = candidate; under_digest = under_digest; colliding = colliding }
+      → Leaves first second (digest_of p.id) n → Leaves second third (digest_of p.name) n → IsIndexed new third
+  remove_indexed indexed there change id name = record { candidate = candidate; of_dataset = of_dataset }
     where
-      forgotten : (digest m : ℕ) → m ≢ n → IsCandidate third digest m → IsCandidate last digest m
-      forgotten digest m other (inl under) = inl (forgets.same digest ∙ under)
-      forgotten digest m other (inr among) = inr (forgets.kept m other among)
-
       candidate : (key : List ℕ) (m : ℕ) (d : Package) → get new m ≡ Some d → is_named key d ≡ true
-          → IsCandidate last (digest_of key) m
+          → IsUnder third (digest_of key) m
       candidate key m d at_m named =
           let was = before_removal old new n change m d at_m in
-          forgotten (digest_of key) m was.0
-          (name.kept (digest_of key) m was.0
-          (id.kept (digest_of key) m was.0 (indexed.candidate key m d was.1 named)))
+          (name.under (digest_of key) m).1
+          ((id.under (digest_of key) m).1
+          (indexed.candidate key m d was.1 named, λ here. was.0 here.1), λ here. was.0 here.1)
 
-      under_digest : (digest m : ℕ) → number_under last digest ≡ Some m
-          → (d : Package) × (get new m ≡ Some d) × HasDigest digest d
-      under_digest digest m under =
-          let under_third : number_under third digest ≡ Some m = sym (forgets.same digest) ∙ under in
-          let under_second = name.under_digest digest m under_third in
-          let w = indexed.under_digest digest m (id.under_digest digest m under_second) in
+      of_dataset : (digest m : ℕ) → IsUnder third digest m → (d : Package) × (get new m ≡ Some d) × HasDigest digest d
+      of_dataset digest m under =
+          let by_name = (name.under digest m).0 under in
+          let by_id = (id.under digest m).0 by_name.0 in
+          let w = indexed.of_dataset digest m by_id.0 in
           let other : m ≢ n =
           λ same.
           let mine : w.0 ≡ p = same_some w.0 p (sym w.1 ∙ ap (get old) same ∙ there) in
           (elim w.2 [
-            | inl e ↦ id.gone
-                (ap (number_under second) (sym (e ∙ ap (λ f. digest_of f.id) mine)) ∙ under_second ∙ ap Some same)
-            | inr e ↦ name.gone
-                (ap (number_under third) (sym (e ∙ ap (λ f. digest_of f.name) mine)) ∙ under_third ∙ ap Some same)
+            | inl e ↦ by_id.1 (e ∙ ap (λ f. digest_of f.id) mine, same)
+            | inr e ↦ by_name.1 (e ∙ ap (λ f. digest_of f.name) mine, same)
           ]) in
           (w.0, unchanged old new n None change m w.0 other w.1, w.2)
 
-      colliding : (m : ℕ) → Contains last.colliding.items m → IsSome (get new m)
-      colliding m among =
-          let was = forgets.gone m among in
-          let w = some_there (get old m) (indexed.colliding m (id.colliding m (name.colliding m was.0))) in
-          ap is_some (unchanged old new n None change m w.0 was.1 w.1)
-
   pub IsConsistent-remove : (b : Bool) → IsConsistent old first b → get old n ≡ Some p → Updates old new n None
       → slab_len new + 1 ≤ new.capacity → new.vacant_key ≡ n
-      → Leaves first second (digest_of p.id) n → Leaves second third (digest_of p.name) n → DropsColliding third last n
-      → IsConsistent new last b
-  IsConsistent-remove b kept there change room next id name forgets =
+      → Leaves first second (digest_of p.id) n → Leaves second third (digest_of p.name) n → IsConsistent new third b
+  IsConsistent-remove b kept there change room next id name =
       record {
         below = λ m d at_m. kept.below m d (before_removal old new n change m d at_m).1;
         apart = λ key m k d e at_m at_k.
             kept.apart key m k d e (before_removal old new n change m d at_m).1
             (before_removal old new n change k e at_k).1;
-        indexed = remove_indexed kept.indexed there change id name forgets;
+        indexed = remove_indexed kept.indexed there change id name;
         ready = λ is. record {
           slot = room;
           number = subst (λ k. k < 2 ^ 32) (sym next) (kept.below n p there);
           vacant = ap (get new) next ∙ change.changed;
-          index_room = forgets.room 2 (name.room 2 (id.room 2 (kept.ready is).index_room));
+          index_room = omega (arith, (kept.ready is).index_room, id.room, name.room);
         };
       }

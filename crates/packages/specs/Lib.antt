@@ -1,6 +1,6 @@
 pub mod Body
+pub mod Digest
 pub mod Errors
-pub mod Index
 pub mod LocatedResource
 pub mod Named
 pub mod Numbered

@@ -2,8 +2,8 @@
 #![tactic(auto)]
 
 pub mod build;
+mod digest;
 pub mod errors;
-mod index;
 pub mod laws;
 pub mod named;
 mod order;

@@ -12,15 +12,17 @@ ghost use Rattle.packages.specs.Order.{dataset_cmp};
 ghost use Rattle.packages.specs.Shelf.{package_at, number_in, with_package, without_number, with_room, datasets_of};
 ghost use Rattle.packages.specs.Shelf.{IsValidShelf};
 ghost use Rattle.packages.specs.Tags.{text_set};
-ghost use Rattle.packages.specs.Index.{digest_of, number_under, IsCandidate};
+ghost use Rattle.packages.specs.Digest.{digest_of};
 ghost use Rattle.packages.specs.ShelfInvariant.{is_named_at};
+ghost use Rattle.digest_index.specs.Index.{IsUnder, first_under};
 ghost use Rattle.slab.specs.Slab.{get};
 
-use crate::index::{Index, digest_of};
+use crate::digest::digest_of;
 use crate::named::is_named;
 use crate::package::Package;
 use crate::walk;
 use crate::walk::Test;
+use digest_index::{DigestIndex, Further};
 use portal_base::steps::Steps;
 use portal_base::text::Text;
 use slab::Slab;
@@ -34,7 +36,7 @@ use std::sync::ledger::Ledger;
 #[derive(Drop)]
 pub struct Shelf {
     datasets: Slab<Package>,
-    index: Index,
+    index: DigestIndex<u32>,
     /// Whether there is room for one more dataset.
     is_prepared: bool,
 }
@@ -58,7 +60,7 @@ impl Shelf {
     {
         Shelf {
             datasets: Slab::new(alloc),
-            index: Index::new(alloc),
+            index: DigestIndex::new(alloc),
             is_prepared: false,
         }
     }
@@ -75,7 +77,7 @@ impl Shelf {
         let number = free_number(&self.datasets)?;
         if !self.is_prepared {
             self.datasets.reserve(1)?;
-            self.index.reserve()?;
+            self.index.reserve(2)?;
             self.is_prepared = true;
         }
         Ok(number)
@@ -130,7 +132,6 @@ impl Shelf {
         let package = self.datasets.remove(number as usize);
         self.index.leave(digest_of(package.id.as_str()), number);
         self.index.leave(digest_of(package.name.as_str()), number);
-        self.index.drop_colliding(number);
         package
     }
 
@@ -209,36 +210,36 @@ fn free_number(datasets: &Slab<Package>) -> Result<u32, AllocError>
 }
 
 /// The number of the dataset with this id or name.
-fn find_number(datasets: &Slab<Package>, index: &Index, key: &str) -> Option<u32>
+fn find_number(datasets: &Slab<Package>, index: &DigestIndex<u32>, key: &str) -> Option<u32>
     ensures named { IfSome result (λ n. IsTrue (is_named_at n key.now datasets.now)) }
-    ensures none { IfNone result ((n : ℕ) → IsCandidate index.now (digest_of key.now) n →
+    ensures none { IfNone result ((n : ℕ) → IsUnder index.now (digest_of key.now) n →
         is_named_at n key.now datasets.now ≡ false) }
 {
-    match find_under_digest(datasets, index, key) {
+    let digest = digest_of(key);
+    match find_first(datasets, index.first(digest), key) {
         Some(number) => Some(number),
-        None => find_first_named(datasets, index.colliding(), key),
+        None => find_further(datasets, index.further(digest), key),
     }
 }
 
-/// The number under the key's digest, if the dataset there has that id or name.
-fn find_under_digest(datasets: &Slab<Package>, index: &Index, key: &str) -> Option<u32>
+/// The number, if the dataset there has that id or name.
+fn find_first(datasets: &Slab<Package>, number: Option<u32>, key: &str) -> Option<u32>
     ensures named { IfSome result (λ n. IsTrue (is_named_at n key.now datasets.now)) }
-    ensures none { IfNone result ((n : ℕ) → number_under index.now (digest_of key.now) ≡ Some n →
-        is_named_at n key.now datasets.now ≡ false) }
+    ensures none { IfNone result ((n : ℕ) → number ≡ Some n → is_named_at n key.now datasets.now ≡ false) }
 {
-    match index.number_under(digest_of(key)) {
+    match number {
         Some(number) if is_named_at(datasets, number, key) => Some(number),
         _ => None,
     }
 }
 
-/// The first of the numbers whose dataset has that id or name.
-fn find_first_named(datasets: &Slab<Package>, numbers: &[u32], key: &str) -> Option<u32>
-    ensures { result ≡ find (λ n. is_named_at n key.now datasets.now) numbers.now }
+/// The first of the further numbers whose dataset has that id or name.
+fn find_further(datasets: &Slab<Package>, further: &[Further<u32>], key: &str) -> Option<u32>
+    ensures { result ≡ find (λ n. is_named_at n key.now datasets.now) (map (λ e. e.number) further.now) }
 {
-    numbers
+    further
         .iter()
-        .copied()
+        .map(|entry| entry.number)
         .find(|number| is_named_at(datasets, *number, key))
 }
 

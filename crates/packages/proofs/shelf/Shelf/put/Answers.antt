@@ -1,7 +1,8 @@
 -- The dataset is at the vacant number, which was entered under the digests of its id and its name.
-use Rattle.std.proofs.Common.{false, None, subst, ap, ◌∙◌, ◌≡◌, true}
+use Rattle.std.proofs.Common.{false, None, subst, ap, ◌∙◌, ◌≡◌, true, arith}
 use Rattle.portal_base.specs.Ordered.{upserted}
-use Rattle.packages.specs.Index.{digest_of, Enters}
+use Rattle.digest_index.specs.Index.{Enters}
+use Rattle.packages.specs.Digest.{digest_of}
 use Rattle.packages.specs.Order.{dataset_cmp}
 use Rattle.packages.specs.Shelf.{datasets_of, with_package, with_room}
 use Rattle.packages.proofs.ChangeLemmas.{IsChanged, changed-put, is_prepared}
@@ -11,7 +12,7 @@ pub enter-requires-2 : goal.enter-requires-2
 enter-requires-2 c =
     let ready : c.self.inside.is_prepared ≡ true =
     is_prepared c.self.inside.datasets c.self.inside.is_prepared c.args.self.now c.self.view_is c.requires.room in
-    c.enter.ensures.room 1 (c.self.invariant.ready ready).index_room
+    omega (arith, c.enter.ensures.room, (c.self.invariant.ready ready).index_room)
 
 changed : (c : goal.After-self-1) → IsChanged c.insert_reserved.new.self c.enter-2.new.self false
     (with_room None (with_package c.vacant_key-number.result c.args.package c.args.self.now))
