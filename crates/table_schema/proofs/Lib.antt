@@ -5,6 +5,7 @@ mod ColumnLemmas
 mod ConstraintLemmas
 mod DescriptorLemmas
 mod Examples
+mod IndexLemmas
 mod KeyLemmas
 mod OrderLemmas
 mod PrintLemmas

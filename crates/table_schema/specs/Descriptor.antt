@@ -48,6 +48,11 @@ name_reading number item =
 abbrev pub new_name : ℕ → List (List ℕ) → List ℕ → Result (List ℕ) SchemaFault
 new_name number names name = if is_among names name then Err (RepeatedName number) else Ok name
 
+-- The reading is the error that names what isn't supported.
+abbrev pub NamesUnsupported : {A : Type 0} → Result A SchemaFault → Type 0
+NamesUnsupported (Err (Unsupported name)) = Unit {0}
+NamesUnsupported other = ⊥
+
 -- ---- its type
 
 abbrev pub supported : List ℕ → Option Kind

@@ -2,6 +2,7 @@ pub mod Constraint
 pub mod Descriptor
 pub mod Field
 pub mod Form
+pub mod Index
 pub mod Keys
 pub mod Messages
 pub mod Order

@@ -63,3 +63,16 @@ unfolding cell_cmp
 cell_cmp_total =
     then_total (on_total type_rank nat_cmp_total)
     (then_total (on_total rank_of int_cmp_total) (on_total bytes_of nat_list_cmp_total))
+
+-- the month of a year and month, and 0 for other cells
+abbrev pub month_of : Cell → ℕ
+month_of (cell.YearMonth year month) = month
+month_of other = 0
+
+-- The order of cells, and then by the month. It makes equal cells alone equal, also those that are no values.
+unfoldable pub exact_cmp : Cell → Cell → Ordering
+exact_cmp = then_cmp cell_cmp (on month_of nat_cmp)
+
+pub exact_cmp_total : IsTotalOrder exact_cmp
+unfolding exact_cmp
+exact_cmp_total = then_total cell_cmp_total (on_total month_of nat_cmp_total)

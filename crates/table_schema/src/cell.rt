@@ -31,7 +31,7 @@ pub enum Cell {
 impl Cell {
     ghost use Rattle.std.specs.Prelude.{◌≡◌, ◌↔◌, IsTrue};
     ghost use Rattle.std.specs.declared.cmp.Ordering.TheVariants.{Equal};
-    ghost use Rattle.table_schema.specs.Order.{rank_of, same_cell, cell_cmp, type_rank, bytes_of};
+    ghost use Rattle.table_schema.specs.Order.{rank_of, same_cell, cell_cmp, exact_cmp, type_rank, bytes_of, month_of};
     ghost use Rattle.table_schema.specs.Printed.{IsValue};
 
     /// Whether two cells are equal.
@@ -53,6 +53,14 @@ impl Cell {
             .cmp(&other.type_rank())
             .then(self.rank().cmp(&other.rank()))
             .then(self.text().cmp(other.text()))
+    }
+
+    /// Compares two cells as `order` does, and then by the month. Only equal cells are equal, also those that aren't values.
+    #[tactic(auto, unfolding(crate::specs::Order::exact_cmp))]
+    pub(crate) fn order_exactly(&self, other: &Cell) -> Ordering
+        ensures { result ≡ exact_cmp self.now other.now }
+    {
+        self.order(other).then(self.month().cmp(&other.month()))
     }
 
     /// The rank among the cells of its type. All texts have the same rank, and `Null` has one rank.
@@ -107,6 +115,16 @@ impl Cell {
             Cell::Year(_) => 7,
             Cell::YearMonth(_, _) => 8,
             Cell::Null => 9,
+        }
+    }
+
+    // The month of a year and month, and 0 for other cells.
+    fn month(&self) -> u8
+        ensures { result ≡ month_of self.now }
+    {
+        match self {
+            Cell::YearMonth(_, month) => *month,
+            _ => 0,
         }
     }
 

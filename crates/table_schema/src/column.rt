@@ -1,5 +1,5 @@
 //! Reads the fields of a descriptor (Table Schema v1, "Field descriptors").
-ghost use Rattle.std.specs.Prelude.{◌≡◌, ◌+◌, ◌≤◌, ◌⊎◌, [], map, length, true, IfOk, Ok, Err, codes};
+ghost use Rattle.std.specs.Prelude.{◌≡◌, ◌≢◌, ◌+◌, ◌≤◌, ◌⊎◌, [], map, length, true, IfOk, Ok, Err, codes};
 ghost use Rattle.std.specs.List.{list_all, list_any};
 ghost use Rattle.std.specs.Str.{bytes_eq};
 ghost use Rattle.table_schema.specs.Values.{is_map, Gives};
@@ -7,6 +7,7 @@ ghost use Rattle.table_schema.specs.Truth.{is_among};
 ghost use Rattle.table_schema.specs.Descriptor.{field_items, name_reading, new_name, supported, unsupported_types};
 ghost use Rattle.table_schema.specs.Descriptor.{kind_reading, kind_named, format_reading, pattern_reading};
 ghost use Rattle.table_schema.specs.Descriptor.{has_pattern, column_of, column_reading, columns_reading};
+ghost use Rattle.table_schema.specs.Descriptor.{NamesUnsupported};
 
 use crate::constraint::Constraints;
 use crate::fault::SchemaFault;
@@ -35,7 +36,8 @@ pub struct Column {
 ///
 /// The errors are `NotJson` and `NoFields`.
 pub(crate) fn field_items(value: &Json) -> Result<&Seq<Json>, SchemaFault>
-    ensures { Gives (λ items. items.now) result (field_items value.now) }
+    ensures items { Gives (λ items. items.now) result (field_items value.now) }
+    ensures memory { result ≢ Err SchemaFault.OutOfMemory }
 {
     if !is_map(value) {
         return Err(SchemaFault::NotJson);
@@ -120,7 +122,8 @@ fn column_with_options(
 }
 
 fn name_of(number: u32, item: &Json) -> Result<&Text, SchemaFault>
-    ensures { Gives (λ name. name.now) result (name_reading number item.now) }
+    ensures name { Gives (λ name. name.now) result (name_reading number item.now) }
+    ensures memory { result ≢ Err SchemaFault.OutOfMemory }
 {
     let Some(value) = present(item, "name") else {
         return Err(SchemaFault::BadName(number));
@@ -140,7 +143,8 @@ fn is_taken(columns: &[Column], name: &Text) -> bool
 }
 
 fn kind_of(alloc: Global, number: u32, item: &Json) -> Result<Kind, SchemaFault>
-    ensures { Gives (λ x. x) result (kind_reading number item.now) }
+    ensures kind { Gives (λ x. x) result (kind_reading number item.now) }
+    ensures memory { result ≡ Err SchemaFault.OutOfMemory → NamesUnsupported (kind_reading number item.now) }
 {
     let Some(value) = present(item, "type") else {
         return Ok(Kind::Text);
@@ -193,7 +197,8 @@ fn unsupported(alloc: Global, name: &str) -> SchemaFault
 }
 
 fn validate_format(alloc: Global, item: &Json) -> Result<(), SchemaFault>
-    ensures { Gives (λ _. true) result (format_reading item.now) }
+    ensures format { Gives (λ _. true) result (format_reading item.now) }
+    ensures memory { result ≡ Err SchemaFault.OutOfMemory → NamesUnsupported (format_reading item.now) }
 {
     let Some(value) = present(item, "format") else {
         return Ok(());
@@ -206,7 +211,8 @@ fn validate_format(alloc: Global, item: &Json) -> Result<(), SchemaFault>
 }
 
 fn validate_pattern(alloc: Global, item: &Json) -> Result<(), SchemaFault>
-    ensures { Gives (λ _. true) result (pattern_reading item.now) }
+    ensures pattern { Gives (λ _. true) result (pattern_reading item.now) }
+    ensures memory { result ≡ Err SchemaFault.OutOfMemory → NamesUnsupported (pattern_reading item.now) }
 {
     if has_pattern(item) {
         Err(unsupported(alloc, "pattern"))

@@ -1,13 +1,12 @@
 //! The constraints of a field (Table Schema v1, "Constraints"), and the first of them that a cell breaks.
 ghost use Rattle.std.specs.Prelude.{◌≡◌, length, option_map};
 ghost use Rattle.std.specs.Option.{option_copied};
-ghost use Rattle.std.specs.List.{list_any};
 ghost use Rattle.table_schema.specs.Constraint.{length_of, is_at_least, is_at_most, keeps_length, keeps_range};
 ghost use Rattle.table_schema.specs.Constraint.{keeps_enum, constraint_fault};
-ghost use Rattle.table_schema.specs.Order.{rank_of, same_cell};
+ghost use Rattle.table_schema.specs.Order.{rank_of};
 
+use crate::allowed::AllowedCells;
 use crate::cell::{Cell, CellFault};
-use portal_base::seq::Seq;
 
 /// The constraints of a field. They apply to cells other than `Null`, except for `required`, which only `Null` breaks.
 #[derive(Drop)]
@@ -22,7 +21,7 @@ pub struct Constraints {
     pub minimum: Option<Cell>,
     pub maximum: Option<Cell>,
     /// The cells that `enum` allows. The list is empty if there is no `enum`.
-    pub allowed: Seq<Cell>,
+    pub allowed: AllowedCells,
 }
 
 impl Constraints {
@@ -62,14 +61,8 @@ impl Constraints {
     fn keeps_enum(&self, cell: &Cell) -> bool
         ensures { result ≡ keeps_enum self.now cell.now }
     {
-        self.allowed.is_empty() || is_among(self.allowed.as_slice(), cell)
+        self.allowed.as_slice().is_empty() || self.allowed.has(cell)
     }
-}
-
-fn is_among(cells: &[Cell], cell: &Cell) -> bool
-    ensures { result ≡ list_any (λ a. same_cell a cell.now) cells.now }
-{
-    cells.iter().any(|allowed| allowed.is_same(cell))
 }
 
 fn bound_of(bound: &Option<Cell>) -> Option<i128>

@@ -1,17 +1,19 @@
 //! Fields, which read texts and JSON values as cells.
-ghost use Rattle.std.specs.Prelude.{◌≡◌, IfOk, IfErr, Ok, Err};
+ghost use Rattle.std.specs.Prelude.{◌≡◌, ◌≢◌, IfOk, IfErr, IsSome, Ok, Err, false};
 ghost use Rattle.std.specs.Arc.{arc_value};
+ghost use Rattle.portal_base.specs.Kinds.{text_in};
+ghost use Rattle.table_schema.specs.Form.{kind_of};
 ghost use Rattle.table_schema.specs.Printed.{IsValue};
 ghost use Rattle.table_schema.specs.Reading.{cell_reading, record_reading, null_reading, kept, Reads, IsFault};
+ghost use Rattle.table_schema.specs.Truth.{is_among};
 
 use crate::cell::{Cell, CellError, CellFault};
 use crate::column::Column;
 use crate::constraint::Constraints;
-use crate::form::Form;
+use crate::form::{Form, Kind};
+use crate::listed::ListedTexts;
 use crate::reading::{cell_of, value_of};
-use crate::truth::is_among;
 use portal_base::json_value::Json;
-use portal_base::seq::Seq;
 use portal_base::text::Text;
 use std::alloc::Global;
 use std::marker::Model;
@@ -24,7 +26,7 @@ pub struct Field {
     form: Form,
     constraints: Constraints,
     /// The texts that are missing values. The fields of a schema share one list, which may be long.
-    missing: Arc<Seq<Text>>,
+    missing: Arc<ListedTexts>,
     in_key: bool,
 }
 
@@ -64,23 +66,28 @@ impl Field {
     }
 
     /// Reads a text of a file as a cell. A missing value is `Null`, or the error `Required` if the field is required or
-    /// in the primary key.
+    /// in the primary key. Only a text cell takes memory.
     pub fn read_cell(&self, alloc: Global, text: &str) -> Result<Cell, CellError>
         ensures cell { IfOk result (Reads self.now text.now) }
         ensures value { IfOk result IsValue }
         ensures fault { IfErr result (IsFault (cell_reading self.now text.now)) }
+        ensures memory { result ≡ Err CellError.OutOfMemory
+            → (kind_of self.now.form ≡ Kind.Text) × (is_among self.now.missing text.now ≡ false) }
     {
-        if is_among(self.missing.as_slice(), text) {
+        if self.missing.has(text) {
             return null_of(self.constraints.required || self.in_key);
         }
         kept(&self.constraints, cell_of(alloc, &self.form, text)?)
     }
 
-    /// Reads a JSON value of a record as a cell. The options and missing values of the field don't apply.
+    /// Reads a JSON value of a record as a cell. The options and missing values of the field don't apply. Only a text
+    /// cell takes memory.
     pub fn of_json(&self, alloc: Global, value: &Json) -> Result<Cell, CellError>
         ensures cell { IfOk result (λ cell. record_reading self.now value.now ≡ Ok cell) }
         ensures value { IfOk result IsValue }
         ensures fault { IfErr result (IsFault (record_reading self.now value.now)) }
+        ensures memory { result ≡ Err CellError.OutOfMemory
+            → (kind_of self.now.form ≡ Kind.Text) × IsSome (text_in value.now) }
     {
         match value {
             Json::Null => null_of(self.constraints.required),
@@ -91,7 +98,7 @@ impl Field {
 
 impl Field {
     /// The field of a descriptor, with the parts that the whole schema gives it.
-    pub(crate) fn of_column(column: Column, missing: Arc<Seq<Text>>, in_key: bool) -> Field
+    pub(crate) fn of_column(column: Column, missing: Arc<ListedTexts>, in_key: bool) -> Field
         ensures { result
             ≡ record {
               name = column.name;
@@ -115,6 +122,7 @@ impl Field {
 fn null_of(required: bool) -> Result<Cell, CellError>
     ensures cell { IfOk result (λ cell. null_reading required ≡ Ok cell) }
     ensures fault { IfErr result (IsFault (null_reading required)) }
+    ensures memory { result ≢ Err CellError.OutOfMemory }
 {
     if required {
         Err(CellError::Fault(CellFault::Required))
@@ -127,6 +135,7 @@ fn null_of(required: bool) -> Result<Cell, CellError>
 fn kept(constraints: &Constraints, cell: Option<Cell>) -> Result<Cell, CellError>
     ensures cell { IfOk result (λ read. kept constraints.now cell ≡ Ok read) }
     ensures fault { IfErr result (IsFault (kept constraints.now cell)) }
+    ensures memory { result ≢ Err CellError.OutOfMemory }
 {
     let Some(cell) = cell else {
         return Err(CellError::Fault(CellFault::NotOfType));

@@ -2,9 +2,8 @@
 ghost use Rattle.std.specs.Prelude.{◌≡◌};
 ghost use Rattle.table_schema.specs.Form.{kind_of};
 
+use crate::listed::ListedTexts;
 use lexical_forms::NumberForm;
-use portal_base::seq::Seq;
-use portal_base::text::Text;
 
 /// A type of fields (Table Schema v1, "Types and formats"). The type `any` reads as `Text`.
 #[derive(Clone, Copy, Debug, PartialEq, Eq)]
@@ -23,8 +22,8 @@ pub enum Kind {
 /// The spelling of truth values: `trueValues` and `falseValues`.
 #[derive(Drop)]
 pub struct Truths {
-    pub true_values: Seq<Text>,
-    pub false_values: Seq<Text>,
+    pub true_values: ListedTexts,
+    pub false_values: ListedTexts,
 }
 
 /// A type with the options that apply to it.

@@ -10,7 +10,8 @@ ghost use Rattle.table_schema.specs.Keys.{foreign_key_in, foreign_keys_in};
 use crate::column::Column;
 use crate::foreign::Foreign;
 use crate::form::Kind;
-use crate::values::{is_map, names_in, texts_in};
+use crate::listed::ListedTexts;
+use crate::values::{is_map, listed_in, names_in};
 use portal_base::json_value::Json;
 use portal_base::kinds::{list_in, present, text_in};
 use portal_base::seq::Seq;
@@ -18,15 +19,15 @@ use portal_base::text::Text;
 use std::alloc::{AllocError, Global};
 
 /// The texts that are missing values, or none if `missingValues` is invalid.
-pub(crate) fn missing_of(alloc: Global, value: &Json) -> Result<Option<Seq<Text>>, AllocError>
+pub(crate) fn missing_of(alloc: Global, value: &Json) -> Result<Option<ListedTexts>, AllocError>
     ensures { IfOk result (λ missing. missing ≡ missing_in value.now) }
 {
     if let Some(value) = present(value, "missingValues") {
-        return texts_in(alloc, value);
+        return listed_in(alloc, value);
     }
     let mut missing = Vec::new(alloc);
     missing.push(Text::new(alloc))?;
-    Ok(Some(Seq::from(missing)))
+    Ok(Some(ListedTexts::of_texts(alloc, Seq::from(missing))?))
 }
 
 /// The indices of the primary key's fields, or none if `primaryKey` is invalid.

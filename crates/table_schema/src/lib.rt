@@ -1,6 +1,7 @@
 //! Table Schema v1: descriptors of tables, and typed cells.
 #![tactic(auto)]
 
+mod allowed;
 mod cell;
 mod column;
 mod constraint;
@@ -8,8 +9,10 @@ mod fault;
 mod field;
 mod foreign;
 mod form;
+mod index;
 mod keys;
 pub mod laws;
+mod listed;
 mod members;
 mod options;
 mod print;
@@ -20,6 +23,7 @@ mod to_json;
 mod truth;
 mod values;
 
+pub use allowed::AllowedCells;
 pub use cell::{Cell, CellError, CellFault};
 pub use constraint::Constraints;
 pub use fault::SchemaFault;
@@ -27,6 +31,7 @@ pub use field::Field;
 pub use foreign::Foreign;
 pub use form::{Form, Kind, Truths};
 pub use lexical_forms::NumberForm;
+pub use listed::ListedTexts;
 pub use print::{cell_json, cell_text};
 pub use reading::value_of;
 pub use schema::Schema;

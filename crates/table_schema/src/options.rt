@@ -1,5 +1,5 @@
 //! Reads the options and the constraints of a field's descriptor.
-ghost use Rattle.std.specs.Prelude.{◌≡◌, [], codes, map, option_map, IfOk};
+ghost use Rattle.std.specs.Prelude.{◌≡◌, [], codes, map, option_map, IfOk, IsOk, IsErr, IsSome};
 ghost use Rattle.table_schema.specs.declared.form.Form.TheVariants.{Boolean as boolean};
 ghost use Rattle.portal_base.specs.Kinds.{present};
 ghost use Rattle.table_schema.specs.Values.{or_default, optional, all_of, texts_in};
@@ -8,12 +8,14 @@ ghost use Rattle.table_schema.specs.Descriptor.{mark_in, spelling_in, truths_in,
 ghost use Rattle.table_schema.specs.Descriptor.{count_of, length_in, bound_in, allowed_in, constraints_in};
 ghost use Rattle.table_schema.specs.Descriptor.{constraints_of, no_constraints};
 
+use crate::allowed::AllowedCells;
 use crate::cell::Cell;
 use crate::constraint::Constraints;
 use crate::form::{Form, Kind, Truths};
+use crate::listed::ListedTexts;
 use crate::reading::value_of;
 use crate::truth::{DEFAULT_FALSES, DEFAULT_TRUES};
-use crate::values::{is_map, texts_in, truth_at};
+use crate::values::{is_map, listed_in, truth_at};
 use lexical_forms::{NumberForm, separator_of};
 use portal_base::json_value::Json;
 use portal_base::kinds::{list_in, present, text_in};
@@ -21,9 +23,10 @@ use portal_base::seq::Seq;
 use portal_base::text::Text;
 use std::alloc::{AllocError, Global};
 
-/// The type with the options that apply to it, or none if one of them is invalid.
+/// The type with the options that apply to it, or none if one of them is invalid. Only a boolean's take memory.
 pub(crate) fn form_of(alloc: Global, kind: Kind, item: &Json) -> Result<Option<Form>, AllocError>
-    ensures { IfOk result (λ form. form ≡ form_in kind item.now) }
+    ensures form { IfOk result (λ form. form ≡ form_in kind item.now) }
+    ensures memory { IsErr result → kind ≡ Kind.Boolean }
 {
     Ok(match kind {
         Kind::Text => Some(Form::Text),
@@ -88,13 +91,13 @@ fn values_at(
     item: &Json,
     key: &str,
     otherwise: &[&str],
-) -> Result<Option<Seq<Text>>, AllocError>
+) -> Result<Option<ListedTexts>, AllocError>
     ensures { IfOk result (λ values. values
         ≡ or_default texts_in (map (λ t. t.now) otherwise.now) (present key.now item.now)) }
 {
     match present(item, key) {
-        Some(value) => texts_in(alloc, value),
-        None => Ok(Some(copies_of(alloc, otherwise)?)),
+        Some(value) => listed_in(alloc, value),
+        None => Ok(Some(ListedTexts::of_texts(alloc, copies_of(alloc, otherwise)?)?)),
     }
 }
 
@@ -133,17 +136,18 @@ fn no_constraints(alloc: Global) -> Constraints
         max_length: None,
         minimum: None,
         maximum: None,
-        allowed: Seq::new(alloc),
+        allowed: AllowedCells::new(alloc),
     }
 }
 
-// Reads the constraints of a dictionary.
+// Reads the constraints of a dictionary. Only `enum` takes memory.
 fn constraints_in(
     alloc: Global,
     kind: Kind,
     value: &Json,
 ) -> Result<Option<Constraints>, AllocError>
-    ensures { IfOk result (λ constraints. constraints ≡ constraints_in kind value.now) }
+    ensures constraints { IfOk result (λ constraints. constraints ≡ constraints_in kind value.now) }
+    ensures memory { IsErr result → IsSome (present (codes "enum") value.now) }
 {
     let Some(required) = truth_at(value, "required", false) else {
         return Ok(None);
@@ -209,13 +213,15 @@ fn has_order(kind: Kind) -> bool
     !matches!(kind, Kind::Text | Kind::Boolean)
 }
 
+// The bound of a key. Types that have an order take no memory.
 fn bound_at(
     alloc: Global,
     value: &Json,
     key: &str,
     kind: Kind,
 ) -> Result<Option<Option<Cell>>, AllocError>
-    ensures { IfOk result (λ bound. bound ≡ optional (bound_in kind) (present key.now value.now)) }
+    ensures bound { IfOk result (λ bound. bound ≡ optional (bound_in kind) (present key.now value.now)) }
+    ensures memory { IsOk result }
 {
     match present(value, key) {
         Some(value) if has_order(kind) => match value_of(alloc, kind, value)? {
@@ -227,15 +233,26 @@ fn bound_at(
     }
 }
 
-fn allowed_at(alloc: Global, value: &Json, kind: Kind) -> Result<Option<Seq<Cell>>, AllocError>
-    ensures { IfOk result (λ cells. cells ≡ or_default (allowed_in kind) [] (present (codes "enum") value.now)) }
+fn allowed_at(alloc: Global, value: &Json, kind: Kind) -> Result<Option<AllowedCells>, AllocError>
+    ensures cells { IfOk result (λ cells. cells ≡ or_default (allowed_in kind) [] (present (codes "enum") value.now)) }
+    ensures memory { IsErr result → IsSome (present (codes "enum") value.now) }
 {
     let Some(value) = present(value, "enum") else {
-        return Ok(Some(Seq::new(alloc)));
+        return Ok(Some(AllowedCells::new(alloc)));
     };
     match list_in(value) {
-        Some(items) if !items.is_empty() => cells_of(alloc, items.as_slice(), kind),
+        Some(items) if !items.is_empty() => allowed_of(alloc, items.as_slice(), kind),
         _ => Ok(None),
+    }
+}
+
+// The cells of a list's values, in which cells are found by halving, or none if a value isn't one of the type.
+fn allowed_of(alloc: Global, items: &[Json], kind: Kind) -> Result<Option<AllowedCells>, AllocError>
+    ensures { IfOk result (λ cells. cells ≡ all_of (value_reading kind) items.now) }
+{
+    match cells_of(alloc, items, kind)? {
+        Some(cells) => Ok(Some(AllowedCells::of_cells(alloc, cells)?)),
+        None => Ok(None),
     }
 }
 

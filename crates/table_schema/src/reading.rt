@@ -1,5 +1,7 @@
 //! Reads texts and JSON values as cells of a type.
-ghost use Rattle.std.specs.Prelude.{◌≡◌, IfOk, Some, option_map, pos};
+ghost use Rattle.std.specs.Prelude.{◌≡◌, IfOk, IsErr, IsSome, Some, option_map, pos};
+ghost use Rattle.portal_base.specs.Kinds.{text_in};
+ghost use Rattle.table_schema.specs.Form.{kind_of};
 ghost use Rattle.table_schema.specs.Reading.{text_reading, value_reading, default_form, whole_cell, truth_cell};
 ghost use Rattle.lexical_forms.specs.Number.{i64_only, default_spelling};
 
@@ -29,7 +31,8 @@ const DEFAULT_SPELLING: NumberForm = NumberForm {
 /// Reads a text as a cell of the type, by its options. Returns none if it isn't a text of the type. Only a text cell
 /// takes memory.
 pub(crate) fn cell_of(alloc: Global, form: &Form, text: &str) -> Result<Option<Cell>, AllocError>
-    ensures { IfOk result (λ cell. cell ≡ text_reading form.now text.now) }
+    ensures cell { IfOk result (λ cell. cell ≡ text_reading form.now text.now) }
+    ensures memory { IsErr result → kind_of form.now ≡ Kind.Text }
 {
     Ok(match form {
         Form::Text => Some(Cell::Text(Text::from_str(alloc, text)?)),
@@ -46,9 +49,10 @@ pub(crate) fn cell_of(alloc: Global, form: &Form, text: &str) -> Result<Option<C
     })
 }
 
-/// Reads a text as a cell of the type, by the default options.
+/// Reads a text as a cell of the type, by the default options. Only a text cell takes memory.
 fn default_cell_of(alloc: Global, kind: Kind, text: &str) -> Result<Option<Cell>, AllocError>
-    ensures { IfOk result (λ cell. cell ≡ text_reading (default_form kind) text.now) }
+    ensures cell { IfOk result (λ cell. cell ≡ text_reading (default_form kind) text.now) }
+    ensures memory { IsErr result → kind ≡ Kind.Text }
 {
     let form = match kind {
         Kind::Text => Form::Text,
@@ -65,9 +69,10 @@ fn default_cell_of(alloc: Global, kind: Kind, text: &str) -> Result<Option<Cell>
 }
 
 /// Reads a JSON value as a cell of the type. Texts are read by the default options. Returns none if it isn't a value of
-/// the type.
+/// the type. Only a text cell takes memory.
 pub fn value_of(alloc: Global, kind: Kind, value: &Json) -> Result<Option<Cell>, AllocError>
-    ensures { IfOk result (λ cell. cell ≡ value_reading kind value.now) }
+    ensures cell { IfOk result (λ cell. cell ≡ value_reading kind value.now) }
+    ensures memory { IsErr result → (kind ≡ Kind.Text) × IsSome (text_in value.now) }
 {
     match value {
         Json::Truth(truth) => Ok(truth_cell_of(kind, *truth)),

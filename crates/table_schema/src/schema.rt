@@ -1,6 +1,7 @@
 //! Schemas of tables.
-ghost use Rattle.std.specs.Prelude.{◌≡◌, ◌⊎◌, ◌≤◌, IfOk, IfErr, Ok, Err, length};
+ghost use Rattle.std.specs.Prelude.{◌≡◌, ◌⊎◌, ◌≤◌, IfOk, IfErr, IsOk, Ok, Err, length};
 ghost use Rattle.std.specs.Arc.{arc_value};
+ghost use Rattle.table_schema.specs.Descriptor.{field_items};
 ghost use Rattle.table_schema.specs.Keys.{schema_reading, bytes_reading, columns_in, schema_with_keys, fields_from};
 ghost use Rattle.table_schema.specs.Written.{schema_value};
 
@@ -9,11 +10,11 @@ use crate::fault::SchemaFault;
 use crate::field::Field;
 use crate::foreign::Foreign;
 use crate::keys::{foreign_keys_of, has_index, key_of, missing_of};
+use crate::listed::ListedTexts;
 use crate::members::Members;
 use crate::to_json::{fields_json, foreign_keys_json, names_json, texts_json};
 use portal_base::json_value::{Json, JsonFault};
 use portal_base::seq::Seq;
-use portal_base::text::Text;
 use std::alloc::{AllocError, Global};
 use std::marker::Model;
 use std::sync::Arc;
@@ -25,7 +26,7 @@ pub struct Schema {
     key: Seq<u32>,
     foreign: Seq<Foreign>,
     /// The texts that are missing values. The fields share this list.
-    missing: Arc<Seq<Text>>,
+    missing: Arc<ListedTexts>,
 }
 
 impl Model for Schema {
@@ -59,12 +60,14 @@ impl Schema {
         }
     }
 
-    /// Reads a descriptor that is given as a JSON value. The errors are those of `read`.
+    /// Reads a descriptor that is given as a JSON value. The errors are those of `read`. `NotJson` and `NoFields` take
+    /// no memory.
     #[tactic(auto, unfolding(crate::specs::Keys::schema_reading))]
     pub fn of_json(alloc: Global, value: &Json) -> Result<Schema, SchemaFault>
         ensures value { IfOk result (λ schema. schema_reading value.now ≡ Ok schema) }
         ensures fault { IfErr result (λ fault. (fault ≡ SchemaFault.OutOfMemory)
             ⊎ (schema_reading value.now ≡ Err fault)) }
+        ensures memory { result ≡ Err SchemaFault.OutOfMemory → IsOk (field_items value.now) }
     {
         let items = field_items(value)?;
         let columns = columns_of(alloc, items.as_slice())?;
@@ -147,7 +150,7 @@ fn schema_with_keys(
 fn fields_of(
     alloc: Global,
     columns: Vec<Column>,
-    missing: &Arc<Seq<Text>>,
+    missing: &Arc<ListedTexts>,
     key: &[u32],
 ) -> Result<Seq<Field>, AllocError>
     requires { length columns.items ≤ 500 }

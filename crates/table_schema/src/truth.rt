@@ -1,9 +1,8 @@
 //! Parses the texts of truth values (Table Schema v1, "boolean").
 ghost use Rattle.std.specs.Prelude.{◌≡◌, true, false};
-ghost use Rattle.table_schema.specs.Truth.{is_among, truth_reading, default_trues, default_falses};
+ghost use Rattle.table_schema.specs.Truth.{truth_reading, default_trues, default_falses};
 
 use crate::form::Truths;
-use portal_base::text::Text;
 
 /// The default of `trueValues`.
 pub(crate) const DEFAULT_TRUES: [&str; 4] = ["true", "True", "TRUE", "1"];
@@ -11,20 +10,13 @@ pub(crate) const DEFAULT_TRUES: [&str; 4] = ["true", "True", "TRUE", "1"];
 /// The default of `falseValues`.
 pub(crate) const DEFAULT_FALSES: [&str; 4] = ["false", "False", "FALSE", "0"];
 
-/// Whether the text is one of the list.
-pub(crate) fn is_among(texts: &[Text], text: &str) -> bool
-    ensures { result ≡ is_among texts.now text.now }
-{
-    texts.iter().any(|listed| listed.as_str() == text)
-}
-
 /// The truth value of a text, or none if the text is in neither list. A text in both lists is true.
 pub(crate) fn truth_of(truths: &Truths, text: &str) -> Option<bool>
     ensures { result ≡ truth_reading truths.now.true_values truths.now.false_values text.now }
 {
-    if is_among(truths.true_values.as_slice(), text) {
+    if truths.true_values.has(text) {
         Some(true)
-    } else if is_among(truths.false_values.as_slice(), text) {
+    } else if truths.false_values.has(text) {
         Some(false)
     } else {
         None

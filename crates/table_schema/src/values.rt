@@ -5,6 +5,7 @@ ghost use Rattle.std.specs.Option.{option_copied};
 ghost use Rattle.portal_base.specs.Kinds.{present, text_in, list_in};
 ghost use Rattle.table_schema.specs.Values.{is_map, truth_in, all_of, texts_in, names_in, or_default};
 
+use crate::listed::ListedTexts;
 use portal_base::json_value::Json;
 use portal_base::kinds::{list_in, present, text_in};
 use portal_base::seq::Seq;
@@ -52,8 +53,18 @@ fn texts_of(alloc: Global, items: &[Json]) -> Result<Option<Seq<Text>>, AllocErr
     Ok(Some(Seq::from(texts)))
 }
 
-/// Reads a list of texts. Returns none for another value.
-pub(crate) fn texts_in(alloc: Global, value: &Json) -> Result<Option<Seq<Text>>, AllocError>
+/// Reads a list of texts, in which texts are found by halving. Returns none for another value.
+pub(crate) fn listed_in(alloc: Global, value: &Json) -> Result<Option<ListedTexts>, AllocError>
+    ensures { IfOk result (λ texts. texts ≡ texts_in value.now) }
+{
+    match texts_in(alloc, value)? {
+        Some(texts) => Ok(Some(ListedTexts::of_texts(alloc, texts)?)),
+        None => Ok(None),
+    }
+}
+
+// Reads a list of texts. Returns none for another value.
+fn texts_in(alloc: Global, value: &Json) -> Result<Option<Seq<Text>>, AllocError>
     ensures { IfOk result (λ texts. texts ≡ texts_in value.now) }
 {
     match list_in(value) {

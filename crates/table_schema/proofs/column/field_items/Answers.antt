@@ -7,8 +7,8 @@ use Rattle.table_schema.specs.Values.{is_map}
 use Rattle.table_schema.proofs.ColumnLemmas.{field_items-of}
 use Rattle.table_schema.proofs.column.field_items.Goals as goal
 
-pub returns : goal.returns
-returns c =
+pub returns-clause-items : goal.returns-clause-items
+returns-clause-items c =
     let dictionary : is_map c.args.value.now ≡ true = cc in
     let there : present (codes "fields") c.args.value.now ≡ Some c.in-Some.fields.now = sym c.in-Some.ensures in
     let list : list_in c.in-Some.fields.now ≡ Some c.as_slice-listed.result.now = cc (c.in-Some-list_in.ensures) in
