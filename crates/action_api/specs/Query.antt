@@ -11,7 +11,7 @@ use Rattle.portal_base.specs.declared.json_value.Json.{Json, Map, Text}
 use Rattle.portal_base.specs.declared.json_value.JsonFault.{JsonFault}
 use Rattle.portal_calls.specs.Action as action
 use Rattle.portal_calls.specs.declared.call.Request.{Request}
-use Rattle.portal_calls.specs.declared.call.TheConstants.{LONGEST_BODY}
+use Rattle.portal_calls.specs.Body.{longest_body}
 use Rattle.action_api.specs.Request.{request_for}
 use Rattle.action_api.specs.declared.early.Early.{Early}
 use Rattle.action_api.specs.declared.early.Early.TheVariants.{TooLong}
@@ -44,7 +44,7 @@ query_body query = Map (fold with_pair [] (raw_pairs query))
 -- The request for the action of that name, with the body of a query.
 abbrev pub request_of_query : List ℕ → List ℕ → Result Request Early
 request_of_query name query =
-    if nat_lt LONGEST_BODY (length query) then Err TooLong else request_for name (query_body query)
+    if nat_lt longest_body (length query) then Err TooLong else request_for name (query_body query)
 
 -- whether the action of that name only reads, where one has the name
 abbrev pub is_reading_action : List ℕ → Option Bool

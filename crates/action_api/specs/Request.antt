@@ -9,7 +9,7 @@ use Rattle.portal_base.specs.declared.json_value.JsonFault.TheVariants as fault
 use Rattle.portal_calls.specs.Action.{action_named}
 use Rattle.portal_calls.specs.declared.action.Action.{Action}
 use Rattle.portal_calls.specs.declared.call.Request.{Request}
-use Rattle.portal_calls.specs.declared.call.TheConstants.{LONGEST_BODY}
+use Rattle.portal_calls.specs.Body.{longest_body}
 use Rattle.action_api.specs.declared.early.Early.{Early}
 use Rattle.action_api.specs.declared.early.Early.TheVariants.{TooLong, NotJson, Fraction, UnknownAction, OutOfMemory}
 
@@ -29,7 +29,7 @@ body_of (Err why) = Err (early_of why)
 
 -- the body that the bytes are read as, or its early fault
 abbrev pub body_reading : List ℕ → Result Json Early
-body_reading bytes = if nat_lt LONGEST_BODY (length bytes) then Err TooLong else body_of (json_reading bytes)
+body_reading bytes = if nat_lt longest_body (length bytes) then Err TooLong else body_of (json_reading bytes)
 
 abbrev pub request_for_action : List ℕ → Json → Option Action → Result Request Early
 request_for_action name body None = Err (UnknownAction name)

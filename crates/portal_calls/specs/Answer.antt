@@ -74,6 +74,11 @@ abbrev pub denial_of : List KeyError → Option Denial
 denial_of [] = None
 denial_of (fault ∷ faults) = Some (Validation (fault ∷ faults))
 
+-- the value, unless there is a refusal
+abbrev pub unless_denied : {X : Type 0} → Option Denial → X → Result X Denial
+unless_denied None x = Ok x
+unless_denied (Some denial) x = Err denial
+
 -- the answer, unless there is a refusal
 abbrev pub answer_unless_denied : {C : Type 0} → Option Denial → Answer C → Answer C
 answer_unless_denied None answer = answer

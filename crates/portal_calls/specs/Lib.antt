@@ -1,5 +1,6 @@
 pub mod Action
 pub mod Answer
+pub mod Body
 pub mod Reply
 pub mod Stop
 pub mod Topic

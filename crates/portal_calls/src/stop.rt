@@ -2,7 +2,7 @@
 //! up to the answer, which shows the refusal.
 ghost use Rattle.std.specs.Prelude.{◌≡◌, codes, None, Some};
 ghost use Rattle.portal_base.specs.KeyErrors.{error_if};
-ghost use Rattle.portal_calls.specs.Answer.{authorized, denial_of, quota_error};
+ghost use Rattle.portal_calls.specs.Answer.{authorized, denial_of, quota_error, unless_denied};
 ghost use Rattle.portal_calls.specs.Stop.{Gives, answer_or_refusal};
 
 use crate::answer::{Answer, Denial, Quota, Right, denial_of, denial_with_quota};
@@ -52,11 +52,11 @@ pub fn authorize(has_right: bool, right: Right) -> Result<(), Denial>
 }
 
 /// Refuses a body that breaks rules.
-pub fn validate(faults: KeyErrors) -> Result<(), Stop>
-    ensures { Gives result (λ valid. None) Some (denial_of faults) }
+pub fn validate(faults: KeyErrors) -> Result<(), Denial>
+    ensures { result ≡ unless_denied (denial_of faults) tt }
 {
     match denial_of(faults) {
-        Some(denial) => Err(Stop::Refused(denial)),
+        Some(denial) => Err(denial),
         None => Ok(()),
     }
 }
