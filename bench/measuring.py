@@ -77,3 +77,15 @@ def measured(program, write, *words):
     """As `worked`, with the peak memory in MiB in place of all that was used."""
     length, seconds, usage = worked(program, write, *words)
     return length, seconds, usage.ru_maxrss / 1024
+
+
+def played(program, lines, *words):
+    """Seconds of the processor that a script takes, and its peak memory in KiB. The program ends with 0."""
+    with tempfile.TemporaryFile("w+") as given, open(os.devnull, "wb") as taken:
+        given.writelines(lines)
+        given.seek(0)
+        process = subprocess.Popen([program, "play", *words], stdin=given, stdout=taken)
+        _, status, usage = os.wait4(process.pid, 0)
+    if status != 0:
+        sys.exit(f"status {status} of {program}")
+    return usage.ru_utime + usage.ru_stime, usage.ru_maxrss
