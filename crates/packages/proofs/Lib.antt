@@ -3,6 +3,7 @@ pub mod Built
 pub mod ChangeLemmas
 pub mod DatasetLemmas
 pub mod EntryLemmas
+pub mod ErrorLemmas
 pub mod FindLemmas
 pub mod NoErrors
 pub mod ResourceNumbers

@@ -302,9 +302,11 @@ module _ (old new : Slab Package) (first second third : IndexState ℕ) (n : ℕ
           → IsUnder third (digest_of key) m
       candidate key m d at_m named =
           let was = before_removal old new n change m d at_m in
-          (name.under (digest_of key) m).1
-          ((id.under (digest_of key) m).1
-          (indexed.candidate key m d was.1 named, λ here. was.0 here.1), λ here. was.0 here.1)
+          (name.under (digest_of key) m).1 (
+            (id.under (digest_of key) m).1
+                (indexed.candidate key m d was.1 named, λ here. was.0 here.1),
+            λ here. was.0 here.1,
+          )
 
       of_dataset : (digest m : ℕ) → IsUnder third digest m → (d : Package) × (get new m ≡ Some d) × HasDigest digest d
       of_dataset digest m under =

@@ -1,8 +1,10 @@
 //! The dataset that a call's body describes.
-ghost use Rattle.std.specs.Prelude.{◌≡◌, [], IfOk, IfErr, IfNone, IsTrue, OnOk};
+ghost use Rattle.std.specs.Prelude.{◌≡◌, [], IfOk, IfErr, IfNone, IsTrue, OnOk, codes, is_some};
 ghost use Rattle.std.specs.Option.{option_copied};
 ghost use Rattle.packages.specs.Body.{body_errors, new_dataset, reset_dataset, base_dataset, with_body, built_dataset};
 ghost use Rattle.packages.specs.Body.{IsRefusal};
+ghost use Rattle.packages.specs.Resources.{resources_key_error};
+ghost use Rattle.portal_base.specs.KeyErrors.{has_error};
 ghost use Rattle.packages.specs.declared.build.BuildFault.TheVariants.{Fields};
 
 use crate::errors::{add_error, add_text_error};
@@ -105,6 +107,19 @@ pub fn body_errors(
     add_text_error(alloc, &mut faults, body, "url", LONGEST_TEXT)?;
     add_text_error(alloc, &mut faults, body, "version", LONGEST_TEXT)?;
     Ok(faults)
+}
+
+/// Whether the list of resources in a dataset's body has an error. If so, nothing has to be built of it.
+pub fn has_resources_error(
+    alloc: Global,
+    body: &Json,
+    old: Option<&Package>,
+) -> Result<bool, AllocError>
+    ensures error { IfOk result (λ is. is ≡ is_some (resources_key_error (option_copied old.entry) body.now)) }
+    ensures listed { IfOk result (λ is. IsTrue is →
+        IsTrue (has_error (codes "resources") (body_errors body.now (option_copied old.entry)))) }
+{
+    Ok(resources_key_error(alloc, old, body)?.is_some())
 }
 
 // ---- the dataset

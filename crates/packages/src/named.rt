@@ -84,8 +84,9 @@ fn is_addressed(address: &str, dataset: &Package, resource: &Resource) -> bool
         || is_address(address, &dataset.name, resource.number)
 }
 
-/// Whether the address is that of the resource with this number, where `dataset` is the dataset's id or name.
-fn is_address(address: &str, dataset: &Text, number: u32) -> bool
+/// Whether the address is that of the resource with this number, where `dataset` is the dataset's id or name. It takes no
+/// memory.
+pub(crate) fn is_address(address: &str, dataset: &Text, number: u32) -> bool
     ensures { result ≡ bytes_eq (resource_address dataset.now number) address.now }
 {
     let mut buffer = Buffer::new();

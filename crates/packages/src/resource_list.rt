@@ -11,7 +11,7 @@ ghost use Rattle.packages.specs.Texts.{short_text_error};
 ghost use Rattle.packages.specs.Errors.{first_error};
 
 use crate::errors::message_unless;
-use crate::named::resource_address;
+use crate::named::is_address;
 use crate::package::{LONGEST_DESCRIPTION, LONGEST_TEXT, Package, Resource};
 use crate::resources::resource_for;
 use crate::texts::text_given;
@@ -83,17 +83,16 @@ fn first_text_error(alloc: Global, item: &Json) -> Result<Option<Text>, AllocErr
 
 // ---- ids
 
-/// The number of the dataset's resource with that id.
-fn number_of_id(alloc: Global, dataset: &Package, id: &Text) -> Result<Option<u32>, AllocError>
-    ensures { IfOk result (λ number. number ≡ number_of_id dataset.now id.now) }
+/// The number of the dataset's resource with that id. It takes no memory.
+fn number_of_id(dataset: &Package, id: &Text) -> Option<u32>
+    ensures { result ≡ number_of_id dataset.now id.now }
 {
     for resource in dataset.resources.as_slice() {
-        let address = resource_address(alloc, &dataset.id, resource.number)?;
-        if address.as_str() == id.as_str() {
-            return Ok(Some(resource.number));
+        if is_address(id.as_str(), &dataset.id, resource.number) {
+            return Some(resource.number);
         }
     }
-    Ok(None)
+    None
 }
 
 /// Whether the item has the id.
@@ -113,20 +112,14 @@ fn is_repeated(id: &Text, items: &[Json]) -> bool
     items.iter().any(|item| has_id(id, item))
 }
 
-/// The error of an id after these items.
-fn resource_id_error(
-    alloc: Global,
-    old: &Package,
-    before: &[Json],
-    id: &Text,
-) -> Result<Option<Text>, AllocError>
-    ensures { IfOk result (λ error. error ≡ resource_id_error old.now before.now id.now) }
+/// The error of an id after these items. It takes no memory.
+fn resource_id_error(old: &Package, before: &[Json], id: &Text) -> Option<Text>
+    ensures { result ≡ resource_id_error old.now before.now id.now }
 {
-    if number_of_id(alloc, old, id)?.is_none() {
-        let message = Text::from_static("Resource does not belong to the dataset");
-        return Ok(Some(message));
+    if number_of_id(old, id).is_none() {
+        return Some(Text::from_static("Resource does not belong to the dataset"));
     }
-    Ok(message_unless(!is_repeated(id, before), "Repeated resource"))
+    message_unless(!is_repeated(id, before), "Repeated resource")
 }
 
 /// The error of the id of an item after these. The ids of a new dataset's resources are ignored.
@@ -142,7 +135,7 @@ fn id_error(
         return Ok(None);
     };
     match text_at(item, "id") {
-        Ok(Some(id)) => resource_id_error(alloc, old, before, id),
+        Ok(Some(id)) => Ok(resource_id_error(old, before, id)),
         Ok(None) => Ok(None),
         Err(fault) => Ok(Some(fault.message(alloc)?)),
     }
@@ -239,15 +232,15 @@ struct Numbering {
 }
 
 /// The number of the old dataset's resource that the item keeps.
-fn kept_number(alloc: Global, old: Option<&Package>, item: &Json) -> Result<Option<u32>, AllocError>
-    ensures { IfOk result (λ number. number ≡ kept_number (option_copied old.entry) item.now) }
+fn kept_number(old: Option<&Package>, item: &Json) -> Option<u32>
+    ensures { result ≡ kept_number (option_copied old.entry) item.now }
 {
     let Some(old) = old else {
-        return Ok(None);
+        return None;
     };
     match text_given(item, "id") {
-        Some(id) => number_of_id(alloc, old, id),
-        None => Ok(None),
+        Some(id) => number_of_id(old, id),
+        None => None,
     }
 }
 
@@ -263,7 +256,7 @@ fn push_resource(
     ensures next { OnOk result (numbering.new.next
         ≡ next_after_item (option_copied old.entry) numbering.old.next item.now) }
 {
-    let number = match kept_number(alloc, old, item)? {
+    let number = match kept_number(old, item) {
         Some(number) => number,
         None => {
             let number = numbering.next;
