@@ -1,12 +1,12 @@
 //! The answers to calls on organizations, their members and users.
 //!
 //! Each function finds the thing, checks the right, reads the body and gives the change. Its answer is a function of
-//! the call and of the caller's view.
+//! the call and of the caller's view. A refusal stops it.
 ghost use Rattle.std.specs.Prelude.{◌≡◌, IfOk, IsTrue, false, unwrap_or};
 ghost use Rattle.std.specs.Option.{option_flatten};
-ghost use Rattle.std.specs.Result.{result_map_both};
 ghost use Rattle.std.specs.List.{list_all};
 ghost use Rattle.packages.specs.Shelf.{datasets_of};
+ghost use Rattle.portal_calls.specs.Stop.{Answers, Finds};
 ghost use Rattle.visibility.specs.View.{administers};
 ghost use Rattle.visibility.specs.Visibility.{is_public_if_harvested};
 ghost use Rattle.visibility.specs.CallView.{context_view};
@@ -17,19 +17,21 @@ ghost use Rattle.organization_answers.specs.Answers.{answer_to_member_create, an
 ghost use Rattle.organization_answers.specs.Answers.{organization_named, administered_organization};
 ghost use Rattle.organization_answers.specs.Answers.{answer_to_member_list, answer_to_organization_list};
 ghost use Rattle.organization_answers.specs.Answers.{answer_to_organization_list_for_user, answer_to_user_list};
+ghost use Rattle.organization_answers.specs.Dictionary.{member_dictionary};
 
 use crate::bodies::{read_creation, read_former_member, read_member, read_patch, removal_errors};
 use crate::dictionary::{member_json, organization_json};
 use crate::lists::{capacities_json, members_json, names_json, organizations_json, users_json};
 use org_roles::change::OrgChange;
 use org_roles::entry::Org;
+use org_roles::role::Role;
 use portal_base::copy::TryClone;
 use portal_base::json_value::Json;
 use portal_base::key_errors::KeyErrors;
 use portal_base::kinds::truth_at;
-use portal_calls::answer::{
-    Answer, Denial, Kind, Right, denial_of, denial_with_quota, key_denial, required_text,
-};
+use portal_base::text::Text;
+use portal_calls::answer::{Answer, Denial, Kind, Right, key_denial, required_text};
+use portal_calls::stop::{Stop, answer_or_refusal, authorize, validate, validate_change};
 use portal_calls::topic::OrganizationAction;
 use std::alloc::{AllocError, Global};
 use visibility::context::CallContext;
@@ -42,6 +44,18 @@ pub fn answer(
 ) -> Result<Answer<OrgChange>, AllocError>
     requires open { IsTrue (list_all is_public_if_harvested (datasets_of context.now.shelf.now)) }
     ensures { IfOk result (λ answer. answer ≡ answer_to_action action (context_view context.now)) }
+{
+    answer_or_refusal(answer_to_action(alloc, context, action))
+}
+
+/// The answer to a call of this action, or the stop before it.
+fn answer_to_action(
+    alloc: Global,
+    context: &CallContext<'_>,
+    action: OrganizationAction,
+) -> Result<Answer<OrgChange>, Stop>
+    requires { IsTrue (list_all is_public_if_harvested (datasets_of context.now.shelf.now)) }
+    ensures { Answers result (answer_to_action action (context_view context.now)) }
 {
     match action {
         OrganizationAction::OrganizationCreate => organization_create(alloc, context),
@@ -58,177 +72,134 @@ pub fn answer(
 }
 
 /// The answer to an `organization_create`.
-fn organization_create(
-    alloc: Global,
-    context: &CallContext<'_>,
-) -> Result<Answer<OrgChange>, AllocError>
-    ensures { IfOk result (λ answer. answer ≡ answer_to_organization_create (context_view context.now)) }
+fn organization_create(alloc: Global, context: &CallContext<'_>) -> Result<Answer<OrgChange>, Stop>
+    ensures { Answers result (answer_to_organization_create (context_view context.now)) }
 {
-    if !context.is_sysadmin() {
-        return Ok(Answer::Refused(Denial::NotAuthorized(Right::CreateOrganization)));
-    }
+    authorize(context.is_sysadmin(), Right::CreateOrganization)?;
     let (faults, org) = read_creation(alloc, &context.call.request.body, context.call.moment)?;
-    if let Some(denial) = denial_with_quota(context.quota, faults)? {
-        return Ok(Answer::Refused(denial));
-    }
+    validate_change(context.quota, faults)?;
     let shown = organization_json(alloc, context, &org)?;
     Ok(Answer::Accepted(shown, OrgChange::Create(org)))
 }
 
 // ---- the organization that a call names
 
-/// The organization that the key `id` names, or why the call is refused.
-fn organization_named<'a>(
-    alloc: Global,
-    context: &CallContext<'a>,
-) -> Result<Result<&'a Org, Denial>, AllocError>
-    ensures { IfOk result (λ found. result_map_both (λ org. org.now) (λ denial. denial) found
-        ≡ organization_named (context_view context.now)) }
+/// The organization that the key `id` names.
+fn organization_named<'a>(alloc: Global, context: &CallContext<'a>) -> Result<&'a Org, Stop>
+    ensures { Finds result (λ org. org.now) (organization_named (context_view context.now)) }
 {
     match required_text(&context.call.request.body, "id") {
         Ok(name) => match context.org(name) {
-            Some(org) => Ok(Ok(org)),
-            None => Ok(Err(Denial::NotFound(Kind::Organization))),
+            Some(org) => Ok(org),
+            None => Err(Stop::Refused(Denial::NotFound(Kind::Organization))),
         },
-        Err(fault) => Ok(Err(key_denial(alloc, "id", fault)?)),
+        Err(fault) => Err(Stop::Refused(key_denial(alloc, "id", fault)?)),
     }
 }
 
-/// The organization that the key `id` names and the caller administers, or why the call is refused.
-fn administered_organization<'a>(
-    alloc: Global,
-    context: &CallContext<'a>,
-) -> Result<Result<&'a Org, Denial>, AllocError>
-    ensures found { IfOk result (λ found. result_map_both (λ org. org.now) (λ denial. denial) found
-        ≡ administered_organization (context_view context.now)) }
-    ensures own { IfOk result (λ found. IfOk found (λ org.
-        IsTrue (administers (context_view context.now).people context.now.call.now.caller org.now.name))) }
+/// The organization that the key `id` names, which the caller administers.
+fn administered_organization<'a>(alloc: Global, context: &CallContext<'a>) -> Result<&'a Org, Stop>
+    ensures found { Finds result (λ org. org.now) (administered_organization (context_view context.now)) }
+    ensures own { IfOk result (λ org.
+        IsTrue (administers (context_view context.now).people context.now.call.now.caller org.now.name)) }
 {
-    match organization_named(alloc, context)? {
-        Ok(org) => if context.administers(&org.name) {
-            Ok(Ok(org))
-        } else {
-            Ok(Err(Denial::NotAuthorized(Right::AdministerOrganization)))
-        },
-        Err(denial) => Ok(Err(denial)),
-    }
+    let org = organization_named(alloc, context)?;
+    authorize(
+        context.administers(&org.name),
+        Right::AdministerOrganization,
+    )?;
+    Ok(org)
 }
 
 // ---- organizations
 
 /// The answer to an `organization_patch`.
-fn organization_patch(
-    alloc: Global,
-    context: &CallContext<'_>,
-) -> Result<Answer<OrgChange>, AllocError>
-    ensures { IfOk result (λ answer. answer ≡ answer_to_organization_patch (context_view context.now)) }
+fn organization_patch(alloc: Global, context: &CallContext<'_>) -> Result<Answer<OrgChange>, Stop>
+    ensures { Answers result (answer_to_organization_patch (context_view context.now)) }
 {
-    let org = match administered_organization(alloc, context)? {
-        Ok(org) => org,
-        Err(denial) => return Ok(Answer::Refused(denial)),
-    };
+    let org = administered_organization(alloc, context)?;
     let (faults, patched) = read_patch(alloc, &context.call.request.body, org)?;
-    if let Some(denial) = denial_with_quota(context.quota, faults)? {
-        return Ok(Answer::Refused(denial));
-    }
+    validate_change(context.quota, faults)?;
     let shown = organization_json(alloc, context, &patched)?;
     Ok(Answer::Accepted(shown, OrgChange::Patch(patched)))
 }
 
 /// The answer to an `organization_delete`.
-fn organization_delete(
-    alloc: Global,
-    context: &CallContext<'_>,
-) -> Result<Answer<OrgChange>, AllocError>
+fn organization_delete(alloc: Global, context: &CallContext<'_>) -> Result<Answer<OrgChange>, Stop>
     requires { IsTrue (list_all is_public_if_harvested (datasets_of context.now.shelf.now)) }
-    ensures { IfOk result (λ answer. answer ≡ answer_to_organization_delete (context_view context.now)) }
+    ensures { Answers result (answer_to_organization_delete (context_view context.now)) }
 {
-    let org = match administered_organization(alloc, context)? {
-        Ok(org) => org,
-        Err(denial) => return Ok(Answer::Refused(denial)),
-    };
+    let org = administered_organization(alloc, context)?;
     let faults = removal_errors(alloc, context, &org.name)?;
-    if let Some(denial) = denial_with_quota(context.quota, faults)? {
-        return Ok(Answer::Refused(denial));
-    }
+    validate_change(context.quota, faults)?;
     let name = org.name.try_clone(alloc)?;
     Ok(Answer::Accepted(Json::Null, OrgChange::Remove(name)))
 }
 
 /// The answer to an `organization_show`.
-fn organization_show(
-    alloc: Global,
-    context: &CallContext<'_>,
-) -> Result<Answer<OrgChange>, AllocError>
-    ensures { IfOk result (λ answer. answer ≡ answer_to_organization_show (context_view context.now)) }
+fn organization_show(alloc: Global, context: &CallContext<'_>) -> Result<Answer<OrgChange>, Stop>
+    ensures { Answers result (answer_to_organization_show (context_view context.now)) }
 {
-    match organization_named(alloc, context)? {
-        Ok(org) => Ok(Answer::Shown(organization_json(alloc, context, org)?)),
-        Err(denial) => Ok(Answer::Refused(denial)),
-    }
+    let org = organization_named(alloc, context)?;
+    Ok(Answer::Shown(organization_json(alloc, context, org)?))
 }
 
 // ---- members
 
 /// The answer to an `organization_member_create`.
-fn member_create(alloc: Global, context: &CallContext<'_>) -> Result<Answer<OrgChange>, AllocError>
-    ensures { IfOk result (λ answer. answer ≡ answer_to_member_create (context_view context.now)) }
+fn member_create(alloc: Global, context: &CallContext<'_>) -> Result<Answer<OrgChange>, Stop>
+    ensures { Answers result (answer_to_member_create (context_view context.now)) }
 {
-    let org = match administered_organization(alloc, context)? {
-        Ok(org) => org,
-        Err(denial) => return Ok(Answer::Refused(denial)),
-    };
+    let org = administered_organization(alloc, context)?;
     let (faults, user, role) = read_member(alloc, context)?;
-    if let Some(denial) = denial_with_quota(context.quota, faults)? {
-        return Ok(Answer::Refused(denial));
-    }
+    validate_change(context.quota, faults)?;
+    Ok(accept_member(alloc, org, user, role)?)
+}
+
+/// The answer that gives the user this role in the organization.
+fn accept_member(
+    alloc: Global,
+    org: &Org,
+    user: Text,
+    role: Role,
+) -> Result<Answer<OrgChange>, AllocError>
+    ensures { IfOk result (λ answer. answer
+        ≡ Answer.Accepted (member_dictionary org.now.name user role) (OrgChange.SetRole org.now.name user role)) }
+{
     let shown = member_json(alloc, &org.name, &user, role)?;
     let name = org.name.try_clone(alloc)?;
     Ok(Answer::Accepted(shown, OrgChange::SetRole(name, user, role)))
 }
 
 /// The answer to an `organization_member_delete`.
-fn member_delete(alloc: Global, context: &CallContext<'_>) -> Result<Answer<OrgChange>, AllocError>
-    ensures { IfOk result (λ answer. answer ≡ answer_to_member_delete (context_view context.now)) }
+fn member_delete(alloc: Global, context: &CallContext<'_>) -> Result<Answer<OrgChange>, Stop>
+    ensures { Answers result (answer_to_member_delete (context_view context.now)) }
 {
-    let org = match administered_organization(alloc, context)? {
-        Ok(org) => org,
-        Err(denial) => return Ok(Answer::Refused(denial)),
-    };
+    let org = administered_organization(alloc, context)?;
     let (faults, user) = read_former_member(alloc, context, &org.name)?;
-    if let Some(denial) = denial_with_quota(context.quota, faults)? {
-        return Ok(Answer::Refused(denial));
-    }
+    validate_change(context.quota, faults)?;
     let name = org.name.try_clone(alloc)?;
     Ok(Answer::Accepted(Json::Null, OrgChange::DropRole(name, user)))
 }
 
 /// The answer to a `member_list`.
-fn member_list(alloc: Global, context: &CallContext<'_>) -> Result<Answer<OrgChange>, AllocError>
-    ensures { IfOk result (λ answer. answer ≡ answer_to_member_list (context_view context.now)) }
+fn member_list(alloc: Global, context: &CallContext<'_>) -> Result<Answer<OrgChange>, Stop>
+    ensures { Answers result (answer_to_member_list (context_view context.now)) }
 {
-    let org = match administered_organization(alloc, context)? {
-        Ok(org) => org,
-        Err(denial) => return Ok(Answer::Refused(denial)),
-    };
+    let org = administered_organization(alloc, context)?;
     Ok(Answer::Shown(Json::List(members_json(alloc, context, &org.name)?)))
 }
 
 // ---- lists
 
 /// The answer to an `organization_list`.
-fn organization_list(
-    alloc: Global,
-    context: &CallContext<'_>,
-) -> Result<Answer<OrgChange>, AllocError>
-    ensures { IfOk result (λ answer. answer ≡ answer_to_organization_list (context_view context.now)) }
+fn organization_list(alloc: Global, context: &CallContext<'_>) -> Result<Answer<OrgChange>, Stop>
+    ensures { Answers result (answer_to_organization_list (context_view context.now)) }
 {
     let mut faults = KeyErrors::new(alloc);
     let read = truth_at(&context.call.request.body, "all_fields");
     let all_fields = faults.check(alloc, "all_fields", read)?;
-    if let Some(denial) = denial_of(faults) {
-        return Ok(Answer::Refused(denial));
-    }
+    validate(faults)?;
     let items = if is_true(all_fields) {
         organizations_json(alloc, context)?
     } else {
@@ -248,15 +219,15 @@ fn is_true(given: Option<Option<bool>>) -> bool
 fn organization_list_for_user(
     alloc: Global,
     context: &CallContext<'_>,
-) -> Result<Answer<OrgChange>, AllocError>
-    ensures { IfOk result (λ answer. answer ≡ answer_to_organization_list_for_user (context_view context.now)) }
+) -> Result<Answer<OrgChange>, Stop>
+    ensures { Answers result (answer_to_organization_list_for_user (context_view context.now)) }
 {
     Ok(Answer::Shown(Json::List(capacities_json(alloc, context)?)))
 }
 
 /// The answer to a `user_list`.
-fn user_list(alloc: Global, context: &CallContext<'_>) -> Result<Answer<OrgChange>, AllocError>
-    ensures { IfOk result (λ answer. answer ≡ answer_to_user_list (context_view context.now)) }
+fn user_list(alloc: Global, context: &CallContext<'_>) -> Result<Answer<OrgChange>, Stop>
+    ensures { Answers result (answer_to_user_list (context_view context.now)) }
 {
     Ok(Answer::Shown(Json::List(users_json(alloc, context)?)))
 }
