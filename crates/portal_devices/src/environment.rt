@@ -107,7 +107,12 @@ pub fn listener(rt: &HostRuntime, words: &[String]) -> Result<Option<TcpListener
         return Ok(None);
     }
     let port = port(rt)?;
-    Ok(TcpListener::bind(rt, ("127.0.0.1", port)).ok())
+    Ok(listener_at(rt, port))
+}
+
+/// A listener on 127.0.0.1 at this port, if the port is free.
+pub(crate) fn listener_at(rt: &HostRuntime, port: u16) -> Option<TcpListener> {
+    TcpListener::bind(rt, ("127.0.0.1", port)).ok()
 }
 
 /// A seed of 32 bytes from the host's random source, or none if that fails.

@@ -12,8 +12,8 @@ use std::rt::Files;
 use std::{fs, io};
 
 /// Fetches the host's files. A location without a scheme (RFC 3986, section 3.1) is a path, relative to the current
-/// folder. A location with a scheme is `Missing`. A file that doesn't exist is `Missing`, and every other error of the
-/// host but out of memory is a fault. In contracts a fetcher is its count of faults, which stays at the last number of
+/// folder. A location with a scheme is `Missing`. A file that doesn't exist is `Missing`. A location of another kind than
+/// a regular file, as a folder, a FIFO or a device, is a fault, and so is every other error of the host but out of memory. In contracts a fetcher is its count of faults, which stays at the last number of
 /// a `u64`. What it holds isn't observable.
 #[derive(Drop)]
 pub struct HostFetcher<R> {
@@ -95,7 +95,15 @@ fn fault_of(error: &io::Error) -> FetchFault {
     }
 }
 
-/// The bytes of a file, if they are at most `limit`.
+/// Whether a regular file is at the location. A read of another kind, such as a FIFO or a device, may wait for ever.
+fn is_regular<R: Files>(host: &R, location: &str) -> Result<bool, FetchFault> {
+    match fs::metadata(host, location) {
+        Ok(metadata) => Ok(metadata.is_file()),
+        Err(error) => Err(fault_of(&error)),
+    }
+}
+
+/// The bytes of a regular file, if they are at most `limit`.
 fn read_file<R: Files>(
     alloc: Global,
     host: &R,
@@ -104,6 +112,9 @@ fn read_file<R: Files>(
 ) -> Result<Vec<u8>, FetchFault>
     ensures within { IfOk result (λ bytes. length bytes.items ≤ limit) }
 {
+    if !is_regular(host, location)? {
+        return Err(FetchFault::Failed);
+    }
     let file = match fs::open(host, location) {
         Ok(file) => file,
         Err(error) => return Err(fault_of(&error)),

@@ -2,16 +2,16 @@
 ghost use Rattle.std.specs.Prelude.{◌≡◌, ◌≤◌, false, length, IfOk};
 
 use portal_base::outside::{Failed, Link, Listener};
-use std::io;
 use std::io::{Read, Write};
 use std::marker::Model;
 use std::net::{Shutdown, TcpListener, TcpStream};
 use std::time::{Duration, Instant};
+use std::{io, thread};
 
 /// The timeout of one read or write, in seconds.
 const TRANSFER_TIMEOUT: u64 = 10;
 
-/// The timeout of a connection, in seconds after it was accepted.
+/// The timeout of a request in seconds after its connection was accepted, and that of its answer after its first write.
 const LINK_TIMEOUT: u64 = 60;
 
 /// The timeout of one read from a peer whose reply was written, in milliseconds.
@@ -20,15 +20,23 @@ const CLOSING_TIMEOUT: u64 = 200;
 /// The most pieces that are read from such a peer.
 const CLOSING_PIECES: usize = 64;
 
-/// The most aborted connections in a row that are skipped.
-const MAX_ABORTED: usize = 1_000;
+/// The most passing errors of a listener in a row after which it goes on.
+const MAX_PASSING: usize = 1_000;
 
-/// A connection. Every error of it is a fault, and so is each timeout: of ten seconds for one read or write, and of a
-/// minute for the connection. In contracts a link is its count of faults, which stays at the last number of a `u64`.
+/// The wait after an error of a listener that lacks a descriptor or memory, in milliseconds.
+const SHORTAGE_WAIT: u64 = 50;
+
+/// The numbers of these errors on Linux: ENOMEM, ENFILE, EMFILE and ENOBUFS.
+const SHORTAGES: [i32; 4] = [12, 23, 24, 105];
+
+/// A connection. Every error of it is a fault, and so is each timeout: of ten seconds for one read or write, of a minute
+/// for the request, and of another minute for its answer. In contracts a link is its count of faults, which stays at the
+/// last number of a `u64`.
 #[derive(Drop)]
 pub struct TcpLink<R> {
     host: R,
     accepted: Instant,
+    answered: Option<Instant>,
     stream: TcpStream,
     faults: u64,
 }
@@ -52,31 +60,46 @@ impl<R: std::time::Clock + Drop> TcpLink<R> {
         Ok(TcpLink {
             host,
             accepted,
+            answered: None,
             stream,
             faults: 0,
         })
     }
 
-    /// Fails after the timeout of the connection.
-    fn check_deadline(&self) -> io::Result<()> {
-        if self.accepted.elapsed(&self.host)? < Duration::from_secs(LINK_TIMEOUT) {
+    /// Fails after the timeout since that time.
+    fn check_deadline(&self, start: Instant) -> io::Result<()> {
+        if start.elapsed(&self.host)? < Duration::from_secs(LINK_TIMEOUT) {
             Ok(())
         } else {
             Err(io::Error::from(io::ErrorKind::TimedOut))
         }
     }
 
+    /// When the first piece of the answer was written: now, if none was.
+    fn answer_start(&mut self) -> io::Result<Instant>
+        ensures { self.new ≡ self.old }
+    {
+        if let Some(start) = self.answered {
+            return Ok(start);
+        }
+        let start = Instant::now(&self.host)?;
+        self.answered = Some(start);
+        Ok(start)
+    }
+
     fn read_in_time(&self, into: &mut [u8]) -> io::Result<usize>
         ensures { IfOk result (λ count. count ≤ length into.new) }
     {
-        self.check_deadline()?;
+        self.check_deadline(self.accepted)?;
         (&self.stream).read(into)
     }
 
-    fn write_in_time(&self, piece: &[u8]) -> io::Result<usize>
-        ensures { IfOk result (λ count. count ≤ length piece.now) }
+    fn write_in_time(&mut self, piece: &[u8]) -> io::Result<usize>
+        ensures count { IfOk result (λ count. count ≤ length piece.now) }
+        ensures faults { self.new ≡ self.old }
     {
-        self.check_deadline()?;
+        let start = self.answer_start()?;
+        self.check_deadline(start)?;
         (&self.stream).write(piece)
     }
 
@@ -126,7 +149,8 @@ impl<R: std::time::Clock + Drop> Link for TcpLink<R> {
     }
 }
 
-/// Accepts the connections of a TCP listener. Without a listener each call of `accept` is a fault. A door has no end,
+/// Accepts the connections of a TCP listener. It skips an aborted connection, waits a little where the host lacks a
+/// descriptor or memory, and fails after 1,000 such errors in a row. Without a listener each call of `accept` is a fault. A door has no end,
 /// and its links aren't observable. In contracts a door is whether a link is out, the count of links that were taken
 /// back, and the count of faults.
 #[derive(Drop)]
@@ -163,16 +187,27 @@ impl<R: std::time::Clock + Copy + Drop> TcpDoor<R> {
     /// The next connection as a link, or none if the listener fails.
     fn next_link(&self) -> Option<TcpLink<R>> {
         let listener = self.listener.as_ref()?;
-        for _ in 0..MAX_ABORTED {
+        for _ in 0..MAX_PASSING {
             match listener.accept() {
                 Ok((stream, _peer)) => if let Ok(link) = TcpLink::from_stream(self.host, stream) {
                     return Some(link);
                 },
                 Err(error) if is_aborted(&error) => {}
+                Err(error) if is_shortage(&error) => {
+                    thread::sleep(&self.host, Duration::from_millis(SHORTAGE_WAIT));
+                }
                 Err(_) => return None,
             }
         }
         None
+    }
+}
+
+/// Whether the host lacks a descriptor or memory for a connection, which it may have again a little later.
+fn is_shortage(error: &io::Error) -> bool {
+    match error.raw_os_error() {
+        Some(code) => SHORTAGES.contains(&code),
+        None => error.kind() == io::ErrorKind::OutOfMemory,
     }
 }
 

@@ -18,8 +18,10 @@ fn files_are_fetched(rt: HostRuntime) -> Result<(), Fail> {
     let alloc = rt.alloc();
     let mut fetcher = HostFetcher::new(&rt);
     for (location, expected) in [
-        ("/dev/null", Came::Bytes(0)),
-        ("/dev/zero", Came::TooLong),
+        ("/proc/sys/kernel/ostype", Came::Bytes(6)),
+        ("/proc/self/status", Came::TooLong),
+        ("/dev/null", Came::Failed),
+        ("/dev/zero", Came::Failed),
         ("/dev/nothing", Came::Missing),
         ("/dev/null/file", Came::Missing),
         ("/dev", Came::Failed),

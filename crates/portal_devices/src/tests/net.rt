@@ -1,10 +1,11 @@
 //! A connection over TCP on this machine.
 ghost use Rattle.std.specs.Prelude.{◌≡◌, false};
 
+use crate::environment::listener_at;
 use crate::net::TcpDoor;
 use portal_base::outside::{Failed, Link, Listener};
 use std::io::{self, Read, Write};
-use std::net::{TcpListener, TcpStream};
+use std::net::{IpAddr, Ipv4Addr, TcpListener, TcpStream};
 use std::test::Fail;
 
 /// Whether the link gives the bytes of the peer, and takes the answer.
@@ -44,6 +45,19 @@ fn a_connection_is_a_link(rt: HostRuntime) -> Result<(), Fail> {
     let mut door = TcpDoor::new(&rt, Some(listener));
     assert!(rt; is_served(&mut door));
     assert!(rt; receives_answer(&mut peer)?);
+    Ok(())
+}
+
+#[test]
+fn the_listener_is_bound_to_this_machine(rt: HostRuntime) -> Result<(), Fail> {
+    let free = TcpListener::bind(&rt, ("127.0.0.1", 0))?.local_addr()?;
+    match listener_at(&rt, free.port()) {
+        Some(listener) => {
+            assert_eq!(rt; listener.local_addr()?, free);
+            assert_eq!(rt; free.ip(), IpAddr::V4(Ipv4Addr::LOCALHOST));
+        }
+        None => assert!(rt; false, "the port is free"),
+    }
     Ok(())
 }
 
