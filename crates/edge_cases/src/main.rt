@@ -20,6 +20,7 @@ fn main(rt: HostRuntime) -> io::Result<ExitCode> {
     tally.check(&rt, "files", 2, file::content);
     tally.check(&rt, "requests", 2, received::request);
     tally.check(&rt, "long_requests", 3, received::long_request);
+    tally.check(&rt, "left", 3, received::left);
     tally.check(&rt, "cut_requests", 2, received::prefixes);
     tally.check(&rt, "failing_links", 3, received::failing);
     tally.check(&rt, "responses", 3, sent::response);

@@ -12,6 +12,12 @@ use std::io;
 /// Room for what isn't to be written.
 const ROOM: usize = 1000;
 
+/// The bytes of a link that are read at once.
+const PIECE: usize = 4096;
+
+/// The most reads of a link.
+const MAX_PIECES: usize = 100_000;
+
 /// Three names of actions: two that only read, and one that changes something.
 fn is_reading(name: &str) -> Option<bool> {
     match name {
@@ -82,6 +88,40 @@ pub fn request(alloc: Global, case: &Case, answer: &mut Buffer) -> io::Result<()
 pub fn long_request(alloc: Global, case: &Case, answer: &mut Buffer) -> io::Result<()> {
     let bytes = filled(alloc, case.parsed(0)?, case.bytes(1));
     answer.push_buffer(&received(alloc, bytes.bytes()?)?);
+    Ok(())
+}
+
+/// How many bytes the link has left.
+fn count_left<K: Link>(link: &mut K) -> usize {
+    let mut piece = [0; PIECE];
+    let mut left = 0usize;
+    for _ in 0..MAX_PIECES {
+        match link.read(&mut piece) {
+            Ok(count) if count > 0 => left = left.saturating_add(count),
+            _ => return left,
+        }
+    }
+    left
+}
+
+/// How many bytes the link has left after a request was received.
+fn left_of<K: Link>(alloc: Global, link: &mut K) -> Buffer {
+    let mut unread = Buffer::new(alloc);
+    push_received(alloc, &mut unread, link);
+    Buffer::of_value(alloc, &count_left(link))
+}
+
+/// How long the filler is, and the bytes of a connection: how many are left after what is received of them, and how
+/// many else where they are read byte by byte.
+pub fn left(alloc: Global, case: &Case, answer: &mut Buffer) -> io::Result<()> {
+    let bytes = filled(alloc, case.parsed(0)?, case.bytes(1));
+    let mut link = link_of(alloc, bytes.bytes()?, 0)?;
+    let inner = link_of(alloc, bytes.bytes()?, 0)?;
+    answer.push_buffer(&left_of(alloc, &mut link));
+    answer.push_difference(
+        ", byte by byte ",
+        &left_of(alloc, &mut OneByOne { inner }),
+    );
     Ok(())
 }
 

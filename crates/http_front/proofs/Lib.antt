@@ -1,6 +1,7 @@
 pub mod EndLemmas
 pub mod FieldLemmas
 pub mod HeadLemmas
+pub mod LeavesLemmas
 pub mod LawLemmas
 pub mod PhraseLemmas
 pub mod PieceLemmas
@@ -8,3 +9,4 @@ pub mod ReceiveLemmas
 pub mod ReplyLemmas
 pub mod RouteLemmas
 pub mod StartLemmas
+pub mod TakenLemmas

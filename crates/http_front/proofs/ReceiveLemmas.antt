@@ -108,7 +108,7 @@ own_bytes buffer count head rest reads e = (
 abbrev failed : FrontFault → Result Incoming FrontFault
 failed fault = Err fault
 
-request_of : (A : Reads) (all buffer rest : List ℕ) (count : ℕ) (f : HasHeadOf buffer count)
+pub request_of : (A : Reads) (all buffer rest : List ℕ) (count : ℕ) (f : HasHeadOf buffer count)
     (action_target : Result ActionTarget FrontFault)
     (result : Result Incoming FrontFault) → all ≡ buffer ++ rest → IsActionTarget A
     (take count buffer) f.head action_target

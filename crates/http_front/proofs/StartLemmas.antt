@@ -31,7 +31,7 @@ abbrev EndsInTime : List ℕ → Type 0
 EndsInTime text = (ending : List ℕ) → IsEnding ending → HasNoneOver (text ++ ending)
 
 -- the empty lines and the request line
-abbrev start_of : RequestHead → List ℕ
+abbrev pub start_of : RequestHead → List ℕ
 start_of h =
     print_blank h.blank ++ (h.method ++ 32 ∷ (h.target ++ 32 ∷ (print_version h.minor ++ print_end h.line_end)))
 
@@ -46,7 +46,7 @@ start_append h rest =
     regroup a b c d e r = simp append_assoc
 
 -- a head is its start, its field lines and a line end
-print_parts : (h : RequestHead) (rest : List ℕ) → print_request h ++ rest
+pub print_parts : (h : RequestHead) (rest : List ℕ) → print_request h ++ rest
     ≡ start_of h ++ ((flat_map print_field h.fields ++ print_end h.last) ++ rest)
 print_parts h rest = print_request-append h rest
     ∙ sym (start_append h ((flat_map print_field h.fields ++ print_end h.last) ++ rest))

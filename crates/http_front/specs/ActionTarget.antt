@@ -5,7 +5,6 @@ use Rattle.std.specs.Prelude.{Option, Some, None, Result, Ok, Err}
 use Rattle.std.specs.Option.{option_or}
 use Rattle.std.specs.List.{before_first, after_first, list_any, starts_with}
 use Rattle.std.specs.Str.{bytes_eq}
-use Rattle.portal_calls.specs.declared.call.TheConstants.{LONGEST_BODY}
 use Rattle.http_front.specs.Head.{Pairs}
 use Rattle.http_front.specs.Fields.{has_named, has_bad_length, length_given, token_of}
 use Rattle.http_front.specs.declared.fault.FrontFault.{FrontFault}
@@ -43,10 +42,10 @@ name_after front path = if_segment (without_prefix front path)
 abbrev pub route_of : List ℕ → Option (List ℕ)
 route_of path = option_or (name_after (codes "/api/3/action/") path) (name_after (codes "/api/action/") path)
 
--- whether the body is longer than it may be
+-- whether the body is longer than 262,144 bytes
 abbrev pub is_long : Option ℕ → Bool
 is_long None = false
-is_long (Some count) = nat_lt LONGEST_BODY count
+is_long (Some count) = nat_lt 262144 count
 
 -- A GET is accepted for an action that only reads, and for an unknown one. `reads` says which it is.
 abbrev pub get_of : Option Bool → List ℕ → List ℕ → Pairs → Result ActionTarget FrontFault
@@ -58,10 +57,10 @@ get_of None name query fields = if is_long (length_given fields) then Err TooLon
 
 abbrev pub post_with : List ℕ → Pairs → Option ℕ → Result ActionTarget FrontFault
 post_with name fields None = Err NoLength
-post_with name fields (Some count) = if nat_lt LONGEST_BODY count then Err TooLong
+post_with name fields (Some count) = if nat_lt 262144 count then Err TooLong
     else Ok (Post name count (token_of fields))
 
--- a POST has a length, and no coding of its body
+-- a POST has a length of at most 262,144 bytes, and no coding of its body
 abbrev pub post_of : List ℕ → Pairs → Result ActionTarget FrontFault
 post_of name fields = if has_named (codes "transfer-encoding") fields then Err NoLength
     else post_with name fields (length_given fields)

@@ -2,7 +2,8 @@
 -- line, the field lines and the empty line after them (RFC 9112, sections 2.1, 3 and 5). Empty lines before it are skipped
 -- (section 2.2). It has at most 64 field lines, since a server limits what it takes (RFC 9110, section 5.4).
 use Rattle.std.specs.Prelude.{◌≡◌, ℕ, ◌≤◌, ◌⊎◌, Bool, true, false, List, ◌++◌, length, drop, Option, Some, None}
-use Rattle.std.specs.Prelude.{Result, Ok, Err}
+use Rattle.std.specs.Prelude.{Result, Ok, Err, nat_le, ◌||◌, ◌==◌}
+use Rattle.std.specs.List.{list_any}
 use Rattle.httparse.specs.Grammar.{RequestHead, ReadsRequest, HasNoRequest, MayBecomeRequest, print_request}
 use Rattle.httparse.specs.Spans.{RequestOverflows}
 use Rattle.http_front.specs.Head.{marked, extent, pairs_of, Begins, Continues, IsInvalid, IsPartial}
@@ -69,10 +70,15 @@ pub record IsPartialHead (buffer : List ℕ) (more : Bool) (fault : FrontFault) 
   pub none : HasNoRequest (marked buffer)
   pub unfinished : IsPartial buffer
 
+-- A buffer that began with no head at its first `before` bytes is parsed again if one of the bytes after them is a line
+-- feed, since a head ends in one, or if it has as many bytes as a head may have.
+abbrev pub is_due : List ℕ → ℕ → Bool
+is_due buffer before = nat_le 16384 (length buffer) || list_any (λ b. b == 10) (drop before buffer)
+
 -- The head of a connection whose bytes begin with the buffer: its length; or none yet, so that more bytes are to be read;
 -- or the fault. A buffer of 16,384 bytes without a head is too long for one.
 abbrev pub IsParseOfBuffer : List ℕ → Bool → Result (Option ℕ) FrontFault → Type 0
 IsParseOfBuffer buffer more (Ok (Some count)) = HasHeadOf buffer count
-IsParseOfBuffer buffer more (Ok None) = (more ≡ true) × (16384 ≤ length buffer → HasNoRequest (marked buffer))
+IsParseOfBuffer buffer more (Ok None) = (more ≡ true) × HasNoRequest (marked buffer)
 IsParseOfBuffer buffer more (Err fault) =
     IsInvalidHead buffer fault ⊎ IsPartialHead buffer more fault ⊎ (fault ≡ OutOfMemory)

@@ -7,3 +7,4 @@ pub mod LinkRead
 pub mod Location
 pub mod Request
 pub mod Response
+pub mod Taken

@@ -1,11 +1,12 @@
 //! The action that a head asks for.
-ghost use Rattle.std.specs.Prelude.{◌≡◌, ◌≢◌, ◌==◌, List, ℕ, Some, IfErr, codes};
+ghost use Rattle.std.specs.Prelude.{◌≡◌, ◌≢◌, ◌==◌, ◌≤◌, List, ℕ, Some, IfOk, IfErr, codes};
 ghost use Rattle.std.specs.List.{list_any};
 ghost use Rattle.std.specs.Option.{option_copied};
 ghost use Rattle.http_front.specs.Request.{UnlessFails, AnswersAt};
 ghost use Rattle.http_front.specs.ActionTarget.{is_segment, without_prefix, name_after, route_of, is_long};
 ghost use Rattle.http_front.specs.ActionTarget.{get_of, post_of};
 ghost use Rattle.http_front.specs.ActionTarget.{action_target_of, path_of, query_of};
+ghost use Rattle.http_front.specs.Taken.{IsOfHead, body_length};
 
 use crate::fault::FrontFault;
 use crate::fields::{has_bad_length, has_named, length_given, token_of};
@@ -79,6 +80,8 @@ fn get_of(
 ) -> Result<ActionTarget, FrontFault>
     ensures gives { UnlessFails result (result ≡ get_of reads name.now query.now fields.now) }
     ensures no_link { IfErr result (λ fault. fault ≢ FrontFault.LinkFault) }
+    ensures own { IfErr result IsOfHead }
+    ensures short { IfOk result (λ target. body_length target ≤ 262144) }
 {
     if reads == Some(false) {
         return Err(FrontFault::Method);
@@ -95,6 +98,8 @@ fn get_of(
 fn post_of(alloc: Global, name: &str, fields: &[Field]) -> Result<ActionTarget, FrontFault>
     ensures gives { UnlessFails result (result ≡ post_of name.now fields.now) }
     ensures no_link { IfErr result (λ fault. fault ≢ FrontFault.LinkFault) }
+    ensures own { IfErr result IsOfHead }
+    ensures short { IfOk result (λ target. body_length target ≤ 262144) }
 {
     if has_named("transfer-encoding", fields) {
         return Err(FrontFault::NoLength);
@@ -148,6 +153,8 @@ pub fn action_target_of(
 ) -> Result<ActionTarget, FrontFault>
     ensures gives { UnlessFails result (result ≡ action_target_of reads method.now target.now fields.now) }
     ensures no_link { IfErr result (λ fault. fault ≢ FrontFault.LinkFault) }
+    ensures own { IfErr result IsOfHead }
+    ensures short { IfOk result (λ target. body_length target ≤ 262144) }
 {
     if has_bad_length(fields) {
         return Err(FrontFault::BadHead);

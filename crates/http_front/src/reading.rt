@@ -1,14 +1,15 @@
 //! Reading off a link: a head, and a body of a given length.
-ghost use Rattle.std.specs.Prelude.{◌≡◌, ◌<◌, ◌≤◌, ◌++◌, ◌⊎◌, ℕ, List, [], Bool, true, false, Err};
+ghost use Rattle.std.specs.Prelude.{◌≡◌, ◌<◌, ◌≤◌, ◌+◌, ◌++◌, ◌==◌, ◌⊎◌, ℕ, List, [], Bool, true, false, Err};
 ghost use Rattle.std.specs.Prelude.{Ok, length, map, take};
 ghost use Rattle.std.specs.Prelude.{IfOk, IfErr, IfSome, OnOk, OnErr, MatchResult};
+ghost use Rattle.std.specs.List.{list_any};
 ghost use Rattle.portal_base.specs.Outside.{Gives, IsAtEnd, Rose};
-ghost use Rattle.httparse.specs.Grammar.{MayBecomeRequest};
+ghost use Rattle.httparse.specs.Grammar.{HasNoRequest, MayBecomeRequest};
 ghost use Rattle.http_front.specs.Head.{marked_byte, marked, IsInvalid, IsPartial};
-ghost use Rattle.http_front.specs.LinkRead.{IsOutside, ReadsOn};
-ghost use Rattle.http_front.specs.HeadParse.{HasHeadOf, IsParseOfBuffer};
+ghost use Rattle.http_front.specs.LinkRead.{IsOutside, LosesPiece, ReadsOn};
+ghost use Rattle.http_front.specs.HeadParse.{HasHeadOf, IsHeadParse, IsParseOfBuffer, is_due};
 ghost use Rattle.http_front.specs.Request.{UnlessOutside, HasNone};
-ghost use Rattle.http_front.specs.HeadParse.{IsHeadParse};
+ghost use Rattle.http_front.specs.Taken.{ReadsBody, ReadsNoHead};
 
 use crate::fault::FrontFault;
 use crate::head::{HeadParse, is_over, parse_head};
@@ -56,6 +57,7 @@ pub fn read_more<K: Link>(
     ensures bytes { IfOk result (λ more.
         ReadsOn limit (K.to_come link.old) buffer.old.items (K.to_come link.new) buffer.new.items more) }
     ensures fault { IfErr result IsOutside }
+    ensures lost { IfErr result (LosesPiece limit (K.to_come link.old) (K.to_come link.new)) }
     ensures taken { K.taken link.new ≡ K.taken link.old }
     ensures failed { result ≡ Err FrontFault.LinkFault → Rose (K.faults link.old) (K.faults link.new) }
     ensures counts { K.faults link.old ≤ K.faults link.new }
@@ -67,12 +69,19 @@ pub fn read_more<K: Link>(
     Ok(count > 0)
 }
 
+fn has_feed(bytes: &[u8]) -> bool
+    ensures { result ≡ list_any (λ b. b == 10) bytes.now }
+{
+    bytes.iter().any(|byte| *byte == b'\n')
+}
+
 /// Whether the buffer is to be parsed again. A head ends in a line feed, so it is if one of the bytes from `before` on
 /// is a line feed, or if the buffer has as many bytes as a head may have.
 pub fn is_due(buffer: &[u8], before: usize) -> bool
-    ensures { result ≡ false → length buffer.now < 16384 }
+    ensures value { result ≡ is_due buffer.now before }
+    ensures short { result ≡ false → length buffer.now < 16384 }
 {
-    buffer.len() >= LONGEST_HEAD || buffer.get(before..).is_some_and(|new| new.contains(&b'\n'))
+    buffer.len() >= LONGEST_HEAD || has_feed(buffer.get(before..).unwrap_or(&[]))
 }
 
 // The fault of a buffer after which no bytes come, and which might have become a head.
@@ -91,8 +100,8 @@ fn fault_at_end(alloc: Global, buffer: &[u8]) -> Result<FrontFault, AllocError>
     }
 }
 
-// Parses the buffer, whose bytes from `before` on are new. Returns the length of its head, or none if more bytes are to
-// be read. If `more` is false, no bytes come after the buffer.
+// Parses the buffer, whose bytes from `before` on are new, and which began with no head before they came. Returns the
+// length of its head, or none if more bytes are to be read. If `more` is false, no bytes come after the buffer.
 fn parse_buffer(
     alloc: Global,
     buffer: &[u8],
@@ -100,6 +109,8 @@ fn parse_buffer(
     more: bool,
 ) -> Result<Option<usize>, FrontFault>
     requires short { length buffer.now ≤ 16384 }
+    requires new { before ≤ length buffer.now }
+    requires none { HasNoRequest (marked (take before buffer.now)) }
     ensures { IsParseOfBuffer buffer.now more result }
 {
     if more && !is_due(buffer, before) {
@@ -122,8 +133,11 @@ pub fn read_head<K: Link>(
     requires empty { buffer.old.items ≡ [] }
     ensures found { IfOk result (λ count. HasHeadOf buffer.new.items count) }
     ensures gives { OnOk result (Gives (K.to_come link.old) buffer.new.items (K.to_come link.new)) }
+    // The head ends in the last piece.
+    ensures few { IfOk result (λ count. length buffer.new.items < count + 4096) }
     ensures none { IfErr result (λ fault. UnlessOutside fault
         (IfSome (K.to_come link.old) (λ bytes. HasNone bytes (Err fault)))) }
+    ensures lost { IfErr result (ReadsNoHead (K.to_come link.old) (K.to_come link.new)) }
     ensures taken { K.taken link.new ≡ K.taken link.old }
     ensures failed { result ≡ Err FrontFault.LinkFault → Rose (K.faults link.old) (K.faults link.new) }
     ensures counts { K.faults link.old ≤ K.faults link.new }
@@ -147,6 +161,7 @@ fn fill<K: Link>(link: &mut K, count: usize, buffer: &mut Vec<u8>) -> Result<(),
         × (buffer.new.items ≡ buffer.old.items ++ read) × (length buffer.new.items ≡ count)) }
     ensures ended { result ≡ Err FrontFault.EndedEarly → IfSome (K.to_come link.old)
         (λ bytes. length (buffer.old.items ++ bytes) < count) }
+    ensures reads { ReadsBody count buffer.old.items (K.to_come link.old) (K.to_come link.new) result }
     ensures fault { IfErr result (λ fault. (fault ≡ FrontFault.EndedEarly) ⊎ IsOutside fault) }
     ensures taken { K.taken link.new ≡ K.taken link.old }
     ensures failed { result ≡ Err FrontFault.LinkFault → Rose (K.faults link.old) (K.faults link.new) }
@@ -173,6 +188,7 @@ pub fn read_body<K: Link>(
     ensures long { IfOk result (λ body. length body.items ≡ count) }
     ensures ended { result ≡ Err FrontFault.EndedEarly → IfSome (K.to_come link.old)
         (λ bytes. length (received.now ++ bytes) < count) }
+    ensures reads { ReadsBody count received.now (K.to_come link.old) (K.to_come link.new) result }
     ensures fault { IfErr result (λ fault. (fault ≡ FrontFault.EndedEarly) ⊎ IsOutside fault) }
     ensures taken { K.taken link.new ≡ K.taken link.old }
     ensures failed { result ≡ Err FrontFault.LinkFault → Rose (K.faults link.old) (K.faults link.new) }

@@ -1,5 +1,5 @@
 //! One request of a connection.
-ghost use Rattle.std.specs.Prelude.{◌≡◌, ◌≢◌, ◌≤◌, ◌++◌, ℕ, List, Err, Ok, length, IfOk, IfErr, IfSome, if◌then◌else◌};
+ghost use Rattle.std.specs.Prelude.{◌≡◌, ◌<◌, ◌≤◌, ◌+◌, ◌++◌, ◌⊎◌, ℕ, List, Err, Ok, length, IfOk, IfErr, IfSome, if◌then◌else◌};
 ghost use Rattle.std.specs.Str.{IsUtf8};
 ghost use Rattle.httparse.specs.Grammar.{RequestHead, ReadsRequest};
 ghost use Rattle.portal_base.specs.Outside.{Rose};
@@ -8,6 +8,8 @@ ghost use Rattle.http_front.specs.Fields.{has_bad_length};
 ghost use Rattle.http_front.specs.HeadParse.{HasHeadOf};
 ghost use Rattle.http_front.specs.Request.{AnswersAt, AsksOf, IsReceived, IsActionTarget, UnlessFails, without_route};
 ghost use Rattle.http_front.specs.ActionTarget.{incoming_of};
+ghost use Rattle.http_front.specs.LinkRead.{IsOutside};
+ghost use Rattle.http_front.specs.Taken.{IsOfHead, Leaves, LeavesAfter, ReadsBody, body_in, body_length};
 
 use crate::action_target::{ActionTarget, action_target_of, find_reading};
 use crate::fault::FrontFault;
@@ -23,7 +25,7 @@ use std::str;
 // The fault of a head whose target isn't UTF-8.
 fn fault_of(mark: &Head) -> FrontFault
     ensures gives { result ≡ (if has_bad_length mark.now.fields then FrontFault.BadHead else FrontFault.NoRoute) }
-    ensures no_link { result ≢ FrontFault.LinkFault }
+    ensures own { IsOfHead result }
 {
     if has_bad_length(mark.fields.as_slice()) {
         FrontFault::BadHead
@@ -35,7 +37,7 @@ fn fault_of(mark: &Head) -> FrontFault
 fn without_route(alloc: Global, text: &[u8]) -> Result<FrontFault, AllocError>
     ensures gives { (mark : RequestHead) (rest : List ℕ) → ReadsRequest (marked text.now) mark rest
         → length mark.fields ≤ 64 → IfOk result (λ fault. fault ≡ without_route mark) }
-    ensures no_link { IfOk result (λ fault. fault ≢ FrontFault.LinkFault) }
+    ensures own { IfOk result IsOfHead }
 {
     let parse = parse_marked_head(alloc, text)?;
     match parse {
@@ -54,7 +56,8 @@ fn action_target_by(
     requires callable { IsAlwaysCallable reading }
     ensures asks { IsUtf8 head.now.target → UnlessFails result
         (AsksOf (AnswersAt (post reading)) head.now.method head.now.target head.now.fields result) }
-    ensures no_link { IfErr result (λ fault. fault ≢ FrontFault.LinkFault) }
+    ensures own { IfErr result IsOfHead }
+    ensures short { IfOk result (λ target. body_length target ≤ 262144) }
 {
     let Ok(target) = str::from_utf8(head.target.as_slice()) else {
         return Err(FrontFault::NoRoute);
@@ -74,7 +77,8 @@ fn action_target_in(
     ensures asks { (mark : RequestHead) (rest : List ℕ) → ReadsRequest (marked text.now) mark rest
         → length mark.fields ≤ 64 → UnlessFails result (IsActionTarget (AnswersAt
         (post reading)) text.now mark result) }
-    ensures no_link { IfErr result (λ fault. fault ≢ FrontFault.LinkFault) }
+    ensures own { IfErr result IsOfHead }
+    ensures short { IfOk result (λ target. body_length target ≤ 262144) }
 {
     let parse = parse_head(alloc, text)?;
     match parse {
@@ -93,6 +97,9 @@ fn incoming_of<K: Link>(
 ) -> Result<Incoming, FrontFault>
     ensures gives { IfSome (K.to_come link.old) (λ bytes.
         UnlessFails result (result ≡ incoming_of (Ok action_target) (received.now ++ bytes))) }
+    ensures reads { ReadsBody (body_length action_target) received.now (K.to_come link.old) (K.to_come link.new) result }
+    ensures body { IfOk result (λ incoming. length (body_in incoming) ≡ body_length action_target) }
+    ensures late { IfErr result (λ fault. (fault ≡ FrontFault.EndedEarly) ⊎ IsOutside fault) }
     ensures taken { K.taken link.new ≡ K.taken link.old }
     ensures failed { result ≡ Err FrontFault.LinkFault → Rose (K.faults link.old) (K.faults link.new) }
     ensures counts { K.faults link.old ≤ K.faults link.new }
@@ -118,8 +125,10 @@ fn read_request<K: Link>(
 ) -> Result<Incoming, FrontFault>
     requires callable { IsAlwaysCallable reading }
     requires found { HasHeadOf buffer.now count }
+    requires few { length buffer.now < count + 4096 }
     ensures request { IfSome (K.to_come link.old) (λ bytes.
         UnlessFails result (IsReceived (AnswersAt (post reading)) (buffer.now ++ bytes) result)) }
+    ensures leaves { LeavesAfter (AnswersAt (post reading)) buffer.now (K.to_come link.old) (K.to_come link.new) result }
     ensures taken { K.taken link.new ≡ K.taken link.old }
     ensures failed { result ≡ Err FrontFault.LinkFault → Rose (K.faults link.old) (K.faults link.new) }
     ensures counts { K.faults link.old ≤ K.faults link.new }
@@ -133,7 +142,7 @@ fn read_request<K: Link>(
 
 /// Reads one request off the link, and writes nothing. `reading` says whether the action of a name only reads, and is
 /// none if no action has the name. The request depends on the link's bytes alone, and not on the pieces in which they
-/// come.
+/// come. What is left unread of the link is all but the pieces in which the head came and the rest of a POST's body.
 pub fn receive<K: Link>(
     alloc: Global,
     link: &mut K,
@@ -142,6 +151,7 @@ pub fn receive<K: Link>(
     requires callable { IsAlwaysCallable reading }
     ensures request { IfSome (K.to_come link.old) (λ bytes.
         UnlessFails result (IsReceived (AnswersAt (post reading)) bytes result)) }
+    ensures leaves { Leaves (AnswersAt (post reading)) (K.to_come link.old) (K.to_come link.new) result }
     ensures taken { K.taken link.new ≡ K.taken link.old }
     ensures failed { result ≡ Err FrontFault.LinkFault → Rose (K.faults link.old) (K.faults link.new) }
     ensures counts { K.faults link.old ≤ K.faults link.new }
