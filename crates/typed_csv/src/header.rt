@@ -1,5 +1,5 @@
 //! Reads the header: it names the column that each field is read from.
-ghost use Rattle.std.specs.Prelude.{◌≡◌, ◌<◌, ◌+◌, ℕ, List, take, length, Err};
+ghost use Rattle.std.specs.Prelude.{◌≡◌, ◌<◌, ◌+◌, ◌^◌, ℕ, List, take, length, Some, Err};
 ghost use Rattle.csv.specs.Records.{fields_of};
 ghost use Rattle.typed_csv.specs.Faults.{Gives, IsRefused};
 ghost use Rattle.typed_csv.specs.Header.{is_field_name, is_valid_column, bad_column, column_of, header_layout};
@@ -32,13 +32,16 @@ pub(crate) fn text_at(row: &StringRecord, index: usize) -> &str
     }
 }
 
-/// Reads the layout from the names of the columns. Returns `Header` if a column has an invalid name.
+/// Reads the layout from the names of the columns. Returns `Header` if a column has an invalid name, which takes no
+/// memory.
 pub(crate) fn layout_of(
     alloc: Global,
     fields: &[Field],
     names: &StringRecord,
 ) -> Result<Layout, LoadFault>
-    ensures { Gives (λ layout. layout) result (header_layout fields.now (fields_of names.now)) }
+    ensures layout { Gives (λ layout. layout) result (header_layout fields.now (fields_of names.now)) }
+    ensures invalid { (column : ℕ) → bad_column fields.now (fields_of names.now) ≡ Some column
+        → column + 1 < 2 ^ 32 → result ≡ Err (LoadFault.Header (column + 1)) }
 {
     if let Some(column) = bad_column(fields, names) {
         return Err(header_fault(column));
@@ -55,9 +58,10 @@ pub(crate) fn layout_of(
     })
 }
 
-// The error of a column, counted from 0. If its number from 1 doesn't fit a `u32`, the error is `OutOfMemory`.
+// The error of a column, counted from 0. Only if its number from 1 doesn't fit a `u32`, the error is `OutOfMemory`.
 fn header_fault(column: usize) -> LoadFault
-    ensures { IsRefused {Y = Layout} result (Err (LoadFault.Header (column + 1))) }
+    ensures fault { IsRefused {Y = Layout} result (Err (LoadFault.Header (column + 1))) }
+    ensures number { column + 1 < 2 ^ 32 → result ≡ LoadFault.Header (column + 1) }
 {
     match u32::try_from(column as u128 + 1) {
         Ok(number) => LoadFault::Header(number),

@@ -1,5 +1,5 @@
 //! Reads records as rows of cells.
-ghost use Rattle.std.specs.Prelude.{◌≡◌, ◌<◌, ℕ, List, length, All, IfOk, Ok, true};
+ghost use Rattle.std.specs.Prelude.{◌≡◌, ◌≢◌, ◌<◌, ℕ, List, length, All, IfOk, Ok, Err, true};
 ghost use Rattle.csv.specs.Records.{fields_of};
 ghost use Rattle.table_schema.specs.Printed.{IsValue};
 ghost use Rattle.typed_csv.specs.Faults.{Gives};
@@ -25,7 +25,7 @@ pub(crate) struct BadCell {
     fault: CellFault,
 }
 
-/// Reads a record whose fields are UTF-8 as the row with this number, counted from 1.
+/// Reads a record whose fields are UTF-8 as the row with this number, counted from 1. `Width` takes no memory.
 pub(crate) fn row_of(
     alloc: Global,
     fields: &[Field],
@@ -36,6 +36,7 @@ pub(crate) fn row_of(
     requires { is_text (fields_of row.now) ≡ true }
     ensures read { Gives (λ cells. cells) result (row_reading fields.now layout.now number (fields_of row.now)) }
     ensures value { IfOk result (λ cells. All IsValue cells) }
+    ensures width { length (fields_of row.now) ≢ layout.now.width → result ≡ Err (LoadFault.Width number) }
 {
     if row.len() != layout.width {
         return Err(LoadFault::Width(number));

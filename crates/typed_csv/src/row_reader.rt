@@ -1,5 +1,5 @@
 //! Reads the records after a header as rows.
-ghost use Rattle.std.specs.Prelude.{◌≡◌, ◌↔◌, ◌≢◌, ◌<◌, ◌≤◌, ◌^◌, Ok, Err, None, All, IfOk, IfErr, IfSome};
+ghost use Rattle.std.specs.Prelude.{◌≡◌, ◌↔◌, ◌≢◌, ◌<◌, ◌≤◌, ◌+◌, ◌^◌, IsOk, Ok, Err, None, All, IfOk, IfErr, IfSome};
 ghost use Rattle.portal_base.specs.Outside.{IsAtEnd, Rose};
 ghost use Rattle.table_schema.specs.Printed.{IsValue};
 ghost use Rattle.typed_csv.specs.Calls.{IsOfSameColumns, Reads, remaining_rows};
@@ -51,9 +51,7 @@ impl<S: Source> RowReader<S> {
         ensures limit { (result ≡ Err LoadFault.TooLong) ↔ (2 ^ 40 < self.new.records.given) }
     {
         let next = self.records.next(&mut self.row)?;
-        let Some(number) = self.number.checked_add(1) else {
-            return Err(LoadFault::OutOfMemory);
-        };
+        let number = next_number(self.number)?;
         match next {
             Next::Record => {}
             Next::NotText => return Err(LoadFault::NotUtf8(number)),
@@ -68,5 +66,17 @@ impl<S: Source> RowReader<S> {
         )?;
         self.number = number;
         Ok(Some(cells))
+    }
+}
+
+// The number of the row after this one. Only past the last number, which no source reaches, the error is `OutOfMemory`.
+fn next_number(number: u64) -> Result<u64, LoadFault>
+    ensures next { IfOk result (λ next. next ≡ number + 1) }
+    ensures answers { number + 1 < 2 ^ 64 → IsOk result }
+    ensures refused { IfErr result (λ fault. fault ≡ LoadFault.OutOfMemory) }
+{
+    match number.checked_add(1) {
+        Some(next) => Ok(next),
+        None => Err(LoadFault::OutOfMemory),
     }
 }

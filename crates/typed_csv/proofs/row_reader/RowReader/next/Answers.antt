@@ -16,5 +16,5 @@ returns-in_err-cells-clause-cause g c =
 
 pub returns-in-NotText-clause-cause : goal.returns-in-NotText-clause-cause
 returns-in-NotText-clause-cause g c =
-    no_text_row c.args.self.now.schema.fields c.args.self.now.layout c.args.self.now.number c.in-Some.number
-    (grind (arith, common_steps))
+    no_text_row c.args.self.now.schema.fields c.args.self.now.layout c.args.self.now.number c.in_ok-number.number
+    c.in_ok-number.ensures.next
