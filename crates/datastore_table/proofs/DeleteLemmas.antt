@@ -1,8 +1,10 @@
 -- Deleted rows and remaining rows.
-use Rattle.std.proofs.Common.{◌≡◌, ℕ, Bool, true, false, ◌&&◌, ◌||◌, not, cond, List, [], ◌∷◌, filter, refl, ap}
+use Rattle.std.proofs.Common.{◌≡◌, ℕ, Bool, true, false, ◌&&◌, ◌||◌, not, cond, List, [], ◌∷◌, filter, find, refl, ap}
 use Rattle.std.specs.List.{list_any}
 use Rattle.datastore_table.specs.declared.row.Row.{Row}
-use Rattle.datastore_table.specs.Batch.{cut_rows, is_among}
+use Rattle.datastore_table.specs.Batch.{cut_rows, is_among, refers_to}
+use Rattle.datastore_table.specs.Put.{id_of}
+use Rattle.datastore_table.proofs.RowLemmas.{find-same}
 
 pub any-filter : {X : Type 0} (p q : X → Bool) (xs : List X)
     → list_any p (filter q xs) ≡ list_any (λ x. q x && p x) xs
@@ -23,3 +25,12 @@ any_staying p ids rows = any-filter p (λ row. not (is_among ids row.id)) rows
 pub delete-nothing : (rows : List Row) → cut_rows [] rows ≡ rows
 delete-nothing [] = refl
 delete-nothing (row ∷ rows) = ap (λ rest. row ∷ rest) (delete-nothing rows)
+
+-- The first key that a remaining row refers to.
+pub first_staying : (columns ids : List ℕ) (keys rows : List Row)
+    → id_of (find (λ key. list_any (refers_to columns key) (cut_rows ids rows)) keys)
+    ≡ id_of (find (λ key. list_any (λ row. not (is_among ids row.id) && refers_to columns key row) rows) keys)
+first_staying columns ids keys rows =
+    ap id_of (find-same (λ key. list_any (refers_to columns key) (cut_rows ids rows))
+    (λ key. list_any (λ row. not (is_among ids row.id) && refers_to columns key row) rows)
+    (λ key. any_staying (refers_to columns key) ids rows) keys)

@@ -1,8 +1,10 @@
 pub mod AcceptLemmas
+pub mod AmongLemmas
 pub mod ApartLemmas
 pub mod CellLemmas
 pub mod DeleteLemmas
 mod Examples
+pub mod FirstLemmas
 pub mod KeptLemmas
 pub mod KeyLemmas
 pub mod LookupLemmas

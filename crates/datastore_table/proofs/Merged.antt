@@ -144,7 +144,7 @@ find-least {X} cmp p a (x ∷ xs) up (inr m) passes least =
     by more true e = true_false (is_lt (cmp x a)) (ap is_lt (below_in cmp x a xs up.0 m)) (least x (inl refl) e)
     by more false e = ap (λ b. cond b (Some x) (find p xs)) e ∙ more
 
-find-nothing : {X : Type 0} (p : X → Bool) (xs : List X) → ((z : X) → IsIn z xs → p z ≡ false) → find p xs ≡ None
+pub find-nothing : {X : Type 0} (p : X → Bool) (xs : List X) → ((z : X) → IsIn z xs → p z ≡ false) → find p xs ≡ None
 find-nothing p [] none = refl
 find-nothing p (x ∷ xs) none =
     ap (λ b. cond b (Some x) (find p xs)) (none x (inl refl)) ∙ find-nothing p xs (λ z n. none z (inr n))

@@ -140,7 +140,7 @@ led_all column_lists rows index led columns m row n = led columns m row n refl
 -- ---- one more item of a list
 
 -- the rest of a list, and the rest after its first item
-rest_of : {X : Type 0} (xs : List X) (k : ℕ) (x : X) → k < length xs → x ≡ get_or xs k x
+pub rest_of : {X : Type 0} (xs : List X) (k : ℕ) (x : X) → k < length xs → x ≡ get_or xs k x
     → drop k xs ≡ x ∷ drop (k + 1) xs
 rest_of xs k x lt is =
     drop-cons xs k x lt ∙ ap (λ y. y ∷ drop (suc k) xs) (sym is) ∙ ap (λ n. x ∷ drop n xs) (step k)
@@ -149,7 +149,7 @@ rest_of xs k x lt is =
     step n = omega arith
 
 -- An item of the rest is its first item, or comes after it.
-split_rest : {X : Type 0} (xs : List X) (k : ℕ) (x z : X) → k < length xs → x ≡ get_or xs k x
+pub split_rest : {X : Type 0} (xs : List X) (k : ℕ) (x z : X) → k < length xs → x ≡ get_or xs k x
     → IsIn z (drop k xs) → (z ≡ x) ⊎ IsIn z (drop (k + 1) xs)
 split_rest xs k x z lt is m = subst (λ ys. IsIn z ys) (rest_of xs k x lt is) m
 

@@ -34,6 +34,10 @@ worked_on rows work = record {
 abbrev pub is_among : List ℕ → ℕ → Bool
 is_among ids id = list_any (λ i. i == id) ids
 
+-- the two lists have the same `_id`s
+abbrev pub HaveSame : List ℕ → List ℕ → Type 0
+HaveSame ids others = (id : ℕ) → is_among ids id ≡ is_among others id
+
 -- The rows have exactly these `_id`s: each row has one of them, and each of them belongs to a row.
 abbrev pub AreThoseOf : List ℕ → List Row → Type 0
 AreThoseOf ids rows = (id : ℕ) → list_any (has_id id) rows ≡ is_among ids id

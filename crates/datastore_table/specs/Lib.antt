@@ -1,6 +1,7 @@
 pub mod Batch
 pub mod Cells
 pub mod Index
+pub mod Keys
 pub mod Meets
 pub mod Put
 pub mod Record

@@ -5,6 +5,7 @@ ghost use Rattle.datastore_table.specs.References.{foreign_checked, foreign_fiel
 
 use crate::batch::Batch;
 use crate::fault::TableFault;
+use crate::ids::Ids;
 use crate::references::check_all;
 use crate::removal::{Removal, check_referred_from};
 use crate::rows::CurrentRows;
@@ -48,7 +49,14 @@ pub fn check_referred(removal: &Removal, referring: &Table, foreign: u32) -> Res
         referring.now.rows }
 {
     let columns = foreign_fields(referring.schema().foreign().as_slice(), foreign);
-    check_referred_from(columns, removal.keys.as_slice(), referring.rows(), &[])
+    let none = Ids::none(referring.alloc());
+    check_referred_from(
+        columns,
+        removal.keys.as_slice(),
+        &removal.index,
+        referring.rows(),
+        &none,
+    )
 }
 
 // The columns of the foreign key at this index.

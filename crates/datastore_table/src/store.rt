@@ -14,6 +14,7 @@ ghost use Rattle.datastore_table.specs.Index.{Leaves, LeavesAll, LeavesRows};
 ghost use Rattle.datastore_table.specs.Rows.{row_cmp, rows_after};
 
 use crate::cells::has_null_at;
+use crate::ids::Ids;
 use crate::index::Index;
 use crate::lookup_key::digest_at;
 use crate::removal::delete;
@@ -96,7 +97,7 @@ impl RowStore {
     }
 
     /// Deletes the rows with these `_id`s. It takes no memory and can't fail.
-    pub(crate) fn delete(&mut self, ids: &[u64])
+    pub(crate) fn delete(&mut self, ids: &Ids)
         requires ascending { IsAscending row_cmp self.old.rows.items }
         requires sound { IsSound self.old }
         ensures rows { self.new.rows.items ≡ cut_rows ids.now self.old.rows.items }
@@ -107,7 +108,7 @@ impl RowStore {
             &mut self.index,
             self.column_lists.as_slice(),
             self.rows.as_slice(),
-            ids,
+            ids.as_slice(),
         );
         delete(&mut self.rows, ids);
         self.ready = 0;

@@ -9,6 +9,7 @@ ghost use Rattle.table_schema.specs.Values.{is_map};
 ghost use Rattle.datastore_table.specs.declared.fault.TableFault.TheVariants.{OutOfMemory};
 ghost use Rattle.datastore_table.specs.Batch.{delete_checked, cut_rows, IsReady, removed_keys, worked_on};
 ghost use Rattle.datastore_table.specs.Index.{IsKeyed, IsStoreOf};
+ghost use Rattle.datastore_table.specs.Keys.{AreFound};
 ghost use Rattle.datastore_table.specs.Meets.{is_restorable, rows_of};
 ghost use Rattle.datastore_table.specs.Put.{put_records};
 ghost use Rattle.datastore_table.specs.Rows.{row_at, row_cmp, row_with, rows_after};
@@ -17,11 +18,13 @@ ghost use Rattle.datastore_table.specs.Table.{IsSameTable};
 use crate::admission::admit;
 use crate::batch::Batch;
 use crate::fault::TableFault;
+use crate::ids::Ids;
 use crate::index::Index;
+use crate::keys::index_of_keys;
 use crate::meets::{are_related, do_all_meet, is_numbered};
 use crate::method::Method;
 use crate::references::check_self_references;
-use crate::removal::{Removal, copy_of, removed_keys, restrict_self_references};
+use crate::removal::{Removal, removed_keys, restrict_self_references};
 use crate::row::{Row, rows_of};
 use crate::rows::{CurrentRows, row_at, row_with};
 use crate::store::RowStore;
@@ -204,10 +207,11 @@ impl Table {
         ensures ready { IfOk result (λ removal. delete_checked removal.ids self.new ≡ Ok tt) }
         ensures fault { IfErr result (λ fault. (fault ≡ OutOfMemory) ⊎ (delete_checked ids.now self.old ≡ Err fault)) }
     {
-        let keys = self.removed_keys(ids.as_slice())?;
-        self.check_delete(keys.as_slice(), ids.as_slice())?;
-        let ids = copy_of(self.alloc, ids.as_slice())?;
-        Ok(Removal { ids, keys })
+        let ids = Ids::copy_of(self.alloc, ids.as_slice())?;
+        let keys = self.removed_keys(&ids)?;
+        let index = index_of_keys(self.alloc, keys.as_slice())?;
+        self.check_delete(keys.as_slice(), &index, &ids)?;
+        Ok(Removal { ids, keys, index })
     }
 
     /// Deletes the rows of a removal that was prepared on this table and is still valid for it. It takes no memory and
@@ -218,7 +222,12 @@ impl Table {
         ensures next_id { self.new.next_id ≡ self.old.next_id }
         ensures schema { self.new.schema ≡ self.old.schema }
     {
-        self.store.delete(removal.ids.as_slice());
+        self.store.delete(&removal.ids);
+    }
+
+    /// The allocator that it takes its memory from.
+    pub(crate) fn alloc(&self) -> Global {
+        self.alloc
     }
 
     /// The index of its rows.
@@ -229,20 +238,22 @@ impl Table {
     }
 
     // The rows with these `_id`s, each with only the cells of its key.
-    fn removed_keys(&self, ids: &[u64]) -> Result<Vec<Row>, AllocError>
-        ensures { IfOk result (λ keys. keys.items ≡ removed_keys self.now.schema.key ids.now self.now.rows) }
+    fn removed_keys(&self, ids: &Ids) -> Result<Vec<Row>, AllocError>
+        ensures keys { IfOk result (λ keys. keys.items ≡ removed_keys self.now.schema.key ids.now self.now.rows) }
+        ensures ascending { IfOk result (λ keys. IsAscending row_cmp keys.items) }
     {
         let key = self.schema.key().as_slice();
         removed_keys(self.alloc, key, ids, self.store.rows.as_slice())
     }
 
     // Checks that no remaining row refers by a self reference to a row with one of these `_id`s.
-    fn check_delete(&self, keys: &[Row], ids: &[u64]) -> Result<(), TableFault>
-        requires { keys.now ≡ removed_keys self.now.schema.key ids.now self.now.rows }
+    fn check_delete(&self, keys: &[Row], index: &Index, ids: &Ids) -> Result<(), TableFault>
+        requires found { AreFound keys.now index.now }
+        requires keys { keys.now ≡ removed_keys self.now.schema.key ids.now self.now.rows }
         ensures { result ≡ delete_checked ids.now self.now }
     {
         let foreigns = self.schema.foreign().as_slice();
-        restrict_self_references(foreigns, keys, self.store.rows.as_slice(), ids)
+        restrict_self_references(foreigns, keys, index, self.store.rows.as_slice(), ids)
     }
 
     // What a batch writes, or the fault that refuses it.

@@ -1,7 +1,7 @@
-use Rattle.std.proofs.Common.{◌≡◌, ◌*◌, List, arith, length, rules, subst, sym}
+use Rattle.std.proofs.Common.{◌≡◌, ◌*◌, ℕ, List, arith, length, rules, subst, sym}
 use Rattle.datastore_table.specs.declared.row.Row.{Row}
 use Rattle.datastore_table.specs.Batch.{cut_rows}
-use Rattle.datastore_table.specs.Index.{IsIndexed}
+use Rattle.datastore_table.specs.Index.{IsIndexed, LeavesAll}
 use Rattle.datastore_table.proofs.StoreLemmas.{delete_indexed, room_times}
 use Rattle.datastore_table.proofs.store.RowStore.delete.Goals as goal
 
@@ -9,13 +9,16 @@ pub returns-clause-sound : goal.returns-clause-sound
 returns-clause-sound c =
     let old = c.args.self.now in
     let rows : c.delete.new.rows.items ≡ cut_rows c.args.ids.now old.rows.items = c.delete.ensures in
+    let leaves : LeavesAll old.index c.leave_all.new.index c.args.ids.now =
+    subst (λ (ids : List ℕ). LeavesAll old.index c.leave_all.new.index ids) c.as_slice-3.ensures
+    c.leave_all.ensures.leaves in
     record {
       indexed = subst (λ (rs : List Row). IsIndexed old.column_lists.items rs c.leave_all.new.index) (sym rows)
           (delete_indexed old.column_lists.items c.args.ids.now old.rows.items old.index c.leave_all.new.index
-          c.requires.sound.indexed c.leave_all.ensures.leaves);
+          c.requires.sound.indexed leaves);
       ready = record {
         rows = search rules;
-        index = c.leave_all.ensures.leaves.room (0 * length old.column_lists.items)
+        index = leaves.room (0 * length old.column_lists.items)
             (room_times old.index 0 old.ready (length old.column_lists.items) (omega arith)
             c.requires.sound.ready.index);
       };

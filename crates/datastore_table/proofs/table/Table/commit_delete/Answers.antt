@@ -16,8 +16,7 @@ invariant_of-self c =
     let next : c.self.inside.next_id ≡ table.next_id = ap (λ (t : TableValue). t.next_id) c.self.view_is in
     let whole : IsTable table.schema table.rows table.next_id =
     subst (λ (t : TableValue). IsTable t.schema t.rows t.next_id) c.self.view_is c.self.invariant.table in
-    let taken : c.as_slice.result.now ≡ ids =
-    c.as_slice.ensures ∙ ap (λ (r : RemovalValue). r.ids) c.removal.view_is in
+    let taken : c.removal.inside.ids ≡ ids = ap (λ (r : RemovalValue). r.ids) c.removal.view_is in
     let rows : c.delete.new.self.rows.items ≡ cut_rows ids table.rows =
     c.delete.ensures.rows ∙ ap₂ cut_rows taken (ap (λ (t : TableValue). t.rows) c.self.view_is) in
     record {
