@@ -118,10 +118,7 @@ pub fn left(alloc: Global, case: &Case, answer: &mut Buffer) -> io::Result<()> {
     let mut link = link_of(alloc, bytes.bytes()?, 0)?;
     let inner = link_of(alloc, bytes.bytes()?, 0)?;
     answer.push_buffer(&left_of(alloc, &mut link));
-    answer.push_difference(
-        ", byte by byte ",
-        &left_of(alloc, &mut OneByOne { inner }),
-    );
+    answer.push_difference(", byte by byte ", &left_of(alloc, &mut OneByOne { inner }));
     Ok(())
 }
 
