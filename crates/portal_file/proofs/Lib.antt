@@ -1,4 +1,5 @@
 mod FileLemmas
+mod KeyedLemmas
 mod OpeningLemmas
 mod PairLemmas
 mod TableLemmas

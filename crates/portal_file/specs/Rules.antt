@@ -60,6 +60,14 @@ is_role_among users r = is_some (role_named r.role) && is_name_among users r.use
 abbrev pub are_roles_among : List User → List NamedRole → Bool
 are_roles_among users roles = list_all (is_role_among users) roles
 
+-- the first broken rule of those on organizations
+abbrev pub broken_org_rule : Users → Orgs → Option FileRule
+broken_org_rule users orgs =
+    if not (have_org_file_names orgs.orgs) then Some rule.OrganizationName
+    else if not (have_distinct_org_names orgs.orgs) then Some rule.RepeatedOrganization
+    else if not (are_roles_among users.users orgs.roles) then Some rule.Role
+    else None
+
 -- the first broken rule, of those after `toml`
 abbrev pub broken_rule : Users → Orgs → Option FileRule
 broken_rule users orgs =
@@ -67,10 +75,7 @@ broken_rule users orgs =
     else if not (have_distinct_names users.users) then Some rule.RepeatedUser
     else if not (have_digests users.tokens) then Some rule.Token
     else if not (have_distinct_digests users.tokens) then Some rule.RepeatedToken
-    else if not (have_org_file_names orgs.orgs) then Some rule.OrganizationName
-    else if not (have_distinct_org_names orgs.orgs) then Some rule.RepeatedOrganization
-    else if not (are_roles_among users.users orgs.roles) then Some rule.Role
-    else None
+    else broken_org_rule users orgs
 
 -- the name of a rule in messages
 abbrev pub rule_name : FileRule → List ℕ

@@ -65,7 +65,7 @@ fn file_with(alloc: Global, users: Users, orgs: Orgs) -> Result<PortalFile, File
     ensures rule { (rule : FileRule) → IsErrOf result (FileFault.Rule rule) → file_with users orgs ≡ Err rule }
     ensures pairs { AreConsistent orgs → IfOk result (λ file. IsTrue (have_distinct_pairs file.roles)) }
 {
-    if let Some(rule) = broken_rule(&users, &orgs) {
+    if let Some(rule) = broken_rule(alloc, &users, &orgs)? {
         return Err(FileFault::Rule(rule));
     }
     let roles = memberships_of(alloc, orgs.roles.as_slice())?;

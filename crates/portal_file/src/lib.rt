@@ -7,6 +7,7 @@ mod orgs;
 mod rule;
 mod rules;
 mod tables;
+mod text_set;
 mod users;
 
 pub use entries::{NamedRole, Orgs, Users};

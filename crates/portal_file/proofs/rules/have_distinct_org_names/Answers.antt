@@ -1,0 +1,6 @@
+use Rattle.std.proofs.Common.{◌∙◌}
+use Rattle.portal_file.proofs.KeyedLemmas.{distinct_by, org_names_distinct}
+use Rattle.portal_file.proofs.rules.have_distinct_org_names.Goals as goal
+
+pub returns : goal.returns
+returns c = distinct_by _ _ _ c.are_distinct.ensures (org_names_distinct c.args.orgs.now)
