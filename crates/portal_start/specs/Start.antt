@@ -11,7 +11,6 @@ use Rattle.portal_file.specs.declared.file.PortalFile.{PortalFile}
 use Rattle.portal_file.specs.declared.rule.FileRule.{FileRule}
 use Rattle.portal_serve.specs.Defaults.{default_state, default_digests}
 use Rattle.portal_serve.specs.Tokens.{Digests}
-use Rattle.portal_status.specs.declared.fetch.TheConstants.{LONGEST_FILE}
 use Rattle.portal_status.specs.declared.status.Status.{Status}
 use Rattle.portal_status.specs.declared.status.Status.TheVariants as status
 use Rattle.portal_status.specs.Fetch.{FailsToFetch, FetchTrace, HoldsFile}
@@ -68,11 +67,11 @@ BeginsAnd fetch_trace portal status P Untouched =
     ((beginning : Beginning) × Begins fetch_trace portal beginning × P beginning) ⊎
     (FailsToBegin fetch_trace portal status × Untouched)
 
--- Where the fetcher is observable, the status for a file of at most 16 MiB that breaks a rule names that rule, unless
+-- Where the fetcher is observable, the status for a file of at most 16 MiB (16,777,216 bytes) that breaks a rule names that rule, unless
 -- memory ran out or the fetcher failed.
 abbrev pub ReportsRule : FetchTrace → Option (List ℕ) → Status → Type 0
 ReportsRule fetch_trace portal ended =
     (location bytes : List ℕ) → (rule : FileRule) → (held : List ℕ → Option (List ℕ)) → portal ≡ Some location
-    → fetch_trace.held ≡ Some held → held location ≡ Some bytes → length bytes ≤ LONGEST_FILE → file_of bytes ≡ Err rule
+    → fetch_trace.held ≡ Some held → held location ≡ Some bytes → length bytes ≤ 16777216 → file_of bytes ≡ Err rule
     → (ended ≡ status.PortalFile (codes "portal file: " ++ rule_name rule))
     ⊎ ((ended ≡ status.OutOfMemory) ⊎ Rose fetch_trace.before fetch_trace.after)

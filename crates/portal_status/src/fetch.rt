@@ -27,7 +27,7 @@ pub fn fetch_file<F: Fetcher>(
     location: &str,
 ) -> Result<Vec<u8>, Status>
     ensures bytes { IfOk result (λ bytes. HoldsAt (F.held fetcher.old) location.now bytes.items) }
-    ensures within { IfOk result (λ bytes. length bytes.items ≤ LONGEST_FILE) }
+    ensures within { IfOk result (λ bytes. length bytes.items ≤ 16777216) }
     ensures fails { IfErr result (FailsToFetch
         (fetch_trace (F.held fetcher.old) (F.faults fetcher.old) (F.faults fetcher.new)) location.now) }
     ensures held { F.held fetcher.new ≡ F.held fetcher.old }
