@@ -1,5 +1,5 @@
 //! A piece of records that are inserted together.
-ghost use Rattle.std.specs.Prelude.{◌≡◌, ◌∷◌, [], ◌++◌, ◌≤◌, ◌^◌, None, OnOk, OnErr, IfOk, IfSome};
+ghost use Rattle.std.specs.Prelude.{◌≡◌, ◌∷◌, [], ◌++◌, ◌≤◌, ◌^◌, None, Ok, OnOk, OnErr, IfOk, IfSome};
 ghost use Rattle.row_inserts.specs.Inserts.{fit, insert_body, insert_size, is_full};
 ghost use Rattle.row_inserts.specs.Piece.{Clears, IsInsertOf, Puts, piece_with, takes};
 
@@ -165,14 +165,16 @@ impl Piece {
         Ok(Some(insert))
     }
 
-    /// Takes all records out, as their insert, if there are any. If memory runs out, they are lost.
+    /// Takes all records out, as their insert, if there are any, which alone takes memory. If memory runs out, they are
+    /// lost.
     pub fn take_rest(&mut self) -> Result<Option<Insert>, AllocError>
         ensures cleared { IfOk result (λ insert. Clears self.old insert self.new) }
+        ensures none { self.old.records ≡ [] → result ≡ Ok None }
         ensures resource { self.new.resource ≡ self.old.resource }
     {
-        if self.records.is_empty() {
-            return Ok(None);
+        if !self.records.is_empty() {
+            return Ok(Some(self.take()?));
         }
-        Ok(Some(self.take()?))
+        Ok(None)
     }
 }
