@@ -1,3 +1,4 @@
+pub mod DecidingLemmas
 pub mod DistinctLemmas
 mod Examples
 pub mod FilterLemmas

@@ -2,6 +2,7 @@ pub mod Column
 pub mod Distinct
 pub mod Filter
 pub mod Query
+pub mod Repeats
 pub mod Results
 pub mod Sort
 pub mod SortText

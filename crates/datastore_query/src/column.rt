@@ -1,16 +1,20 @@
 //! The columns of a table's rows: `_id` and the fields.
-ghost use Rattle.std.specs.Prelude.{◌≡◌, ◌∷◌, All, IfOk, Ok, length, map, option_copied, option_map, position};
+ghost use Rattle.std.specs.Prelude.{◌≡◌, ◌∷◌, ℕ, All, IfOk, Ok, OnOk, length, map, nat_eq, not, option_copied, option_map};
+ghost use Rattle.std.specs.Prelude.{position};
+ghost use Rattle.std.specs.HashSet.{contains};
 ghost use Rattle.std.specs.Str.{bytes_eq};
 ghost use Rattle.table_schema.specs.Printed.{IsValue};
 ghost use Rattle.datastore_query.specs.Column.{all_columns, column_cell, column_kind, column_name, column_of};
 ghost use Rattle.datastore_query.specs.Column.{column_reading, columns_reading, id_cell, named_columns, no_field_error};
 ghost use Rattle.datastore_query.specs.Column.{field_index, projected};
+ghost use Rattle.datastore_query.specs.Repeats.{column_number, with_number};
 
 use datastore_table::Row;
 use portal_base::copy::TryClone;
 use portal_base::seq::Seq;
 use portal_base::text::Text;
 use std::alloc::{AllocError, Global};
+use std::collections::HashSet;
 use table_schema::{Cell, Field, Kind};
 
 /// The name of the column of `_id`s.
@@ -175,4 +179,25 @@ pub(crate) fn projected(
         cells.push(cell_of(alloc, row, *column)?)?;
     }
     Ok(Seq::from(cells))
+}
+
+// ---- repeated columns
+
+// A number for each column.
+fn column_number(column: Column) -> u128
+    ensures { result ≡ column_number column }
+{
+    match column {
+        Column::Id => 0,
+        Column::Field(index) => index as u128 + 1,
+    }
+}
+
+/// Adds a column to the columns seen before, each by its number. Returns whether the column is new.
+pub(crate) fn add_column(seen: &mut HashSet<u128>, column: Column) -> Result<bool, AllocError>
+    ensures new { IfOk result (λ new. new ≡ not (contains nat_eq seen.old (column_number column))) }
+    ensures seen { OnOk result ((n : ℕ) → contains nat_eq seen.new n
+        ≡ with_number (column_number column) (contains nat_eq seen.old) n) }
+{
+    Ok(seen.insert(column_number(column))?)
 }

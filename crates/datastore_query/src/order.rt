@@ -1,5 +1,5 @@
 //! The order of rows by the columns of a sort.
-ghost use Rattle.std.specs.Prelude.{◌≡◌};
+ghost use Rattle.std.specs.Prelude.{◌≡◌, OnOk};
 ghost use Rattle.portal_base.specs.Ordered.{IsAscending};
 ghost use Rattle.table_schema.specs.Order.{cell_cmp};
 ghost use Rattle.datastore_table.specs.Cells.{cell_at};
@@ -7,10 +7,11 @@ ghost use Rattle.datastore_table.specs.Rows.{row_cmp};
 ghost use Rattle.datastore_query.specs.Sort.{column_cmp, in_order, sort_cmp, sorts_cmp};
 
 use crate::column::Column;
-use crate::sort::Sort;
+use crate::sort::{Sort, deciding};
 use crate::sort_text::Direction;
 use datastore_table::Row;
 use portal_base::ordered::Ordered;
+use std::alloc::{AllocError, Global};
 use std::cmp::Ordering;
 use std::marker::Model;
 use table_schema::Cell;
@@ -92,8 +93,8 @@ fn compare_lent(sorts: &[Sort], one: &LentRow, other: &LentRow) -> Ordering
     compare(sorts, one.row(), other.row())
 }
 
-/// Sorts rows that are in ascending order of their `_id`. It takes no memory.
-pub(crate) fn put_in_order(rows: &mut Vec<LentRow>, sorts: &[Sort])
+// Sorts rows that are in ascending order of their `_id`. It takes no memory.
+fn put_in_order(rows: &mut Vec<LentRow>, sorts: &[Sort])
     requires { IsAscending row_cmp rows.old.items }
     ensures { rows.new.items ≡ in_order sorts.now rows.old.items }
 {
@@ -102,4 +103,20 @@ pub(crate) fn put_in_order(rows: &mut Vec<LentRow>, sorts: &[Sort])
             ensures { result ≡ sorts_cmp sorts.entry.now one.now other.now }
         { compare_lent(sorts, one, other) },
     );
+}
+
+/// Sorts rows that are in ascending order of their `_id`. Rows are compared once by each column, however often the sorts
+/// name it.
+#[tactic(auto, using(crate::proofs::DecidingLemmas::deciding_order))]
+pub(crate) fn sort_rows(
+    alloc: Global,
+    rows: &mut Vec<LentRow>,
+    sorts: &[Sort],
+) -> Result<(), AllocError>
+    requires { IsAscending row_cmp rows.old.items }
+    ensures { OnOk result (rows.new.items ≡ in_order sorts.now rows.old.items) }
+{
+    let first = deciding(alloc, sorts)?;
+    put_in_order(rows, first.as_slice());
+    Ok(())
 }

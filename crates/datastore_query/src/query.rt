@@ -13,7 +13,7 @@ ghost use Rattle.datastore_query.specs.Query.{query_reading, part_errors};
 use crate::column::{Column, columns_of, names_of};
 use crate::fault::QueryFault;
 use crate::filter::{Filter, filters_of, passes_filters};
-use crate::order::{LentRow, put_in_order};
+use crate::order::{LentRow, sort_rows};
 use crate::page::Page;
 use crate::parts::Parts;
 use crate::rows::{PageBounds, copies, firsts, page_of, projections, selected};
@@ -203,7 +203,7 @@ impl Query {
         ensures total { IfOk result (λ listed. listed.total ≡ length (listing self.now rows.now)) }
     {
         let mut ordered = selected(alloc, self.filters.as_slice(), self.words.as_slice(), rows)?;
-        put_in_order(&mut ordered, self.sorts.as_slice());
+        sort_rows(alloc, &mut ordered, self.sorts.as_slice())?;
         if self.distinct {
             self.distinct(alloc, ordered.as_slice())
         } else {

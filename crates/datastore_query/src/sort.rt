@@ -4,12 +4,14 @@ ghost use Rattle.std.specs.List.{list_any};
 ghost use Rattle.datastore_query.specs.Sort.{first_unknown, is_unreadable, sort_of, sort_reading, sorts_in};
 ghost use Rattle.datastore_query.specs.Sort.{unknown_name};
 ghost use Rattle.datastore_query.specs.SortText.{is_unclosed, part_reading, parts_of};
+ghost use Rattle.datastore_query.specs.Repeats.{deciding};
 
-use crate::column::{Column, column_of, no_field_error};
+use crate::column::{Column, add_column, column_of, no_field_error};
 use crate::sort_text::{Direction, directed, is_unclosed, name_of, split_at_comma};
 use portal_base::seq::Seq;
 use portal_base::text::Text;
 use std::alloc::{AllocError, Global};
+use std::collections::HashSet;
 use table_schema::Field;
 
 /// One column that rows are sorted by, and the direction.
@@ -132,4 +134,18 @@ pub(crate) fn sorts_of(
         return Ok(Err(Text::from_static("Sort is not readable")));
     }
     Ok(Ok(sorts_in(alloc, fields, parts.as_slice())?))
+}
+
+/// The first sort of each column, which alone decide the order of rows.
+pub(crate) fn deciding(alloc: Global, sorts: &[Sort]) -> Result<Vec<Sort>, AllocError>
+    ensures { IfOk result (λ first. first.items ≡ deciding sorts.now) }
+{
+    let mut first = Vec::new(alloc);
+    let mut seen = HashSet::new(alloc);
+    for sort in sorts {
+        if add_column(&mut seen, sort.column)? {
+            first.push(*sort)?;
+        }
+    }
+    Ok(first)
 }
