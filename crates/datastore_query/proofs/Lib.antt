@@ -8,4 +8,6 @@ pub mod OrderLemmas
 pub mod PartLemmas
 pub mod ResultLemmas
 pub mod RowLemmas
+pub mod SearchLemmas
 pub mod SortLemmas
+pub mod WordLemmas

@@ -1,5 +1,6 @@
--- Columns that a query names more than once. No public clause cites this.
-use Rattle.std.specs.Prelude.{ℕ, ◌+◌, ◌==◌, ◌||◌, Bool, List}
+-- What a query names more than once. No public clause cites this.
+use Rattle.std.specs.Prelude.{◌≡◌, ℕ, ◌+◌, ◌==◌, ◌||◌, Bool, List}
+use Rattle.std.specs.List.{list_all}
 use Rattle.datastore_query.specs.declared.column.Column.{Column}
 use Rattle.datastore_query.specs.declared.column.Column.TheVariants as column
 use Rattle.datastore_query.specs.declared.sort.Sort.{Sort}
@@ -23,3 +24,7 @@ by_one_column a b = is_same_column a.column b.column
 -- the first sort of each column
 abbrev pub deciding : List Sort → List Sort
 deciding sorts = firsts by_one_column sorts
+
+-- The two lists have the same items: a test passes all items of the one if it passes all of the other.
+abbrev pub PassAlike : {X : Type 0} → List X → List X → Type 0
+PassAlike {X} xs ys = (p : X → Bool) → list_all p ys ≡ list_all p xs

@@ -12,7 +12,7 @@ ghost use Rattle.datastore_query.specs.Query.{firsts, is_selected, with_first};
 use crate::column::{Column, projected};
 use crate::filter::{Filter, passes_filters};
 use crate::order::LentRow;
-use crate::words::has_words;
+use crate::words::{WordSet, has_words};
 use datastore_table::{Row, cells_digest};
 use portal_base::copy::TryClone;
 use portal_base::seq::Seq;
@@ -40,7 +40,7 @@ pub(crate) fn page_of<T>(items: &[T], bounds: PageBounds) -> &[T]
 fn is_selected(
     alloc: Global,
     filters: &[Filter],
-    words: &[Text],
+    words: &WordSet,
     row: &Row,
 ) -> Result<bool, AllocError>
     requires { All IsValue row.now.cells }
@@ -63,9 +63,10 @@ pub(crate) fn selected<'a>(
     requires { All (λ row. All IsValue row.cells) rows.now }
     ensures { IfOk result (λ selected. selected.items ≡ filter (is_selected filters.now words.now) rows.now) }
 {
+    let words = WordSet::of(alloc, words)?;
     let mut selected = Vec::new(alloc);
     for row in rows {
-        if is_selected(alloc, filters, words, row)? {
+        if is_selected(alloc, filters, &words, row)? {
             selected.push(LentRow::of(row))?;
         }
     }
