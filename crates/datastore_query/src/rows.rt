@@ -1,12 +1,13 @@
 //! The rows of a query: their selection, their cells, distinct rows and a page of them.
 ghost use Rattle.std.specs.Prelude.{◌≡◌, [], true, All, IfOk, IsTrue, OnOk, drop, filter, fold, map, nat_eq, take};
 ghost use Rattle.std.specs.HashMap.{get};
+ghost use Rattle.std.specs.Hash.DefaultHasher as sip;
 ghost use Rattle.std.specs.List.{list_any};
+ghost use Rattle.table_schema.specs.Order.{type_rank};
 ghost use Rattle.table_schema.specs.Printed.{IsValue};
 ghost use Rattle.datastore_table.specs.Cells.{same_cells};
-ghost use Rattle.datastore_table.specs.Index.{digest_of};
 ghost use Rattle.datastore_query.specs.Column.{projected};
-ghost use Rattle.datastore_query.specs.Distinct.{HaveDigests};
+ghost use Rattle.datastore_query.specs.Distinct.{HaveDigests, row_digest};
 ghost use Rattle.datastore_query.specs.Query.{firsts, is_selected, with_first};
 
 use crate::column::{Column, projected};
@@ -19,6 +20,7 @@ use portal_base::seq::Seq;
 use portal_base::text::Text;
 use std::alloc::{AllocError, Global};
 use std::collections::HashMap;
+use std::hash::{DefaultHasher, Hasher};
 use table_schema::Cell;
 
 /// The bounds of a page: it skips `offset` items and has at most `limit` items.
@@ -118,10 +120,40 @@ fn is_at(rows: &[Seq<Cell>], index: usize, row: &[Cell]) -> bool
     }
 }
 
+// The rank of a cell's type.
+fn type_rank(cell: &Cell) -> u8
+    ensures { result ≡ type_rank cell.now }
+{
+    match cell {
+        Cell::Text(_) => 0,
+        Cell::Int(_) => 1,
+        Cell::Number(_) => 2,
+        Cell::Truth(_) => 3,
+        Cell::Date(_) => 4,
+        Cell::Time(_) => 5,
+        Cell::Stamp(_) => 6,
+        Cell::Year(_) => 7,
+        Cell::YearMonth(_, _) => 8,
+        Cell::Null => 9,
+    }
+}
+
+// A digest of a row's cells. Unequal rows seldom have equal digests, also where null stands in one and 0 in the other.
+fn row_digest(cells: &[Cell]) -> u64
+    ensures { result ≡ row_digest cells.now }
+{
+    let mut hasher = DefaultHasher::new();
+    for cell in cells {
+        hasher.write_u8(type_rank(cell));
+    }
+    hasher.write_u64(cells_digest(cells));
+    hasher.finish()
+}
+
 // Whether the row with this digest is among the kept rows. `by_digest` has the digest of each kept row, with an index.
 fn is_kept(kept: &[Seq<Cell>], by_digest: &HashMap<u64, usize>, row: &[Cell], digest: u64) -> bool
     requires by_digest { HaveDigests kept.now (get nat_eq by_digest.now) }
-    requires digest { digest ≡ digest_of [] row.now }
+    requires digest { digest ≡ row_digest row.now }
     ensures { result ≡ list_any (same_cells row.now) kept.now }
 {
     match by_digest.get(&digest) {
@@ -140,7 +172,7 @@ fn keep(
     ensures kept { OnOk result (kept.new.items ≡ with_first same_cells kept.old.items row) }
     ensures by_digest { OnOk result (HaveDigests kept.new.items (get nat_eq by_digest.new)) }
 {
-    let digest = cells_digest(row.as_slice());
+    let digest = row_digest(row.as_slice());
     if is_kept(kept.as_slice(), by_digest, row.as_slice(), digest) {
         return Ok(());
     }
