@@ -10,4 +10,5 @@ pub mod ResultLemmas
 pub mod RowLemmas
 pub mod SearchLemmas
 pub mod SortLemmas
+pub mod ValueLemmas
 pub mod WordLemmas

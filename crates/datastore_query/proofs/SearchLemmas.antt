@@ -1,9 +1,9 @@
 -- What a search by halves finds in a list that is in order.
-use Rattle.std.proofs.Common.{◌≡◌, ℕ, suc, ◌+◌, ◌<◌, ◌≤◌, length, get_or, Bool, true, false, ◌||◌, List, [], ◌∷◌}
+use Rattle.std.proofs.Common.{◌≡◌, ℕ, suc, ◌<◌, ◌≤◌, length, get_or, Bool, true, false, ◌||◌, List, [], ◌∷◌}
 use Rattle.std.proofs.Common.{Result, Ok, Err, refl, sym, ap, ap₂, ◌∙◌, arith, zero, inl, inr}
 use Rattle.std.specs.Prelude.{is_ok, ◌⊎◌}
 use Rattle.std.specs.declared.cmp.Ordering.{Ordering}
-use Rattle.std.specs.declared.cmp.Ordering.TheVariants.{Less, Equal, Greater}
+use Rattle.std.specs.declared.cmp.Ordering.TheVariants.{Less, Greater}
 use Rattle.std.specs.Ordering.{is_lt, is_eq}
 use Rattle.std.specs.Cmp.{IsTotalOrder}
 use Rattle.std.specs.List.{list_any}
@@ -34,20 +34,26 @@ one_passes p (x ∷ xs) (suc i) lt h =
     or_true true = refl
     or_true false = refl
 
+-- If a search by halves finds nothing, no item is equal.
+pub none_found : {X : Type 0} {R : X → X → Ordering} (o : IsTotalOrder R) (xs : List X) (x : X) (i : ℕ)
+    → IsSortedBy (λ a b. is_lt (R a b)) xs → IsBinarySearchResult (λ y. R y x) xs (Err i)
+    → list_any (λ y. is_eq (R y x)) xs ≡ false
+none_found {X} {R} o xs x i up parts =
+    let sides = parts (searchable_from_sorted o (λ y. y) xs x up) in
+    none_passes (λ y. is_eq (R y x)) xs (λ k d lt. beside k d (cases_lt k i) lt sides)
+  where
+    beside : (k : ℕ) (d : X) → (k < i) ⊎ (i ≤ k) → k < length xs
+        → IsPartitionPoint (λ y. R y x ≡ Less) (λ y. R y x ≡ Greater) xs i → is_eq (R (get_or xs k d) x) ≡ false
+    beside k d (inl below) lt sides = ap is_eq (sides.0 k d (omega arith) below)
+    beside k d (inr above) lt sides = ap is_eq (sides.1 k d above lt)
+
 -- A search by halves finds an item exactly where one is equal.
 pub found_where_any : {X : Type 0} {R : X → X → Ordering} (o : IsTotalOrder R) (xs : List X) (x : X) (r : Result ℕ ℕ)
     → IsSortedBy (λ a b. is_lt (R a b)) xs → IsSearchInRange r (length xs) → IsBinarySearchResult (λ y. R y x) xs r
     → is_ok r ≡ list_any (λ y. is_eq (R y x)) xs
 found_where_any {X} {R} o xs x (Ok i) up within at =
     sym (one_passes (λ y. is_eq (R y x)) xs i within (λ d. ap is_eq (at d)))
-found_where_any {X} {R} o xs x (Err i) up within parts =
-    let sides = parts (searchable_from_sorted o (λ y. y) xs x up) in
-    sym (none_passes (λ y. is_eq (R y x)) xs (λ k d lt. beside k d (cases_lt k i) lt sides))
-  where
-    beside : (k : ℕ) (d : X) → (k < i) ⊎ (i ≤ k) → k < length xs
-        → IsPartitionPoint (λ y. R y x ≡ Less) (λ y. R y x ≡ Greater) xs i → is_eq (R (get_or xs k d) x) ≡ false
-    beside k d (inl below) lt sides = ap is_eq (sides.0 k d (omega arith) below)
-    beside k d (inr above) lt sides = ap is_eq (sides.1 k d above lt)
+found_where_any o xs x (Err i) up within parts = sym (none_found o xs x i up parts)
 
 -- A test that passes less than one that passes no item passes none.
 pub none_of_fewer : {X : Type 0} (p q : X → Bool) → ((x : X) → p x ≡ true → q x ≡ true) → (xs : List X)

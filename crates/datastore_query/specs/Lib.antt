@@ -1,6 +1,7 @@
 pub mod Column
 pub mod Distinct
 pub mod Filter
+pub mod OrderedValues
 pub mod Query
 pub mod Repeats
 pub mod Results

@@ -1,4 +1,4 @@
-//! Filters: which rows have one of the given values in a column.
+//! Filters as the JSON object of a query has them: a column, and values of which a row has one there.
 ghost use Rattle.std.specs.Prelude.{◌≡◌, ◌∷◌, [], IfOk, IsTrue, None, Ok, filter, map, option_copied, true};
 ghost use Rattle.std.specs.Cmp.Lexicographic.{slice_cmp};
 ghost use Rattle.std.specs.List.{filter_map, list_all, list_any, reduce};
@@ -27,8 +27,6 @@ pub(crate) struct Filter {
     pub column: Column,
     pub values: Seq<Cell>,
 }
-
-// ---- reading
 
 // The cell of one value, by the type alone, without the field's format and constraints. JSON's null is Null.
 fn filter_cell(alloc: Global, kind: Kind, value: &Json) -> Result<Option<Cell>, AllocError>
@@ -203,52 +201,4 @@ pub(crate) fn filters_of(
         Some(name) => Ok(Err(type_error(alloc, name.as_str())?)),
         None => Ok(Ok(filters_in(alloc, fields, entries)?)),
     }
-}
-
-// ---- passing
-
-// Whether the value is this `_id`.
-fn is_id(id: u64, value: &Cell) -> bool
-    ensures { result ≡ is_id id value.now }
-{
-    match value {
-        Cell::Int(number) => i128::from(*number) == i128::from(id),
-        _ => false,
-    }
-}
-
-// Whether the cell at this index is the value.
-fn is_at(cells: &[Cell], index: usize, value: &Cell) -> bool
-    ensures { result ≡ same_cell (cell_at cells.now index) value.now }
-{
-    match cells.get(index) {
-        Some(cell) => cell.is_same(value),
-        None => Cell::Null.is_same(value),
-    }
-}
-
-fn has_value(row: &Row, column: Column, value: &Cell) -> bool
-    ensures { result ≡ has_value column row.now value.now }
-{
-    match column {
-        Column::Id => is_id(row.id, value),
-        Column::Field(index) => is_at(row.cells.as_slice(), index, value),
-    }
-}
-
-fn passes_filter(row: &Row, filter: &Filter) -> bool
-    ensures { result ≡ passes_filter row.now filter.now }
-{
-    filter
-        .values
-        .as_slice()
-        .iter()
-        .any(|value| has_value(row, filter.column, value))
-}
-
-/// Whether a row passes all filters.
-pub(crate) fn passes_filters(row: &Row, filters: &[Filter]) -> bool
-    ensures { result ≡ passes_filters filters.now row.now }
-{
-    filters.iter().all(|filter| passes_filter(row, filter))
 }

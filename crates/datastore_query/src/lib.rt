@@ -7,6 +7,7 @@ mod fault;
 mod filter;
 pub mod laws;
 mod order;
+mod ordered_filter;
 mod page;
 mod parts;
 mod query;

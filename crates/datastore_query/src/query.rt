@@ -12,8 +12,9 @@ ghost use Rattle.datastore_query.specs.Query.{query_reading, part_errors};
 
 use crate::column::{Column, columns_of, names_of};
 use crate::fault::QueryFault;
-use crate::filter::{Filter, filters_of, passes_filters};
+use crate::filter::{Filter, filters_of};
 use crate::order::{LentRow, sort_rows};
+use crate::ordered_filter::{passes_filters, with_values_in_order};
 use crate::page::Page;
 use crate::parts::Parts;
 use crate::rows::{PageBounds, copies, firsts, page_of, projections, selected};
@@ -138,9 +139,10 @@ impl Query {
     pub fn ids(&self, alloc: Global, table: &Table) -> Result<Seq<u64>, AllocError>
         ensures { IfOk result (λ ids. ids ≡ filtered_ids self.now table.now.rows) }
     {
+        let filters = with_values_in_order(alloc, self.filters.as_slice())?;
         let mut ids = Vec::new(alloc);
         for row in table.rows() {
-            if passes_filters(row, self.filters.as_slice()) {
+            if passes_filters(row, filters.as_slice()) {
                 ids.push(row.id)?;
             }
         }

@@ -1,7 +1,6 @@
 //! The rows of a query: their selection, their cells, distinct rows and a page of them.
 ghost use Rattle.std.specs.Prelude.{◌≡◌, [], true, All, IfOk, IsTrue, OnOk, drop, filter, fold, map, nat_eq, take};
 ghost use Rattle.std.specs.HashMap.{get};
-ghost use Rattle.std.specs.Hash.DefaultHasher as sip;
 ghost use Rattle.std.specs.List.{list_any};
 ghost use Rattle.table_schema.specs.Order.{type_rank};
 ghost use Rattle.table_schema.specs.Printed.{IsValue};
@@ -11,8 +10,9 @@ ghost use Rattle.datastore_query.specs.Distinct.{HaveDigests, row_digest};
 ghost use Rattle.datastore_query.specs.Query.{firsts, is_selected, with_first};
 
 use crate::column::{Column, projected};
-use crate::filter::{Filter, passes_filters};
+use crate::filter::Filter;
 use crate::order::LentRow;
+use crate::ordered_filter::{OrderedFilter, passes_filters, with_values_in_order};
 use crate::words::{WordSet, has_words};
 use datastore_table::{Row, cells_digest};
 use portal_base::copy::TryClone;
@@ -41,7 +41,7 @@ pub(crate) fn page_of<T>(items: &[T], bounds: PageBounds) -> &[T]
 // Whether a row passes the filters and has the words.
 fn is_selected(
     alloc: Global,
-    filters: &[Filter],
+    filters: &[OrderedFilter],
     words: &WordSet,
     row: &Row,
 ) -> Result<bool, AllocError>
@@ -55,6 +55,25 @@ fn is_selected(
     }
 }
 
+// The rows that pass the filters and have the words.
+fn select<'a>(
+    alloc: Global,
+    filters: &[OrderedFilter],
+    words: &WordSet,
+    rows: &'a [Row],
+) -> Result<Vec<LentRow<'a>>, AllocError>
+    requires { All (λ row. All IsValue row.cells) rows.now }
+    ensures { IfOk result (λ selected. selected.items ≡ filter (is_selected filters.now words.now) rows.now) }
+{
+    let mut selected = Vec::new(alloc);
+    for row in rows {
+        if is_selected(alloc, filters, words, row)? {
+            selected.push(LentRow::of(row))?;
+        }
+    }
+    Ok(selected)
+}
+
 /// The rows that pass the filters and have the words.
 pub(crate) fn selected<'a>(
     alloc: Global,
@@ -65,14 +84,9 @@ pub(crate) fn selected<'a>(
     requires { All (λ row. All IsValue row.cells) rows.now }
     ensures { IfOk result (λ selected. selected.items ≡ filter (is_selected filters.now words.now) rows.now) }
 {
-    let words = WordSet::of(alloc, words)?;
-    let mut selected = Vec::new(alloc);
-    for row in rows {
-        if is_selected(alloc, filters, &words, row)? {
-            selected.push(LentRow::of(row))?;
-        }
-    }
-    Ok(selected)
+    let ordered = with_values_in_order(alloc, filters)?;
+    let set = WordSet::of(alloc, words)?;
+    select(alloc, ordered.as_slice(), &set, rows)
 }
 
 /// The cells of rows in these columns.
