@@ -2,6 +2,7 @@ pub mod DecidingLemmas
 pub mod DistinctLemmas
 mod Examples
 pub mod FilterLemmas
+pub mod GrammarLemmas
 pub mod LeastLemmas
 pub mod ListedLemmas
 pub mod OrderLemmas
@@ -10,5 +11,6 @@ pub mod ResultLemmas
 pub mod RowLemmas
 pub mod SearchLemmas
 pub mod SortLemmas
+pub mod SortReadingLemmas
 pub mod ValueLemmas
 pub mod WordLemmas

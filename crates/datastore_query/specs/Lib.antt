@@ -6,5 +6,7 @@ pub mod Query
 pub mod Repeats
 pub mod Results
 pub mod Sort
+pub mod SortGrammar
+pub mod SortReading
 pub mod SortText
 pub mod Words
