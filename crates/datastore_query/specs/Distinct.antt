@@ -1,11 +1,19 @@
 -- How distinct rows are found: by digests of their cells. No public clause cites this.
-use Rattle.std.specs.Prelude.{◌≡◌, ℕ, true, List, [], Option, is_some, All, fold}
+use Rattle.std.specs.Prelude.{◌≡◌, ℕ, Bool, true, List, [], Option, is_some, All, fold}
 use Rattle.std.specs.Hash as hash
 use Rattle.std.specs.Hash.DefaultHasher as sip
 use Rattle.std.specs.declared.hash.DefaultHasher.{DefaultHasher}
 use Rattle.table_schema.specs.Order.{type_rank}
 use Rattle.table_schema.specs.declared.cell.Cell.{Cell}
+use Rattle.datastore_table.specs.declared.row.Row.{Row}
+use Rattle.datastore_table.specs.Cells.{same_cells}
 use Rattle.datastore_table.specs.Index.{digest_of}
+use Rattle.datastore_query.specs.declared.column.Column.{Column}
+use Rattle.datastore_query.specs.Column.{projected}
+
+-- Two rows have equal cells in these columns.
+abbrev pub are_alike : List Column → Row → Row → Bool
+are_alike columns a b = same_cells (projected columns a) (projected columns b)
 
 abbrev pub with_type : DefaultHasher → Cell → DefaultHasher
 with_type state c = fold sip.write state (hash.u8 (type_rank c))

@@ -18,6 +18,10 @@ with_number n has m = (m == n) || has m
 abbrev pub is_same_column : Column → Column → Bool
 is_same_column a b = column_number b == column_number a
 
+-- the first of each group of columns that are one
+abbrev pub columns_once : List Column → List Column
+columns_once columns = firsts is_same_column columns
+
 abbrev pub by_one_column : Sort → Sort → Bool
 by_one_column a b = is_same_column a.column b.column
 

@@ -7,7 +7,7 @@ ghost use Rattle.table_schema.specs.Printed.{IsValue};
 ghost use Rattle.datastore_query.specs.Column.{all_columns, column_cell, column_kind, column_name, column_of};
 ghost use Rattle.datastore_query.specs.Column.{column_reading, columns_reading, id_cell, named_columns, no_field_error};
 ghost use Rattle.datastore_query.specs.Column.{field_index, projected};
-ghost use Rattle.datastore_query.specs.Repeats.{column_number, with_number};
+ghost use Rattle.datastore_query.specs.Repeats.{column_number, columns_once, with_number};
 
 use datastore_table::Row;
 use portal_base::copy::TryClone;
@@ -200,4 +200,18 @@ pub(crate) fn add_column(seen: &mut HashSet<u128>, column: Column) -> Result<boo
         ≡ with_number (column_number column) (contains nat_eq seen.old) n) }
 {
     Ok(seen.insert(column_number(column))?)
+}
+
+/// The first of each group of columns that are one.
+pub(crate) fn columns_once(alloc: Global, columns: &[Column]) -> Result<Vec<Column>, AllocError>
+    ensures { IfOk result (λ once. once.items ≡ columns_once columns.now) }
+{
+    let mut once = Vec::new(alloc);
+    let mut seen = HashSet::new(alloc);
+    for column in columns {
+        if add_column(&mut seen, *column)? {
+            once.push(*column)?;
+        }
+    }
+    Ok(once)
 }

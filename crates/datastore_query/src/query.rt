@@ -1,13 +1,12 @@
 //! The query: how it is read, and the page that it returns.
-ghost use Rattle.std.specs.Prelude.{◌≡◌, ◌++◌, All, IfErr, IfOk, IsTrue, Ok, drop, length, map, take};
+ghost use Rattle.std.specs.Prelude.{◌≡◌, ◌++◌, All, IfErr, IfOk, IsTrue, Ok, length, map};
 ghost use Rattle.std.specs.Prelude.{OnOk};
 ghost use Rattle.portal_base.specs.Ordered.{IsAscending};
 ghost use Rattle.table_schema.specs.Printed.{IsValue};
 ghost use Rattle.table_schema.specs.Values.{is_map};
-ghost use Rattle.datastore_table.specs.Cells.{same_cells};
 ghost use Rattle.datastore_table.specs.Rows.{row_cmp};
 ghost use Rattle.datastore_query.specs.Column.{column_name, projected};
-ghost use Rattle.datastore_query.specs.Query.{query_errors, filtered_ids, firsts, IsFault, listing, page_rows};
+ghost use Rattle.datastore_query.specs.Query.{query_errors, filtered_ids, IsFault, listing, page_rows};
 ghost use Rattle.datastore_query.specs.Query.{query_reading, part_errors};
 
 use crate::column::{Column, columns_of, names_of};
@@ -17,7 +16,7 @@ use crate::order::{LentRow, sort_rows};
 use crate::ordered_filter::{passes_filters, with_values_in_order};
 use crate::page::Page;
 use crate::parts::Parts;
-use crate::rows::{PageBounds, copies, firsts, page_of, projections, selected};
+use crate::rows::{PageBounds, distinct_rows, page_of, projections, selected};
 use crate::sort::{Sort, sorts_of};
 use datastore_table::{Row, Table};
 use portal_base::seq::Seq;
@@ -25,7 +24,6 @@ use portal_base::text::Text;
 use portal_base::tokens::tokens;
 use std::alloc::{AllocError, Global};
 use std::marker::Model;
-use table_schema::Cell;
 
 /// A query that was read by a table's schema. A contract sees its parts as they were read.
 #[derive(Drop)]
@@ -114,7 +112,7 @@ impl Query {
     }
 
     /// Runs the query on the table's rows and returns the page. The error is out of memory.
-    #[tactic(auto, using(crate::proofs::ListedLemmas::page_values))]
+    #[tactic(auto, using(crate::proofs::ListedLemmas::page_values, crate::proofs::RowLemmas::page_of_mapped))]
     pub fn run(&self, alloc: Global, table: &Table) -> Result<Page, AllocError>
         ensures columns { IfOk result (λ page. page.columns
             ≡ map (column_name table.now.schema.fields) self.now.columns) }
@@ -128,10 +126,12 @@ impl Query {
             self.columns.as_slice(),
         )?;
         let listed = self.listed(alloc, table.rows())?;
+        let page = page_of(listed.as_slice(), self.bounds());
+        let rows = projections(alloc, self.columns.as_slice(), page)?;
         Ok(Page {
             columns: names,
-            rows: listed.rows,
-            total: listed.total,
+            rows: Seq::from(rows),
+            total: listed.len() as u64,
         })
     }
 
@@ -150,13 +150,6 @@ impl Query {
     }
 }
 
-// The rows of a page, and the count of rows on all pages.
-#[derive(Drop)]
-struct Listed {
-    rows: Seq<Seq<Cell>>,
-    total: u64,
-}
-
 impl Query {
     fn bounds(&self) -> PageBounds
         ensures offset { result.offset ≡ self.now.offset }
@@ -168,48 +161,19 @@ impl Query {
         }
     }
 
-    // The page of these rows, which are in order. Equal rows are all listed.
-    #[tactic(auto, using(crate::proofs::RowLemmas::page_of_mapped))]
-    fn with_duplicates(&self, alloc: Global, rows: &[LentRow]) -> Result<Listed, AllocError>
-        ensures rows { IfOk result (λ listed. listed.rows ≡ take self.now.limit (drop self.now.offset
-            (map (projected self.now.columns) rows.now))) }
-        ensures total { IfOk result (λ listed. listed.total ≡ length (map (projected self.now.columns) rows.now)) }
-    {
-        let page = projections(alloc, self.columns.as_slice(), page_of(rows, self.bounds()))?;
-        Ok(Listed {
-            rows: Seq::from(page),
-            total: rows.len() as u64,
-        })
-    }
-
-    // The page of these rows, which are in order. Only the first of equal rows is listed.
-    fn distinct(&self, alloc: Global, rows: &[LentRow]) -> Result<Listed, AllocError>
-        ensures rows { IfOk result (λ listed. listed.rows ≡ take self.now.limit (drop self.now.offset
-            (firsts same_cells (map (projected self.now.columns) rows.now)))) }
-        ensures total { IfOk result (λ listed. listed.total
-            ≡ length (firsts same_cells (map (projected self.now.columns) rows.now))) }
-    {
-        let all = projections(alloc, self.columns.as_slice(), rows)?;
-        let kept = firsts(alloc, all)?;
-        Ok(Listed {
-            rows: copies(alloc, page_of(kept.as_slice(), self.bounds()))?,
-            total: kept.len() as u64,
-        })
-    }
-
+    // The rows on all pages, in order.
     #[tactic(auto, using(crate::proofs::RowLemmas::ascending_filtered))]
-    fn listed(&self, alloc: Global, rows: &[Row]) -> Result<Listed, AllocError>
+    fn listed<'a>(&self, alloc: Global, rows: &'a [Row]) -> Result<Vec<LentRow<'a>>, AllocError>
         requires ascending { IsAscending row_cmp rows.now }
         requires values { All (λ row. All IsValue row.cells) rows.now }
-        ensures rows { IfOk result (λ listed. listed.rows ≡ page_rows self.now rows.now) }
-        ensures total { IfOk result (λ listed. listed.total ≡ length (listing self.now rows.now)) }
+        ensures { IfOk result (λ listed. map (projected self.now.columns) listed.items ≡ listing self.now rows.now) }
     {
         let mut ordered = selected(alloc, self.filters.as_slice(), self.words.as_slice(), rows)?;
         sort_rows(alloc, &mut ordered, self.sorts.as_slice())?;
         if self.distinct {
-            self.distinct(alloc, ordered.as_slice())
+            distinct_rows(alloc, self.columns.as_slice(), ordered.as_slice())
         } else {
-            self.with_duplicates(alloc, ordered.as_slice())
+            Ok(ordered)
         }
     }
 }

@@ -1,21 +1,20 @@
 //! The rows of a query: their selection, their cells, distinct rows and a page of them.
-ghost use Rattle.std.specs.Prelude.{◌≡◌, [], true, All, IfOk, IsTrue, OnOk, drop, filter, fold, map, nat_eq, take};
+ghost use Rattle.std.specs.Prelude.{◌≡◌, true, All, IfOk, IsTrue, OnOk, drop, filter, fold, map, nat_eq, not, take};
 ghost use Rattle.std.specs.HashMap.{get};
 ghost use Rattle.std.specs.List.{list_any};
 ghost use Rattle.table_schema.specs.Order.{type_rank};
 ghost use Rattle.table_schema.specs.Printed.{IsValue};
 ghost use Rattle.datastore_table.specs.Cells.{same_cells};
 ghost use Rattle.datastore_query.specs.Column.{projected};
-ghost use Rattle.datastore_query.specs.Distinct.{HaveDigests, row_digest};
+ghost use Rattle.datastore_query.specs.Distinct.{HaveDigests, are_alike, row_digest};
 ghost use Rattle.datastore_query.specs.Query.{firsts, is_selected, with_first};
 
-use crate::column::{Column, projected};
+use crate::column::{Column, columns_once, projected};
 use crate::filter::Filter;
 use crate::order::LentRow;
 use crate::ordered_filter::{OrderedFilter, passes_filters, with_values_in_order};
 use crate::words::{WordSet, has_words};
 use datastore_table::{Row, cells_digest};
-use portal_base::copy::TryClone;
 use portal_base::seq::Seq;
 use portal_base::text::Text;
 use std::alloc::{AllocError, Global};
@@ -176,44 +175,57 @@ fn is_kept(kept: &[Seq<Cell>], by_digest: &HashMap<u64, usize>, row: &[Cell], di
     }
 }
 
-// Keeps the row, unless it is kept already.
+// Keeps the row, unless it is kept already. Returns whether it is new.
 fn keep(
     kept: &mut Vec<Seq<Cell>>,
     by_digest: &mut HashMap<u64, usize>,
     row: Seq<Cell>,
-) -> Result<(), AllocError>
+) -> Result<bool, AllocError>
     requires { HaveDigests kept.old.items (get nat_eq by_digest.old) }
+    ensures new { IfOk result (λ new. new ≡ not (list_any (same_cells row) kept.old.items)) }
     ensures kept { OnOk result (kept.new.items ≡ with_first same_cells kept.old.items row) }
     ensures by_digest { OnOk result (HaveDigests kept.new.items (get nat_eq by_digest.new)) }
 {
     let digest = row_digest(row.as_slice());
     if is_kept(kept.as_slice(), by_digest, row.as_slice(), digest) {
-        return Ok(());
+        return Ok(false);
     }
     by_digest.insert(digest, kept.len())?;
     kept.push(row)?;
-    Ok(())
+    Ok(true)
 }
 
-/// The first of each group of equal rows, in the given order.
-pub(crate) fn firsts(alloc: Global, rows: Vec<Seq<Cell>>) -> Result<Vec<Seq<Cell>>, AllocError>
-    ensures { IfOk result (λ kept. kept.items ≡ firsts same_cells rows.items) }
+// The first of each group of rows with equal cells in these columns, in the given order.
+fn first_rows<'a>(
+    alloc: Global,
+    columns: &[Column],
+    rows: &[LentRow<'a>],
+) -> Result<Vec<LentRow<'a>>, AllocError>
+    ensures { IfOk result (λ first. first.items ≡ firsts (are_alike columns.now) rows.now) }
 {
+    let mut first = Vec::new(alloc);
     let mut kept = Vec::new(alloc);
     let mut by_digest = HashMap::new(alloc);
     for row in rows {
-        keep(&mut kept, &mut by_digest, row)?;
+        let cells = projected(alloc, columns, row.row())?;
+        if keep(&mut kept, &mut by_digest, cells)? {
+            first.push(LentRow::of(row.row()))?;
+        }
     }
-    Ok(kept)
+    Ok(first)
 }
 
-/// Copies of rows.
-pub(crate) fn copies(alloc: Global, rows: &[Seq<Cell>]) -> Result<Seq<Seq<Cell>>, AllocError>
-    ensures { IfOk result (λ copies. copies ≡ rows.now) }
+/// The first of each group of rows with equal cells in these columns, in the given order. It keeps a row's cell once,
+/// however often the columns name it.
+#[tactic(auto, using(crate::proofs::DistinctLemmas::distinct_cells))]
+pub(crate) fn distinct_rows<'a>(
+    alloc: Global,
+    columns: &[Column],
+    rows: &[LentRow<'a>],
+) -> Result<Vec<LentRow<'a>>, AllocError>
+    ensures { IfOk result (λ first. map (projected columns.now) first.items
+        ≡ firsts same_cells (map (projected columns.now) rows.now)) }
 {
-    let mut copies = Vec::with_capacity(alloc, rows.len())?;
-    for row in rows {
-        copies.push(row.try_clone(alloc)?)?;
-    }
-    Ok(Seq::from(copies))
+    let once = columns_once(alloc, columns)?;
+    first_rows(alloc, once.as_slice(), rows)
 }
