@@ -1,6 +1,6 @@
 -- Filters are read as the rules say.
 use Rattle.std.proofs.Common.{◌≡◌, ◌∙◌, ◌↔◌, ℕ, Bool, true, false, cond, List, [], ◌∷◌, Option, Some, None, Result, Ok}
-use Rattle.std.proofs.Common.{Err, refl, sym, ap, arith, map, subst}
+use Rattle.std.proofs.Common.{refl, sym, ap, map, subst}
 use Rattle.std.specs.Prelude.{filter, is_none, option_map}
 use Rattle.std.specs.List.{cons_option, filter_map}
 use Rattle.table_schema.specs.Field.{FieldValue}
