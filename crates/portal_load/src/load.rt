@@ -126,15 +126,6 @@ fn read_schema(alloc: Global, bytes: &[u8]) -> Result<ReadSchema, SchemaFault>
     Ok(ReadSchema { json, schema })
 }
 
-fn copy_caller(alloc: Global, caller: &Caller) -> Result<Caller, AllocError>
-    ensures { IfOk result (λ copy. copy ≡ caller.now) }
-{
-    match caller {
-        Caller::Anonymous => Ok(Caller::Anonymous),
-        Caller::Named(name) => Ok(Caller::Named(name.try_clone(alloc)?)),
-    }
-}
-
 /// Plays a call of the task's caller. `size` is the length of its body's compact text. The fault is `Refused` if the
 /// reply isn't 200.
 fn play_call<O: Sink, C: Clock, N: Nonces>(
@@ -157,7 +148,7 @@ fn play_call<O: Sink, C: Clock, N: Nonces>(
     ensures loans { AreSameLoans stage.old stage.new }
 {
     let call = ScriptCall {
-        caller: copy_caller(alloc, task.caller)?,
+        caller: task.caller.try_clone(alloc)?,
         action: Text::from_static(action),
         body,
     };
