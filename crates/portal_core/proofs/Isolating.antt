@@ -26,7 +26,7 @@ use Rattle.portal_calls.specs.declared.call.Call.{Call}
 use Rattle.visibility.specs.View.{datasets_seen}
 use Rattle.visibility.specs.Visibility.{is_public_if_harvested}
 use Rattle.visibility.proofs.ViewLemmas.{find-kept, called_by_name}
-use Rattle.portal_core.specs.Answer.{call_view_of, answer_to, quota_of, quota_if}
+use Rattle.portal_core.specs.Answer.{call_view_of, answer_to, quota_of, quota_if, quota_bytes}
 use Rattle.portal_core.specs.Changed.{changed, charged, applied, IsUnused}
 use Rattle.portal_core.specs.Fit.{IsFit}
 use Rattle.portal_calls.specs.Reply.{is_name_in_use}
@@ -37,7 +37,6 @@ use Rattle.portal_core.specs.Valid.{IsValid}
 use Rattle.portal_core.specs.View.{view_of, is_own_quota}
 use Rattle.portal_core.specs.Change.{Change, People, Datasets, Tables}
 use Rattle.portal_core.specs.declared.quota.QuotaUsed.{QuotaUsed}
-use Rattle.portal_core.specs.declared.quota.TheConstants.{QUOTA}
 use Rattle.portal_core.proofs.Answering.{answer_fit}
 use Rattle.portal_core.proofs.Changing.{IsOwn, IsOwnChange, IsOwnDatasets, changed-seen, same_state}
 use Rattle.portal_core.proofs.Fitting.{fit_in_state}
@@ -86,7 +85,7 @@ bytes-seen user quota_used =
 -- so the caller's quota is seen
 pub quota_seen : (call : Call) (quota_used : List QuotaUsed)
     → quota_of call (filter (is_own_quota call.caller) quota_used) ≡ quota_of call quota_used
-quota_seen call quota_used = ap (λ (n : ℕ). quota_if (nat_le (n + call.size) QUOTA)) (by call.caller)
+quota_seen call quota_used = ap (λ (n : ℕ). quota_if (nat_le (n + call.size) quota_bytes)) (by call.caller)
   where
     by : (caller : Caller) → accepted_bytes_of caller (filter (is_own_quota caller) quota_used)
         ≡ accepted_bytes_of caller quota_used

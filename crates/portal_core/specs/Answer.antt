@@ -1,5 +1,5 @@
 -- The answer to a call: a function of the call and of its caller's view.
-use Rattle.std.specs.Prelude.{◌+◌, nat_le, List, Bool, true, false}
+use Rattle.std.specs.Prelude.{ℕ, ◌+◌, nat_le, List, Bool, true, false}
 use Rattle.org_roles.specs.declared.change.OrgChange.{OrgChange}
 use Rattle.dataset_answers.specs.Answers as dataset
 use Rattle.dataset_answers.specs.declared.change.DatasetChange.{DatasetChange}
@@ -25,9 +25,12 @@ use Rattle.portal_core.specs.State.{State, accepted_bytes_of}
 use Rattle.portal_core.specs.Change.{Change, People, Datasets, Tables}
 use Rattle.portal_core.specs.Queries.{answer_to_query}
 use Rattle.portal_core.specs.declared.quota.QuotaUsed.{QuotaUsed}
-use Rattle.portal_core.specs.declared.quota.TheConstants.{QUOTA}
 
 -- ---- the call's view
+
+-- the bytes that are accepted as changes from one user at most: 256 MiB
+abbrev pub quota_bytes : ℕ
+quota_bytes = 268435456
 
 abbrev pub quota_if : Bool → Quota
 quota_if true = Left
@@ -35,7 +38,7 @@ quota_if false = UsedUp
 
 -- whether the call's size fits into its caller's quota of accepted bytes
 abbrev pub quota_of : Call → List QuotaUsed → Quota
-quota_of call quota_used = quota_if (nat_le (accepted_bytes_of call.caller quota_used + call.size) QUOTA)
+quota_of call quota_used = quota_if (nat_le (accepted_bytes_of call.caller quota_used + call.size) quota_bytes)
 
 -- the call with its caller's view and quota
 abbrev pub call_view_of : Call → State → CallView
