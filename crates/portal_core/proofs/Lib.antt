@@ -1,6 +1,8 @@
 pub mod Answering
 pub mod Changing
+pub mod Charging
 pub mod Deciding
+pub mod Disclosing
 pub mod Fitting
 pub mod Hiding
 pub mod Histories
@@ -8,6 +10,7 @@ pub mod Isolating
 pub mod Keeping
 pub mod Kept
 pub mod QueryLemmas
+pub mod Reading
 pub mod Settling
 pub mod Shelving
 pub mod TableViewing

@@ -1,12 +1,18 @@
 //! Laws of the definitions: functions with an empty body, whose contracts are the laws.
-ghost use Rattle.std.specs.Prelude.{◌≡◌, ◌++◌, ℕ, IsSome, IsTrue, List, Some, find, true, false};
+ghost use Rattle.std.specs.Prelude.{◌≡◌, ◌+◌, ◌++◌, ℕ, IsSome, IsTrue, List, Some, find, map, true, false};
+ghost use Rattle.std.specs.List.{Contains};
 ghost use Rattle.portal_base.specs.declared.caller.Caller.{Caller};
+ghost use Rattle.portal_base.specs.declared.caller.Caller.TheVariants.{Named};
 ghost use Rattle.portal_base.specs.declared.json_value.Json.{Json};
 ghost use Rattle.org_roles.specs.declared.change.OrgChange.TheVariants.{SetRole, DropRole};
+ghost use Rattle.org_roles.specs.declared.entry.Membership.{Membership};
+ghost use Rattle.org_roles.specs.declared.entry.User.{User};
 ghost use Rattle.org_roles.specs.declared.role.Role.{Role};
 ghost use Rattle.packages.specs.declared.package.Package.{Package};
 ghost use Rattle.dataset_answers.specs.declared.change.DatasetChange.TheVariants.{Create, Replace, Remove};
+ghost use Rattle.visibility.specs.View.{administers, is_called};
 ghost use Rattle.visibility.specs.Visibility.{sees_in};
+ghost use Rattle.portal_calls.specs.Action.{is_reading};
 ghost use Rattle.portal_calls.specs.declared.answer.Answer.TheVariants.{Accepted};
 ghost use Rattle.portal_calls.specs.declared.call.Call.{Call};
 ghost use Rattle.portal_core.specs.Answer.{answer_to};
@@ -16,7 +22,7 @@ ghost use Rattle.portal_core.specs.Hidden.{IsHidden, IsIdUnseen, IsRoleUnseen, a
 ghost use Rattle.portal_core.specs.History.{AreAlike, AreOthersHidden, calls_of, has_no_name_in_use, exchanges_of};
 ghost use Rattle.portal_calls.specs.Reply.{is_name_in_use};
 ghost use Rattle.portal_core.specs.Opened.{opened, is_opening};
-ghost use Rattle.portal_core.specs.State.{State};
+ghost use Rattle.portal_core.specs.State.{State, accepted_bytes_of_user};
 ghost use Rattle.portal_core.specs.Step.{call_step, step_of, replay};
 ghost use Rattle.portal_core.specs.Valid.{IsValid};
 ghost use Rattle.portal_core.specs.View.{view_of};
@@ -75,6 +81,37 @@ pub fn a_replay_keeps_validity()
 pub fn a_refusal_changes_nothing()
     ensures { (state : State) (event : Event) →
         (step_of state event).is_accepted ≡ false → (step_of state event).state ≡ state }
+{}
+
+/// A call of an action that only reads is never accepted as a change, and leaves the state as it is.
+pub fn a_reading_changes_nothing()
+    ensures { (state : State) (call : Call) → is_reading call.request.action ≡ true →
+        ((call_step state call).is_accepted ≡ false) × ((call_step state call).state ≡ state) }
+{}
+
+/// A call that is accepted as a change is charged to its caller by exactly its size. Nobody else is charged, and nobody
+/// for a call that isn't accepted.
+pub fn a_change_is_charged_to_its_caller()
+    ensures own { (state : State) (call : Call) (user : List ℕ) →
+        call.caller ≡ Named user → (call_step state call).is_accepted ≡ true →
+        accepted_bytes_of_user user (call_step state call).state.quota_used
+        ≡ accepted_bytes_of_user user state.quota_used + call.size }
+    ensures others { (state : State) (call : Call) (user : List ℕ) → is_called call.caller user ≡ false →
+        accepted_bytes_of_user user (call_step state call).state.quota_used
+        ≡ accepted_bytes_of_user user state.quota_used }
+{}
+
+/// Of other users a caller sees the names, and their roles only in organizations that the caller administers.
+pub fn of_other_users_the_name_is_seen()
+    ensures names { (caller : Caller) (state : State) →
+        map (λ (u : User). u.name) (view_of caller state).people.users
+        ≡ map (λ (u : User). u.name) state.people.users }
+    ensures flags { (caller : Caller) (state : State) (user : User) →
+        Contains (view_of caller state).people.users user → is_called caller user.name ≡ false →
+        user.sysadmin ≡ false }
+    ensures roles { (caller : Caller) (state : State) (role : Membership) →
+        Contains (view_of caller state).people.roles role → is_called caller role.user ≡ false →
+        administers state.people caller role.org ≡ true }
 {}
 
 /// A name or an id in use is refused last: everything else accepts the call, and its change claims what is in use.

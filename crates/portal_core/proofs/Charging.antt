@@ -1,0 +1,111 @@
+-- What a step charges to its caller's quota.
+use Rattle.std.proofs.Common.{◌≡◌, ℕ, ◌+◌, Bool, true, false, List, Option, Some, None, refl, sym, ap, ◌∙◌}
+use Rattle.std.specs.Prelude.{find, unwrap_or, option_map, bytes_eq}
+use Rattle.std.specs.declared.cmp.Ordering.{Ordering}
+use Rattle.std.specs.Ordering.{nat_cmp, is_eq}
+use Rattle.std.specs.Cmp.Lexicographic.{slice_cmp}
+use Rattle.std.proofs.lemmas.Cmp.{nat_list_cmp_total, tied_itself}
+use Rattle.std.proofs.lemmas.Map.Text.{is_eq-slice_cmp}
+use Rattle.portal_base.specs.Ordered.{found, upserted, IsKey, IsKey-field}
+use Rattle.portal_base.specs.declared.caller.Caller.{Caller}
+use Rattle.portal_base.specs.declared.caller.Caller.TheVariants.{Anonymous, Named}
+use Rattle.portal_base.specs.declared.json_value.Json.{Json}
+use Rattle.portal_base.proofs.Filtered.{find-same}
+use Rattle.portal_base.proofs.Upserted.{found-upserted, found-upserted_other}
+use Rattle.portal_calls.specs.declared.answer.Answer.{Answer}
+use Rattle.portal_calls.specs.declared.answer.Answer.TheVariants.{Shown, Refused, Accepted}
+use Rattle.portal_calls.specs.declared.call.Call.{Call}
+use Rattle.visibility.specs.View.{is_called}
+use Rattle.portal_core.proofs.Settling.{refused-same}
+use Rattle.portal_core.specs.Answer.{answer_to}
+use Rattle.portal_core.specs.Change.{Change, People, Datasets, Tables}
+use Rattle.portal_core.specs.Changed.{applied, changed, charged, claims_of, is_in_use}
+use Rattle.portal_core.specs.State.{State, accepted_bytes_of_user, quota_used_cmp, quota_used_cmp_total}
+use Rattle.portal_core.specs.Step.{call_step, outcome_of, outcome_unless_in_use}
+use Rattle.portal_core.specs.View.{view_of}
+use Rattle.portal_core.specs.declared.change.Claim.{Claim}
+use Rattle.portal_core.specs.declared.quota.QuotaUsed.{QuotaUsed}
+use Rattle.portal_calls.specs.declared.event.Event.TheVariants.{Call as a_call}
+
+-- the order of an entry relative to a user's
+at : List ℕ → QuotaUsed → Ordering
+at user entry = slice_cmp nat_cmp entry.user user
+
+at-IsKey : (user : List ℕ) → IsKey quota_used_cmp (at user)
+at-IsKey user = IsKey-field (λ (entry : QuotaUsed). entry.user) nat_list_cmp_total user
+
+bytes_in : Option QuotaUsed → ℕ
+bytes_in entry = unwrap_or (option_map (λ s. s.bytes) entry) 0
+
+accepted-found : (user : List ℕ) (quota_used : List QuotaUsed)
+    → accepted_bytes_of_user user quota_used ≡ bytes_in (found (at user) quota_used)
+accepted-found user quota_used =
+    ap bytes_in (find-same _ _ (λ (s : QuotaUsed). sym (is_eq-slice_cmp s.user user)) quota_used)
+
+-- the user's bytes grow by the size
+own-charged : (user : List ℕ) (size : ℕ) (state : State)
+    → accepted_bytes_of_user user (charged (Named user) size state).quota_used
+    ≡ accepted_bytes_of_user user state.quota_used + size
+own-charged user size state =
+    let entry : QuotaUsed = record { user = user; bytes = accepted_bytes_of_user user state.quota_used + size } in
+    accepted-found user (upserted quota_used_cmp entry state.quota_used)
+    ∙ ap bytes_in (found-upserted quota_used_cmp (at user) (at-IsKey user) entry state.quota_used
+    (tied_itself nat_list_cmp_total user))
+
+-- those of other users stay
+other-charged : (caller : Caller) (user : List ℕ) (size : ℕ) (state : State) → is_called caller user ≡ false
+    → accepted_bytes_of_user user (charged caller size state).quota_used
+    ≡ accepted_bytes_of_user user state.quota_used
+other-charged Anonymous user size state other = refl
+other-charged (Named name) user size state other =
+    let entry : QuotaUsed = record { user = name; bytes = accepted_bytes_of_user name state.quota_used + size } in
+    accepted-found user (upserted quota_used_cmp entry state.quota_used)
+    ∙ ap bytes_in (found-upserted_other quota_used_cmp quota_used_cmp_total (at user) (at-IsKey user) entry
+    state.quota_used (is_eq-slice_cmp name user ∙ other))
+    ∙ sym (accepted-found user state.quota_used)
+
+-- no change touches the quotas
+changed-same : (change : Change) (state : State) → (changed change state).quota_used ≡ state.quota_used
+changed-same (People change) state = refl
+changed-same (Datasets change) state = refl
+changed-same (Tables change) state = refl
+
+-- what is accepted is a change that was applied
+accepted-applied : (answer : Answer Change) (call : Call) (state : State)
+    → (outcome_of answer call state).is_accepted ≡ true
+    → (change : Change) × ((outcome_of answer call state).state ≡ applied call change state)
+accepted-applied (Shown json) call state accepted = absurd (cc)
+accepted-applied (Refused denial) call state accepted = absurd (cc)
+accepted-applied (Accepted json change) call state accepted = by (find (is_in_use state) (claims_of change)) accepted
+  where
+    by : (claim : Option Claim) → (outcome_unless_in_use claim call json change state).is_accepted ≡ true
+        → (made : Change) × ((outcome_unless_in_use claim call json change state).state ≡ applied call made state)
+    by None a = (change, refl)
+    by (Some c) a = absurd (cc)
+
+pub own-accepted : (state : State) (call : Call) (user : List ℕ) → call.caller ≡ Named user
+    → (call_step state call).is_accepted ≡ true
+    → accepted_bytes_of_user user (call_step state call).state.quota_used
+    ≡ accepted_bytes_of_user user state.quota_used + call.size
+own-accepted state call user own accepted =
+    let made = accepted-applied (answer_to call (view_of call.caller state)) call state accepted in
+    let now : State = changed made.0 state in
+    ap (λ (s : State). accepted_bytes_of_user user s.quota_used) made.1
+    ∙ ap (λ (caller : Caller). accepted_bytes_of_user user (charged caller call.size now).quota_used) own
+    ∙ own-charged user call.size now
+    ∙ ap (λ (q : List QuotaUsed). accepted_bytes_of_user user q + call.size) (changed-same made.0 state)
+
+pub others-same : (state : State) (call : Call) (user : List ℕ) → is_called call.caller user ≡ false
+    → accepted_bytes_of_user user (call_step state call).state.quota_used
+    ≡ accepted_bytes_of_user user state.quota_used
+others-same state call user other = by (call_step state call).is_accepted refl
+  where
+    by : (b : Bool) → (call_step state call).is_accepted ≡ b
+        → accepted_bytes_of_user user (call_step state call).state.quota_used
+        ≡ accepted_bytes_of_user user state.quota_used
+    by false is = ap (λ (s : State). accepted_bytes_of_user user s.quota_used) (refused-same state (a_call call) is)
+    by true is =
+        let made = accepted-applied (answer_to call (view_of call.caller state)) call state is in
+        ap (λ (s : State). accepted_bytes_of_user user s.quota_used) made.1
+        ∙ other-charged call.caller user call.size (changed made.0 state) other
+        ∙ ap (λ (q : List QuotaUsed). accepted_bytes_of_user user q) (changed-same made.0 state)

@@ -1,0 +1,94 @@
+-- Calls of the actions that only read.
+use Rattle.std.proofs.Common.{◌≡◌, true, false, List, refl}
+use Rattle.portal_calls.specs.Action.{is_reading}
+use Rattle.portal_calls.specs.Answer.{AcceptsNothing}
+use Rattle.portal_calls.specs.Topic.{topic_of}
+use Rattle.portal_calls.specs.declared.action.Action.{Action}
+use Rattle.portal_calls.specs.declared.action.Action.TheVariants as action
+use Rattle.portal_calls.specs.declared.answer.Answer.{Answer}
+use Rattle.portal_calls.specs.declared.answer.Answer.TheVariants.{Shown, Refused, Accepted}
+use Rattle.portal_calls.specs.declared.call.Call.{Call}
+use Rattle.dataset_answers.proofs.Fitting.{show_only, list_only, resource_show_only}
+use Rattle.dataset_answers.specs.declared.change.DatasetChange.{DatasetChange}
+use Rattle.datastore_answers.proofs.FitLemmas.{info_only}
+use Rattle.datastore_answers.specs.Changed.{TableChange}
+use Rattle.datastore_answers.specs.Summaries.{summaries_of}
+use Rattle.datastore_answers.specs.TableAnswers.{TableAcceptsOnly}
+use Rattle.datastore_answers.specs.declared.answer.TableAnswer.{TableAnswer}
+use Rattle.datastore_answers.specs.declared.answer.TableAnswer.TheVariants.{NoTable, Answered}
+use Rattle.datastore_answers.specs.declared.resource_table.ResourceTable.{ResourceTable}
+use Rattle.org_roles.specs.declared.change.OrgChange.{OrgChange}
+use Rattle.organization_answers.proofs.Fitting as organization
+use Rattle.visibility.specs.CallView.{CallView}
+use Rattle.portal_core.proofs.Answering.{search_only}
+use Rattle.portal_core.specs.Answer.{answer_on, answer_to, call_view_of, of_people, of_datasets, of_tables}
+use Rattle.portal_core.specs.Change.{Change}
+use Rattle.portal_core.specs.State.{State}
+use Rattle.portal_core.specs.Step.{call_step, outcome_of}
+use Rattle.portal_core.specs.View.{view_of}
+
+of_people-nothing : (answer : Answer OrgChange) → AcceptsNothing answer → AcceptsNothing (of_people answer)
+of_people-nothing (Shown json) none = tt
+of_people-nothing (Refused denial) none = tt
+of_people-nothing (Accepted json change) none = absurd none
+
+of_datasets-nothing : (answer : Answer DatasetChange) → AcceptsNothing answer → AcceptsNothing (of_datasets answer)
+of_datasets-nothing (Shown json) none = tt
+of_datasets-nothing (Refused denial) none = tt
+of_datasets-nothing (Accepted json change) none = absurd none
+
+of_tables-nothing : (answer : TableAnswer TableChange) → TableAcceptsOnly (λ change. ⊥) answer
+    → AcceptsNothing (of_tables answer)
+of_tables-nothing NoTable none = tt
+of_tables-nothing (Answered (Shown json)) none = tt
+of_tables-nothing (Answered (Refused denial)) none = tt
+of_tables-nothing (Answered (Accepted json change)) none = absurd none
+
+by_action : (a : Action) (view : CallView) (tables : List ResourceTable) → is_reading a ≡ true
+    → AcceptsNothing (answer_on (topic_of a) view tables)
+by_action action.PackageCreate view tables reads = absurd (cc)
+by_action action.PackageUpdate view tables reads = absurd (cc)
+by_action action.PackagePatch view tables reads = absurd (cc)
+by_action action.PackageDelete view tables reads = absurd (cc)
+by_action action.DatasetPurge view tables reads = absurd (cc)
+by_action action.PackageShow view tables reads =
+    of_datasets-nothing _ (show_only (λ change. ⊥) view (summaries_of tables))
+by_action action.PackageList view tables reads = of_datasets-nothing _ (list_only (λ change. ⊥) view)
+by_action action.ResourceCreate view tables reads = absurd (cc)
+by_action action.ResourceUpdate view tables reads = absurd (cc)
+by_action action.ResourceDelete view tables reads = absurd (cc)
+by_action action.ResourceShow view tables reads =
+    of_datasets-nothing _ (resource_show_only (λ change. ⊥) view (summaries_of tables))
+by_action action.OrganizationCreate view tables reads = absurd (cc)
+by_action action.OrganizationPatch view tables reads = absurd (cc)
+by_action action.OrganizationDelete view tables reads = absurd (cc)
+by_action action.OrganizationShow view tables reads =
+    of_people-nothing _ (organization.show-only (λ change. ⊥) view)
+by_action action.OrganizationList view tables reads =
+    of_people-nothing _ (organization.list-only (λ change. ⊥) view)
+by_action action.OrganizationListForUser view tables reads = tt
+by_action action.OrganizationMemberCreate view tables reads = absurd (cc)
+by_action action.OrganizationMemberDelete view tables reads = absurd (cc)
+by_action action.MemberList view tables reads = of_people-nothing _ (organization.members-only (λ change. ⊥) view)
+by_action action.UserList view tables reads = tt
+by_action action.DatastoreCreate view tables reads = absurd (cc)
+by_action action.DatastoreUpsert view tables reads = absurd (cc)
+by_action action.DatastoreDelete view tables reads = absurd (cc)
+by_action action.DatastoreSearch view tables reads = of_tables-nothing _ (search_only (λ change. ⊥) view tables)
+by_action action.DatastoreInfo view tables reads = of_tables-nothing _ (info_only (λ change. ⊥) view tables)
+
+pub reading-nothing : (call : Call) (view : State) → is_reading call.request.action ≡ true
+    → AcceptsNothing (answer_to call view)
+reading-nothing call view reads = by_action call.request.action (call_view_of call view) view.tables reads
+
+nothing-same : (answer : Answer Change) (call : Call) (state : State) → AcceptsNothing answer
+    → ((outcome_of answer call state).is_accepted ≡ false) × ((outcome_of answer call state).state ≡ state)
+nothing-same (Shown json) call state none = (refl, refl)
+nothing-same (Refused denial) call state none = (refl, refl)
+nothing-same (Accepted json change) call state none = absurd none
+
+pub reading-same : (state : State) (call : Call) → is_reading call.request.action ≡ true
+    → ((call_step state call).is_accepted ≡ false) × ((call_step state call).state ≡ state)
+reading-same state call reads =
+    nothing-same (answer_to call (view_of call.caller state)) call state
+    (reading-nothing call (view_of call.caller state) reads)
