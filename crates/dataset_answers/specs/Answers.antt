@@ -4,7 +4,7 @@ use Rattle.std.specs.Prelude.{ℕ, List, [], codes, Bool, true, false, not, ◌&
 use Rattle.std.specs.Prelude.{Option, Some, None, Result, unwrap_or}
 use Rattle.portal_base.specs.declared.caller.Caller.{Caller}
 use Rattle.portal_base.specs.declared.json_value.Json as json
-use Rattle.portal_base.specs.KeyErrors.{error_if, kind_message, found_value}
+use Rattle.portal_base.specs.KeyErrors.{KeyError, error_if, kind_message, found_value}
 use Rattle.portal_base.specs.Kinds.{count_at}
 use Rattle.org_roles.specs.PeopleLists.{PeopleLists, is_sysadmin_in}
 use Rattle.org_roles.specs.Rights.{rights_for}
@@ -79,14 +79,24 @@ answer_to_package_create view =
     (answer_if_valid view.quota (dataset_errors view.people view.call.request.body None)
     (Accepted (package_dictionary view.people [] dataset) (Create dataset)))
 
+-- the answer to a body with these errors, and perhaps that of a lost table, which describes this changed dataset
+abbrev pub answer_to_valid_change : CallView → List TableSummary → List KeyError → Package → Answer DatasetChange
+answer_to_valid_change view summaries errors changed =
+    answer_if_valid view.quota (error_if (codes "resources") (lost_table_error summaries changed) errors)
+    (Accepted (package_dictionary view.people summaries changed) (Replace changed))
+
+-- the answer to a change of this dataset
+abbrev pub answer_to_change_of : Bool → CallView → List TableSummary → Package → Answer DatasetChange
+answer_to_change_of whole view summaries dataset =
+    let changed = changed_dataset view.call whole dataset in
+    answer_if_valid view.quota (change_errors view.people summaries view.call.request.body dataset changed)
+    (Accepted (package_dictionary view.people summaries changed) (Replace changed))
+
 -- update (`whole`: absent keys take their defaults) and patch (absent keys keep their values)
 abbrev pub answer_to_package_change : Bool → CallView → List TableSummary → Answer DatasetChange
 answer_to_package_change whole view summaries =
     answer_if_found (editable_dataset_at (naming_key view.call.request.body) view)
-    (λ dataset.
-    let changed = changed_dataset view.call whole dataset in
-    answer_if_valid view.quota (change_errors view.people summaries view.call.request.body dataset changed)
-    (Accepted (package_dictionary view.people summaries changed) (Replace changed)))
+    (λ dataset. answer_to_change_of whole view summaries dataset)
 
 abbrev pub answer_to_package_update : CallView → List TableSummary → Answer DatasetChange
 answer_to_package_update view summaries = answer_to_package_change true view summaries
@@ -132,12 +142,17 @@ answer_to_resource_update view summaries =
     (Accepted (resource_dictionary summaries located.dataset.id located.position resource)
     (Replace (with_resource_at view.call located.dataset located.position resource))))
 
+-- the answer to a deletion that changes the resource's dataset to this one
+abbrev pub answer_to_valid_deletion : CallView → List TableSummary → Package → Answer DatasetChange
+answer_to_valid_deletion view summaries changed =
+    answer_if_valid view.quota (error_if (codes "id") (lost_table_error summaries changed) [])
+    (Accepted json.Null (Replace changed))
+
 abbrev pub answer_to_resource_delete : CallView → List TableSummary → Answer DatasetChange
 answer_to_resource_delete view summaries =
     answer_if_found (editable_resource_at view)
     (λ located.
-    let changed = without_resource_at view.call located.dataset located.position in
-    answer_if_valid view.quota (error_if (codes "id") (lost_table_error summaries changed) []) (Accepted json.Null (Replace changed)))
+    answer_to_valid_deletion view summaries (without_resource_at view.call located.dataset located.position))
 
 -- ---- every action
 

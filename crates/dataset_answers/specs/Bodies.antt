@@ -1,6 +1,6 @@
 -- The bodies of calls on datasets and resources: their errors, and the datasets that they describe. The defaults, and
 -- the values that `package_update` and `package_patch` keep, are those of CKAN 2.10.
-use Rattle.std.specs.Prelude.{ℕ, ◌+◌, List, [], ◌∷◌, ◌++◌, codes, Bool, true, not, nat_lt, is_some, length, set}
+use Rattle.std.specs.Prelude.{ℕ, ℤ, ◌+◌, List, [], ◌∷◌, ◌++◌, codes, Bool, true, not, nat_lt, is_some, length, set}
 use Rattle.std.specs.Prelude.{Option, Some, None, option_and_then}
 use Rattle.std.specs.List.{remove}
 use Rattle.portal_base.specs.KeyErrors.{KeyError, error_if, with_errors}
@@ -55,14 +55,19 @@ abbrev pub caller_name : Caller → List ℕ
 caller_name Anonymous = []
 caller_name (Named user) = user
 
+-- the dataset with this id, created by this user at this moment
+abbrev pub with_origin : Package → List ℕ → List ℕ → ℤ → Package
+with_origin dataset id creator moment = record dataset {
+  id = id;
+  creator = creator;
+  created = moment;
+  modified = moment;
+}
+
 -- the new dataset that a call describes
 abbrev pub created_dataset : Call → Package
-created_dataset call = record (built_dataset call.request.body None true) {
-  id = id_text call.nonce.0;
-  creator = caller_name call.caller;
-  created = call.moment;
-  modified = call.moment;
-}
+created_dataset call =
+    with_origin (built_dataset call.request.body None true) (id_text call.nonce.0) (caller_name call.caller) call.moment
 
 -- The dataset with the changes of a call. With `whole` absent keys take their defaults, and without it they keep their
 -- values.

@@ -65,29 +65,36 @@ members_to_notes dataset =
     ∷ (codes "notes", json.Text dataset.notes)
     ∷ []
 
--- the members from `num_resources` to `private`
-abbrev pub members_to_private : PeopleLists → Package → List (List ℕ × Json)
-members_to_private people dataset =
+-- the members from `num_resources` to `private`, with this dictionary of the organization
+abbrev pub members_to_private : Package → Json → List (List ℕ × Json)
+members_to_private dataset organization =
     (codes "num_resources", json.Whole (pos (length dataset.resources)))
     ∷ (codes "num_tags", json.Whole (pos (length dataset.tags)))
-    ∷ (codes "organization", organization_dictionary people dataset.owner_org)
+    ∷ (codes "organization", organization)
     ∷ (codes "owner_org", json.Text dataset.owner_org)
     ∷ (codes "private", json.Truth dataset.private)
     ∷ []
 
--- the members from `resources` to `version`
-abbrev pub members_to_version : List TableSummary → Package → List (List ℕ × Json)
-members_to_version summaries dataset =
-    (codes "resources", json.List (resource_dictionaries summaries dataset.id 0 dataset.resources))
+-- the members from `resources` to `version`, with these dictionaries of the resources and of the tags
+abbrev pub members_to_version : Package → List Json → List Json → List (List ℕ × Json)
+members_to_version dataset resources tags =
+    (codes "resources", json.List resources)
     ∷ (codes "state", json.Text (state_name dataset.state))
-    ∷ (codes "tags", json.List (map tag_dictionary dataset.tags))
+    ∷ (codes "tags", json.List tags)
     ∷ (codes "title", json.Text dataset.title)
     ∷ (codes "type", json.Text (codes "dataset"))
     ∷ (codes "url", json.Text dataset.url)
     ∷ (codes "version", json.Text dataset.version)
     ∷ []
 
+-- a dataset, given the dictionaries of its organization, its resources and its tags
+abbrev pub dictionary_with : Package → Json → List Json → List Json → Json
+dictionary_with dataset organization resources tags =
+    json.Map (members_to_notes dataset
+    ++ (members_to_private dataset organization ++ members_to_version dataset resources tags))
+
 -- a dataset, given the tables
 abbrev pub package_dictionary : PeopleLists → List TableSummary → Package → Json
 package_dictionary people summaries dataset =
-    json.Map (members_to_notes dataset ++ (members_to_private people dataset ++ members_to_version summaries dataset))
+    dictionary_with dataset (organization_dictionary people dataset.owner_org)
+    (resource_dictionaries summaries dataset.id 0 dataset.resources) (map tag_dictionary dataset.tags)

@@ -1,13 +1,19 @@
 //! The answers to calls on datasets and resources.
 //!
 //! Each function finds the thing, checks the right, reads the body and gives the change. Its answer is a function of
-//! the call and of the caller's view.
-ghost use Rattle.std.specs.Prelude.{◌≡◌, IfOk};
+//! the call and of the caller's view. A refusal stops it.
+ghost use Rattle.std.specs.Prelude.{◌≡◌, IfOk, IsTrue, codes};
+ghost use Rattle.portal_base.specs.KeyErrors.{has_error};
+ghost use Rattle.portal_calls.specs.Answer.{answer_if_valid};
+ghost use Rattle.portal_calls.specs.Stop.{Answers};
+ghost use Rattle.portal_calls.specs.declared.answer.Answer.{Answer};
+ghost use Rattle.dataset_answers.specs.declared.change.DatasetChange.{DatasetChange};
 ghost use Rattle.visibility.specs.TableSummary.{summaries_seen};
 ghost use Rattle.visibility.specs.CallView.{context_view};
 ghost use Rattle.dataset_answers.specs.Answers.{answer_to_action, answer_to_package_show, answer_to_package_list};
 ghost use Rattle.dataset_answers.specs.Answers.{can_create_in, may_create};
 ghost use Rattle.dataset_answers.specs.Answers.{answer_to_package_create, answer_to_package_change};
+ghost use Rattle.dataset_answers.specs.Answers.{answer_to_change_of, answer_to_valid_change, answer_to_valid_deletion};
 ghost use Rattle.dataset_answers.specs.Answers.{answer_to_package_update, answer_to_package_patch};
 ghost use Rattle.dataset_answers.specs.Answers.{answer_to_package_delete, answer_to_dataset_purge};
 ghost use Rattle.dataset_answers.specs.Answers.{answer_to_resource_show, answer_to_resource_create};
@@ -15,9 +21,9 @@ ghost use Rattle.dataset_answers.specs.Answers.{answer_to_resource_update, answe
 ghost use Rattle.dataset_answers.specs.Bodies.{organization_given};
 
 use crate::bodies::{
-    change_errors, changed_dataset, created_dataset, dataset_errors, deleted_dataset,
-    deletion_errors, new_resource_errors, organization_given, read_count, with_new_resource,
-    with_resource_at, without_resource_at,
+    add_lost_table_error, changed_dataset, created_dataset, dataset_errors, deleted_dataset,
+    deletion_errors, has_resources_error, new_resource_errors, organization_given, read_count,
+    with_new_resource, with_resource_at, without_resource_at,
 };
 use crate::change::DatasetChange;
 use crate::dictionary::{package_json, resource_json};
@@ -26,11 +32,13 @@ use crate::lookup::{
     dataset_at, editable_dataset_at, editable_resource_at, naming_key, purgeable_dataset,
 };
 use org_roles::role::rights_of;
+use packages::package::Package;
 use packages::resources::{resource_errors, resource_for};
 use portal_base::copy::TryClone;
 use portal_base::json_value::Json;
 use portal_base::key_errors::KeyErrors;
-use portal_calls::answer::{Answer, Denial, Right, denial_of, denial_with_quota};
+use portal_calls::answer::{Answer, Right};
+use portal_calls::stop::{Stop, answer_or_refusal, authorize, validate, validate_change};
 use portal_calls::topic::DatasetAction;
 use std::alloc::{AllocError, Global};
 use visibility::context::CallContext;
@@ -45,6 +53,19 @@ pub fn answer<H: TableLookup>(
     action: DatasetAction,
 ) -> Result<Answer<DatasetChange>, AllocError>
     ensures { IfOk result (λ answer. answer ≡ answer_to_action action (context_view context.now)
+        (summaries_seen (context_view context.now).datasets (H.summaries tables.now))) }
+{
+    answer_or_refusal(answer_to_action(alloc, context, tables, action))
+}
+
+/// The answer to a call of this action, or the stop before it.
+fn answer_to_action<H: TableLookup>(
+    alloc: Global,
+    context: &CallContext<'_>,
+    tables: &H,
+    action: DatasetAction,
+) -> Result<Answer<DatasetChange>, Stop>
+    ensures { Answers result (answer_to_action action (context_view context.now)
         (summaries_seen (context_view context.now).datasets (H.summaries tables.now))) }
 {
     match action {
@@ -69,29 +90,23 @@ fn package_show<H: TableLookup>(
     alloc: Global,
     context: &CallContext<'_>,
     tables: &H,
-) -> Result<Answer<DatasetChange>, AllocError>
-    ensures { IfOk result (λ answer. answer ≡ answer_to_package_show (context_view context.now)
+) -> Result<Answer<DatasetChange>, Stop>
+    ensures { Answers result (answer_to_package_show (context_view context.now)
         (summaries_seen (context_view context.now).datasets (H.summaries tables.now))) }
 {
-    match dataset_at(alloc, context, "id")? {
-        Ok(dataset) => Ok(Answer::Shown(package_json(alloc, context, tables, dataset)?)),
-        Err(denial) => Ok(Answer::Refused(denial)),
-    }
+    let dataset = dataset_at(alloc, context, "id")?;
+    let shown = package_json(alloc, context, tables, dataset)?;
+    Ok(Answer::Shown(shown))
 }
 
 /// The answer to a `package_list`.
-fn package_list(
-    alloc: Global,
-    context: &CallContext<'_>,
-) -> Result<Answer<DatasetChange>, AllocError>
-    ensures { IfOk result (λ answer. answer ≡ answer_to_package_list (context_view context.now)) }
+fn package_list(alloc: Global, context: &CallContext<'_>) -> Result<Answer<DatasetChange>, Stop>
+    ensures { Answers result (answer_to_package_list (context_view context.now)) }
 {
     let mut faults = KeyErrors::new(alloc);
     let limit = read_count(alloc, &mut faults, &context.call.request.body, "limit")?;
     let offset = read_count(alloc, &mut faults, &context.call.request.body, "offset")?;
-    if let Some(denial) = denial_of(faults) {
-        return Ok(Answer::Refused(denial));
-    }
+    validate(faults)?;
     let names = context.public_names(alloc)?;
     let page = page_of(limit, offset, names.as_slice());
     Ok(Answer::Shown(Json::List(names_json(alloc, page)?)))
@@ -102,23 +117,19 @@ fn resource_show<H: TableLookup>(
     alloc: Global,
     context: &CallContext<'_>,
     tables: &H,
-) -> Result<Answer<DatasetChange>, AllocError>
-    ensures { IfOk result (λ answer. answer ≡ answer_to_resource_show (context_view context.now)
+) -> Result<Answer<DatasetChange>, Stop>
+    ensures { Answers result (answer_to_resource_show (context_view context.now)
         (summaries_seen (context_view context.now).datasets (H.summaries tables.now))) }
 {
-    match resource_at(alloc, context, "id")? {
-        Ok(located) => {
-            let shown = resource_json(
-                alloc,
-                tables,
-                &located.dataset.id,
-                located.position,
-                located.resource,
-            )?;
-            Ok(Answer::Shown(shown))
-        }
-        Err(denial) => Ok(Answer::Refused(denial)),
-    }
+    let located = resource_at(alloc, context, "id")?;
+    let shown = resource_json(
+        alloc,
+        tables,
+        &located.dataset.id,
+        located.position,
+        located.resource,
+    )?;
+    Ok(Answer::Shown(shown))
 }
 
 // ---- creation and change of datasets
@@ -142,19 +153,12 @@ fn can_create_here(context: &CallContext<'_>) -> bool
 }
 
 /// The answer to a `package_create`.
-fn package_create(
-    alloc: Global,
-    context: &CallContext<'_>,
-) -> Result<Answer<DatasetChange>, AllocError>
-    ensures { IfOk result (λ answer. answer ≡ answer_to_package_create (context_view context.now)) }
+fn package_create(alloc: Global, context: &CallContext<'_>) -> Result<Answer<DatasetChange>, Stop>
+    ensures { Answers result (answer_to_package_create (context_view context.now)) }
 {
-    if !may_create(context) {
-        return Ok(Answer::Refused(Denial::NotAuthorized(Right::CreateDataset)));
-    }
+    authorize(may_create(context), Right::CreateDataset)?;
     let faults = dataset_errors(alloc, context, None)?;
-    if let Some(denial) = denial_with_quota(context.quota, faults)? {
-        return Ok(Answer::Refused(denial));
-    }
+    validate_change(context.quota, faults)?;
     let dataset = created_dataset(alloc, context.call)?;
     let shown = package_json(alloc, context, &NoTables, &dataset)?;
     Ok(Answer::Accepted(shown, DatasetChange::Create(dataset)))
@@ -165,8 +169,8 @@ fn package_update<H: TableLookup>(
     alloc: Global,
     context: &CallContext<'_>,
     tables: &H,
-) -> Result<Answer<DatasetChange>, AllocError>
-    ensures { IfOk result (λ answer. answer ≡ answer_to_package_update (context_view context.now)
+) -> Result<Answer<DatasetChange>, Stop>
+    ensures { Answers result (answer_to_package_update (context_view context.now)
         (summaries_seen (context_view context.now).datasets (H.summaries tables.now))) }
 {
     package_change(alloc, context, tables, true)
@@ -177,8 +181,8 @@ fn package_patch<H: TableLookup>(
     alloc: Global,
     context: &CallContext<'_>,
     tables: &H,
-) -> Result<Answer<DatasetChange>, AllocError>
-    ensures { IfOk result (λ answer. answer ≡ answer_to_package_patch (context_view context.now)
+) -> Result<Answer<DatasetChange>, Stop>
+    ensures { Answers result (answer_to_package_patch (context_view context.now)
         (summaries_seen (context_view context.now).datasets (H.summaries tables.now))) }
 {
     package_change(alloc, context, tables, false)
@@ -191,20 +195,60 @@ fn package_change<H: TableLookup>(
     context: &CallContext<'_>,
     tables: &H,
     whole: bool,
-) -> Result<Answer<DatasetChange>, AllocError>
-    ensures { IfOk result (λ answer. answer ≡ answer_to_package_change whole (context_view context.now)
+) -> Result<Answer<DatasetChange>, Stop>
+    ensures { Answers result (answer_to_package_change whole (context_view context.now)
         (summaries_seen (context_view context.now).datasets (H.summaries tables.now))) }
 {
     let key = naming_key(&context.call.request.body);
-    let dataset = match editable_dataset_at(alloc, context, key)? {
-        Ok(dataset) => dataset,
-        Err(denial) => return Ok(Answer::Refused(denial)),
-    };
-    let changed = changed_dataset(alloc, context.call, whole, dataset)?;
-    let faults = change_errors(alloc, context, tables, dataset, &changed)?;
-    if let Some(denial) = denial_with_quota(context.quota, faults)? {
-        return Ok(Answer::Refused(denial));
+    let dataset = editable_dataset_at(alloc, context, key)?;
+    change_of_dataset(alloc, context, tables, whole, dataset)
+}
+
+/// The answer to a call that changes this dataset. Nothing is built of a list of resources that has an error.
+fn change_of_dataset<H: TableLookup>(
+    alloc: Global,
+    context: &CallContext<'_>,
+    tables: &H,
+    whole: bool,
+    dataset: &Package,
+) -> Result<Answer<DatasetChange>, Stop>
+    ensures { Answers result (answer_to_change_of whole (context_view context.now) (H.summaries tables.now) dataset.now) }
+{
+    let faults = dataset_errors(alloc, context, Some(dataset))?;
+    let is_faulty = has_resources_error(alloc, context, dataset, &faults)?;
+    if is_faulty {
+        return refusal(context, faults);
     }
+    let changed = changed_dataset(alloc, context.call, whole, dataset)?;
+    change_if_valid(alloc, context, tables, faults, changed)
+}
+
+/// The refusal of a change whose list of resources has an error, whatever the answer would be without one.
+fn refusal(context: &CallContext<'_>, faults: KeyErrors) -> Result<Answer<DatasetChange>, Stop>
+    requires { IsTrue (has_error (codes "resources") faults) }
+    ensures { (answer : Answer DatasetChange) →
+        Answers result (answer_if_valid context.now.quota faults answer) }
+{
+    match validate_change(context.quota, faults) {
+        Ok(()) => unreachable!(),
+        Err(stop) => Err(stop),
+    }
+}
+
+/// The answer to a call that changes a dataset to `changed`, where the body has these errors and its list of resources
+/// has none.
+fn change_if_valid<H: TableLookup>(
+    alloc: Global,
+    context: &CallContext<'_>,
+    tables: &H,
+    faults: KeyErrors,
+    changed: Package,
+) -> Result<Answer<DatasetChange>, Stop>
+    ensures { Answers result (answer_to_valid_change (context_view context.now) (H.summaries tables.now) faults changed) }
+{
+    let mut faults = faults;
+    add_lost_table_error(&mut faults, tables, &changed)?;
+    validate_change(context.quota, faults)?;
     let shown = package_json(alloc, context, tables, &changed)?;
     Ok(Answer::Accepted(shown, DatasetChange::Replace(changed)))
 }
@@ -212,37 +256,21 @@ fn package_change<H: TableLookup>(
 // ---- deletion of datasets
 
 /// The answer to a `package_delete`.
-fn package_delete(
-    alloc: Global,
-    context: &CallContext<'_>,
-) -> Result<Answer<DatasetChange>, AllocError>
-    ensures { IfOk result (λ answer. answer ≡ answer_to_package_delete (context_view context.now)) }
+fn package_delete(alloc: Global, context: &CallContext<'_>) -> Result<Answer<DatasetChange>, Stop>
+    ensures { Answers result (answer_to_package_delete (context_view context.now)) }
 {
-    let dataset = match editable_dataset_at(alloc, context, "id")? {
-        Ok(dataset) => dataset,
-        Err(denial) => return Ok(Answer::Refused(denial)),
-    };
-    if let Some(denial) = denial_with_quota(context.quota, KeyErrors::new(alloc))? {
-        return Ok(Answer::Refused(denial));
-    }
+    let dataset = editable_dataset_at(alloc, context, "id")?;
+    validate_change(context.quota, KeyErrors::new(alloc))?;
     let deleted = deleted_dataset(alloc, context.call, dataset)?;
     Ok(Answer::Accepted(Json::Null, DatasetChange::Replace(deleted)))
 }
 
 /// The answer to a `dataset_purge`.
-fn dataset_purge(
-    alloc: Global,
-    context: &CallContext<'_>,
-) -> Result<Answer<DatasetChange>, AllocError>
-    ensures { IfOk result (λ answer. answer ≡ answer_to_dataset_purge (context_view context.now)) }
+fn dataset_purge(alloc: Global, context: &CallContext<'_>) -> Result<Answer<DatasetChange>, Stop>
+    ensures { Answers result (answer_to_dataset_purge (context_view context.now)) }
 {
-    let dataset = match purgeable_dataset(alloc, context)? {
-        Ok(dataset) => dataset,
-        Err(denial) => return Ok(Answer::Refused(denial)),
-    };
-    if let Some(denial) = denial_with_quota(context.quota, KeyErrors::new(alloc))? {
-        return Ok(Answer::Refused(denial));
-    }
+    let dataset = purgeable_dataset(alloc, context)?;
+    validate_change(context.quota, KeyErrors::new(alloc))?;
     let id = dataset.id.try_clone(alloc)?;
     Ok(Answer::Accepted(Json::Null, DatasetChange::Remove(id)))
 }
@@ -254,18 +282,13 @@ fn resource_create<H: TableLookup>(
     alloc: Global,
     context: &CallContext<'_>,
     tables: &H,
-) -> Result<Answer<DatasetChange>, AllocError>
-    ensures { IfOk result (λ answer. answer ≡ answer_to_resource_create (context_view context.now)
+) -> Result<Answer<DatasetChange>, Stop>
+    ensures { Answers result (answer_to_resource_create (context_view context.now)
         (summaries_seen (context_view context.now).datasets (H.summaries tables.now))) }
 {
-    let dataset = match editable_dataset_at(alloc, context, "package_id")? {
-        Ok(dataset) => dataset,
-        Err(denial) => return Ok(Answer::Refused(denial)),
-    };
+    let dataset = editable_dataset_at(alloc, context, "package_id")?;
     let faults = new_resource_errors(alloc, dataset, &context.call.request.body)?;
-    if let Some(denial) = denial_with_quota(context.quota, faults)? {
-        return Ok(Answer::Refused(denial));
-    }
+    validate_change(context.quota, faults)?;
     let resource = resource_for(alloc, dataset.next_resource, &context.call.request.body)?;
     let shown = resource_json(
         alloc,
@@ -283,18 +306,13 @@ fn resource_update<H: TableLookup>(
     alloc: Global,
     context: &CallContext<'_>,
     tables: &H,
-) -> Result<Answer<DatasetChange>, AllocError>
-    ensures { IfOk result (λ answer. answer ≡ answer_to_resource_update (context_view context.now)
+) -> Result<Answer<DatasetChange>, Stop>
+    ensures { Answers result (answer_to_resource_update (context_view context.now)
         (summaries_seen (context_view context.now).datasets (H.summaries tables.now))) }
 {
-    let located = match editable_resource_at(alloc, context)? {
-        Ok(located) => located,
-        Err(denial) => return Ok(Answer::Refused(denial)),
-    };
+    let located = editable_resource_at(alloc, context)?;
     let faults = resource_errors(alloc, &context.call.request.body)?;
-    if let Some(denial) = denial_with_quota(context.quota, faults)? {
-        return Ok(Answer::Refused(denial));
-    }
+    validate_change(context.quota, faults)?;
     let dataset = located.dataset;
     let resource = resource_for(alloc, located.resource.number, &context.call.request.body)?;
     let shown = resource_json(alloc, tables, &dataset.id, located.position, &resource)?;
@@ -307,18 +325,25 @@ fn resource_delete<H: TableLookup>(
     alloc: Global,
     context: &CallContext<'_>,
     tables: &H,
-) -> Result<Answer<DatasetChange>, AllocError>
-    ensures { IfOk result (λ answer. answer ≡ answer_to_resource_delete (context_view context.now)
+) -> Result<Answer<DatasetChange>, Stop>
+    ensures { Answers result (answer_to_resource_delete (context_view context.now)
         (summaries_seen (context_view context.now).datasets (H.summaries tables.now))) }
 {
-    let located = match editable_resource_at(alloc, context)? {
-        Ok(located) => located,
-        Err(denial) => return Ok(Answer::Refused(denial)),
-    };
+    let located = editable_resource_at(alloc, context)?;
     let changed = without_resource_at(alloc, context.call, located.dataset, located.position)?;
+    delete_if_valid(alloc, context, tables, changed)
+}
+
+/// The answer to the deletion of a resource, which changes its dataset to `changed`.
+fn delete_if_valid<H: TableLookup>(
+    alloc: Global,
+    context: &CallContext<'_>,
+    tables: &H,
+    changed: Package,
+) -> Result<Answer<DatasetChange>, Stop>
+    ensures { Answers result (answer_to_valid_deletion (context_view context.now) (H.summaries tables.now) changed) }
+{
     let faults = deletion_errors(alloc, tables, &changed)?;
-    if let Some(denial) = denial_with_quota(context.quota, faults)? {
-        return Ok(Answer::Refused(denial));
-    }
+    validate_change(context.quota, faults)?;
     Ok(Answer::Accepted(Json::Null, DatasetChange::Replace(changed)))
 }

@@ -1,13 +1,14 @@
 //! The bodies of calls on datasets and resources: their errors, and the datasets that they describe. Each key is read
 //! once for its error and once for its value.
-ghost use Rattle.std.specs.Prelude.{◌≡◌, ◌<◌, IfOk, OnOk, [], codes, length};
+ghost use Rattle.std.specs.Prelude.{◌≡◌, ◌<◌, IfOk, IsTrue, OnOk, Some, [], codes, length};
 ghost use Rattle.std.specs.Option.{option_copied};
-ghost use Rattle.portal_base.specs.KeyErrors.{found_value, kind_message, error_if};
+ghost use Rattle.portal_base.specs.KeyErrors.{found_value, has_error, kind_message, error_if};
 ghost use Rattle.portal_base.specs.Kinds.{count_at};
 ghost use Rattle.visibility.specs.CallView.{context_view};
 ghost use Rattle.dataset_answers.specs.Bodies.{organization_given, organization_error, dataset_errors, caller_name};
-ghost use Rattle.dataset_answers.specs.Bodies.{lost_table_error, change_errors};
+ghost use Rattle.dataset_answers.specs.Bodies.{lost_table_error};
 ghost use Rattle.dataset_answers.specs.Bodies.{created_dataset, changed_dataset, deleted_dataset, new_resource_errors};
+ghost use Rattle.dataset_answers.specs.Bodies.{with_origin};
 ghost use Rattle.dataset_answers.specs.Bodies.{with_new_resource, with_resource_at, without_resource_at};
 
 use org_roles::entry::Org;
@@ -21,6 +22,7 @@ use portal_base::copy::TryClone;
 use portal_base::json_value::Json;
 use portal_base::key_errors::KeyErrors;
 use portal_base::kinds::count_at;
+use portal_base::moment::Moment;
 use portal_base::nonce::id_of;
 use portal_base::seq::Seq;
 use portal_base::text::Text;
@@ -109,21 +111,34 @@ pub fn lost_table_error<H: TableLookup>(tables: &H, changed: &Package) -> Option
     message_unless(!is_lost, "A table of another resource refers to it")
 }
 
-/// The errors of a body that changes `dataset` to `changed`. The other errors of the key `resources` precede that of a
-/// removed table.
-pub fn change_errors<H: TableLookup>(
+/// Whether the list of resources in a body that changes the dataset has an error, which is then among `faults`, the errors
+/// of the body.
+pub fn has_resources_error(
     alloc: Global,
     context: &CallContext<'_>,
-    tables: &H,
     dataset: &Package,
-    changed: &Package,
-) -> Result<KeyErrors, AllocError>
-    ensures { IfOk result (λ faults. faults ≡ change_errors (context_view context.now).people (H.summaries tables.now)
-        context.now.call.now.request.body dataset.now changed.now) }
+    faults: &KeyErrors,
+) -> Result<bool, AllocError>
+    requires { faults.now
+        ≡ dataset_errors (context_view context.now).people context.now.call.now.request.body (Some dataset.now) }
+    ensures { IfOk result (λ is. IsTrue is → IsTrue (has_error (codes "resources") faults.now)) }
 {
-    let mut faults = dataset_errors(alloc, context, Some(dataset))?;
-    add_error(&mut faults, "resources", lost_table_error(tables, changed))?;
-    Ok(faults)
+    if faults.is_empty() {
+        return Ok(false);
+    }
+    build::has_resources_error(alloc, &context.call.request.body, Some(dataset))
+}
+
+/// Adds the error of a table that `changed` loses, unless the key `resources` has an error.
+pub fn add_lost_table_error<H: TableLookup>(
+    faults: &mut KeyErrors,
+    tables: &H,
+    changed: &Package,
+) -> Result<(), AllocError>
+    ensures { OnOk result (faults.new
+        ≡ error_if (codes "resources") (lost_table_error (H.summaries tables.now) changed.now) faults.old) }
+{
+    add_error(faults, "resources", lost_table_error(tables, changed))
 }
 
 /// The errors of the deletion of a resource, which changes its dataset to `changed`.
@@ -155,12 +170,22 @@ fn name_of_caller(alloc: Global, caller: &Caller) -> Result<Text, AllocError>
 pub fn created_dataset(alloc: Global, call: &Call) -> Result<Package, AllocError>
     ensures { IfOk result (λ dataset. dataset ≡ created_dataset call.now) }
 {
-    let mut dataset = build::built_dataset(alloc, &call.request.body, None, true)?;
-    dataset.id = id_of(alloc, call.nonce)?;
-    dataset.creator = name_of_caller(alloc, &call.caller)?;
-    dataset.created = call.moment;
-    dataset.modified = call.moment;
-    Ok(dataset)
+    let id = id_of(alloc, call.nonce)?;
+    let creator = name_of_caller(alloc, &call.caller)?;
+    let dataset = build::built_dataset(alloc, &call.request.body, None, true)?;
+    Ok(with_origin(dataset, id, creator, call.moment))
+}
+
+/// The dataset with this id, created by this user at this moment. It takes no memory.
+fn with_origin(dataset: Package, id: Text, creator: Text, moment: Moment) -> Package
+    ensures { result ≡ with_origin dataset id creator moment }
+{
+    let mut dataset = dataset;
+    dataset.id = id;
+    dataset.creator = creator;
+    dataset.created = moment;
+    dataset.modified = moment;
+    dataset
 }
 
 /// The dataset with the changes of a call. With `whole` absent keys take their defaults, and without it they keep their

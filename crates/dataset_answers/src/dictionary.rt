@@ -2,7 +2,7 @@
 ghost use Rattle.std.specs.Prelude.{◌≡◌, map, IfOk};
 ghost use Rattle.dataset_answers.specs.Dictionary.{state_name, organization_title, organization_dictionary};
 ghost use Rattle.dataset_answers.specs.Dictionary.{tag_dictionary, resource_dictionary, resource_dictionaries};
-ghost use Rattle.dataset_answers.specs.Dictionary.{package_dictionary};
+ghost use Rattle.dataset_answers.specs.Dictionary.{dictionary_with, package_dictionary};
 ghost use Rattle.visibility.specs.CallView.{context_view};
 
 use packages::named::resource_address;
@@ -133,6 +133,19 @@ pub fn package_json<H: TableLookup>(
     let organization = organization_json(alloc, context, &dataset.owner_org)?;
     let resources = resources_json(alloc, tables, &dataset.id, dataset.resources.as_slice())?;
     let tags = tags_json(alloc, dataset.tags.as_slice())?;
+    dictionary_with(alloc, dataset, organization, resources, tags)
+}
+
+/// The dictionary of a dataset, with these dictionaries of its organization, its resources and its tags.
+fn dictionary_with(
+    alloc: Global,
+    dataset: &Package,
+    organization: Json,
+    resources: Seq<Json>,
+    tags: Seq<Json>,
+) -> Result<Json, AllocError>
+    ensures { IfOk result (λ json. json ≡ dictionary_with dataset.now organization resources tags) }
+{
     Json::dictionary(
         alloc,
         [

@@ -6,8 +6,9 @@ use Rattle.std.specs.Result.{result_map_both}
 use Rattle.packages.specs.Named.{Located}
 use Rattle.portal_base.specs.KeyErrors.{error_if}
 use Rattle.portal_base.specs.declared.json_value.Json.{Json}
-use Rattle.portal_calls.specs.Answer.{AcceptsOnly, answer_if_valid}
+use Rattle.portal_calls.specs.Answer.{AcceptsOnly, denial_of, quota_error}
 use Rattle.portal_calls.specs.declared.answer.Answer.{Answer}
+use Rattle.portal_calls.specs.declared.answer.Answer.TheVariants.{Refused}
 use Rattle.portal_calls.specs.declared.answer.Denial.{Denial}
 use Rattle.visibility.specs.CallView.{CallView}
 use Rattle.visibility.specs.Visibility.{may_edit_in}
@@ -19,7 +20,9 @@ use Rattle.datastore_answers.specs.TableAnswers.{tables_beside}
 use Rattle.datastore_answers.specs.Answers.{answer_to_datastore_create, create_answer, create_table_answer}
 use Rattle.datastore_answers.specs.Answers.{upsert_answer_for}
 use Rattle.datastore_answers.specs.Changed.{TableChange}
-use Rattle.datastore_answers.specs.Plan.{IsPlanned, change_of}
+use Rattle.portal_calls.specs.declared.stop.Stop.{Stop}
+use Rattle.portal_calls.specs.declared.stop.Stop.TheVariants as stop
+use Rattle.datastore_answers.specs.Plan.{IsPlanned, PlansAnswer, PlansTableAnswer}
 use Rattle.datastore_answers.specs.Tables.{Stored, table_at, tables_seen}
 use Rattle.datastore_answers.specs.Errors.{OrError, records_error, error_of}
 use Rattle.datastore_answers.specs.declared.answer.TableAnswer.TheVariants.{NoTable, Answered}
@@ -52,6 +55,17 @@ on-none {C} key view tables answer placed found none =
     ∙ ap (λ (r : Result Located Denial). or_refused r (λ p. answer_for_table answer p (tables_beside p tables))) found
     ∙ sym (answer-seen key view tables answer)
 
+-- What stops the answer on the table stops the answer to the call.
+pub stopped-there : (key : List ℕ) (view : CallView) (tables : List ResourceTable)
+    (answer : Located → List ResourceTable → ResourceTable → Answer TableChange) (placed : Located) (t : ResourceTable)
+    (why : Stop) → Ok placed ≡ resource_at key view
+    → table_at placed.resource.number (tables_beside placed tables) ≡ Some t
+    → PlansAnswer (Err why) (answer placed (tables_beside placed tables) t)
+    → PlansTableAnswer (Err why) (answer_for_resource key view (tables_seen view.datasets tables) answer)
+stopped-there key view tables answer placed t (stop.Refused denial) found there same =
+    on-there key view tables answer placed t (Refused denial) found there same
+stopped-there key view tables answer placed t stop.OutOfMemory found there same = tt
+
 -- ---- new tables
 
 -- A `datastore_create` is answered whether or not the resource has a table.
@@ -65,19 +79,16 @@ create-there view tables placed given found same =
     ∙ ap (λ (r : Result Located Denial). or_refused r (λ p. create_table_answer view p (tables_beside p tables))) found
     ∙ sym (beside-answer (codes "resource_id") view tables (create_table_answer view))
 
--- ---- records
+pub create-stopped : (view : CallView) (tables : List ResourceTable) (placed : Located) (why : Stop)
+    → Ok placed ≡ resource_at (codes "resource_id") view
+    → PlansAnswer (Err why) (create_answer view placed (tables_beside placed tables)
+    (table_at placed.resource.number (tables_beside placed tables)))
+    → PlansTableAnswer (Err why) (answer_to_datastore_create view (tables_seen view.datasets tables))
+create-stopped view tables placed (stop.Refused denial) found same =
+    create-there view tables placed (Refused denial) found same
+create-stopped view tables placed stop.OutOfMemory found same = tt
 
--- If the records can't be read, the answer is their error, and nothing is put.
-pub refused-answer : (view : CallView) (placed : Located) (beside : List ResourceTable) (t : ResourceTable)
-    (how : OrError Method) (read given_read : OrError (List Json)) (given : Answer TableChange)
-    → may_edit_in view.people view.call.caller placed.dataset ≡ true → given_read ≡ read
-    → records_error beside t how given_read ≡ error_of given_read
-    → ((other : Answer TableChange) → given ≡ answer_if_valid view.quota (error_if (codes "records") (error_of given_read)
-    (error_if (codes "method") (error_of how) [])) other)
-    → given ≡ upsert_answer_for view placed beside t how read
-refused-answer view placed beside t how read given_read given may is error same =
-    subst (λ r. given ≡ upsert_answer_for view placed beside t how r) is
-    (rw (may, error) (same _))
+-- ---- records
 
 pub method-error : (beside : List ResourceTable) (t : ResourceTable) (message : List ℕ) (read : OrError (List Json))
     → records_error beside t (Err message) read ≡ error_of read
@@ -98,21 +109,12 @@ error-now (Ok r) = refl
 error-now (Err m) = refl
 
 -- If the method can't be read, the answer has its error, and the records' error.
-pub method-refused : {E : Type 0} (result : Result (Answer TablePlan) E) (view : CallView) (placed : Located)
-    (beside : List ResourceTable) (how : OrError Method) (message : List ℕ) (recs : Result (Bor (List Json)) (List ℕ))
-    (read : OrError (List Json)) → may_edit_in view.people view.call.caller placed.dataset ≡ true → how ≡ Err message
+pub method-refused : (view : CallView) (placed : Located) (beside : List ResourceTable) (t : ResourceTable)
+    (how : OrError Method) (message : List ℕ) (recs : Result (Bor (List Json)) (List ℕ)) (read : OrError (List Json))
+    (denial : Denial) → may_edit_in view.people view.call.caller placed.dataset ≡ true → how ≡ Err message
     → result_map_both (λ (r : Bor (List Json)). r.now) (λ (m : List ℕ). m) recs ≡ read
-    → IfOk result (λ a. (other : Answer TableChange) → map_answer change_of a ≡ answer_if_valid view.quota
-    (error_if (codes "records") (error_of recs) (error_if (codes "method") (Some message) [])) other)
-    → IfOk result (λ a. (t : ResourceTable) → table_at placed.resource.number beside ≡ Some t
-    → map_answer change_of a ≡ upsert_answer_for view placed beside t how read)
-method-refused (Err e) view placed beside how message recs read may is same refusal = tt
-method-refused (Ok a) view placed beside how message recs read may is same refusal = λ t there.
-    refused-answer view placed beside t how read read (map_answer change_of a) may refl
-    (subst (λ h. records_error beside t h read ≡ error_of read) (sym is) (method-error beside t message read))
-    (λ other. refusal other
-    ∙ ap (λ error. answer_if_valid view.quota (error_if (codes "records") error (error_if (codes "method") (Some message) []))
-    other)
-    (error-now recs ∙ ap error_of same)
-    ∙ ap (λ h. answer_if_valid view.quota (error_if (codes "records") (error_of read) (error_if (codes "method") (error_of h) []))
-    other) (sym is))
+    → Some denial ≡ denial_of (error_if (codes "body") (quota_error view.quota)
+    (error_if (codes "records") (error_of recs) (error_if (codes "method") (Some message) [])))
+    → Refused denial ≡ upsert_answer_for view placed beside t how read
+method-refused view placed beside t how message recs read denial may is same refusal =
+    rw (may, is, method-error beside t message read, ← same, ← error-now recs, ← refusal) refl

@@ -8,16 +8,20 @@ use Rattle.packages.specs.Named.{Located}
 use Rattle.portal_base.specs.KeyErrors.{KeyError, error_if, read_value}
 use Rattle.portal_base.specs.declared.json_value.Json.{Json}
 use Rattle.portal_base.specs.Kinds.{list_at, present, texts_at}
-use Rattle.portal_calls.specs.Answer.{answer_if_valid}
+use Rattle.portal_calls.specs.Answer.{answer_if_valid, quota_error}
 use Rattle.portal_calls.specs.declared.answer.Answer.{Answer}
+use Rattle.portal_calls.specs.declared.answer.Answer.TheVariants.{Refused}
+use Rattle.portal_calls.specs.declared.answer.Denial.{Denial}
+use Rattle.portal_calls.specs.declared.answer.Denial.TheVariants.{Validation}
 use Rattle.portal_calls.specs.declared.answer.Quota.{Quota}
+use Rattle.portal_calls.specs.declared.stop.Stop.{Stop}
 use Rattle.table_schema.specs.Field.{SchemaValue}
 use Rattle.table_schema.specs.Keys.{schema_reading}
 use Rattle.datastore_table.specs.Results.{◌>>>◌}
 use Rattle.datastore_table.proofs.ResultLemmas.{bound-ok}
 use Rattle.datastore_table.specs.declared.method.Method.TheVariants as method
-use Rattle.datastore_answers.specs.TableAnswers.{address_of, map_answer}
-use Rattle.datastore_answers.specs.Answers.{validation_refusal, create_answer_for, authorized_create_answer}
+use Rattle.datastore_answers.specs.TableAnswers.{address_of}
+use Rattle.datastore_answers.specs.Answers.{create_answer_for, authorized_create_answer}
 use Rattle.datastore_answers.specs.Answers.{accepted_create_or_fill}
 use Rattle.datastore_answers.specs.Changed.{TableChange}
 use Rattle.datastore_answers.specs.Described.{Given, described_table, described_new, names_or_none, schema_or_error}
@@ -25,7 +29,7 @@ use Rattle.datastore_answers.specs.Described.{unless_errors}
 use Rattle.datastore_answers.specs.Described.{table_of_descriptor, existing_table_errors, empty_table}
 use Rattle.datastore_answers.specs.Resolution.{resolved_targets}
 use Rattle.datastore_answers.specs.Linked.{put_among}
-use Rattle.datastore_answers.specs.Plan.{change_of}
+use Rattle.datastore_answers.specs.Plan.{PlansAnswer}
 use Rattle.datastore_answers.specs.Tables.{without_room}
 use Rattle.datastore_answers.specs.Errors.{OrError, put_error, error_of}
 use Rattle.datastore_answers.specs.declared.plan.TablePlan.{TablePlan}
@@ -98,47 +102,40 @@ new-empty_table placed beside body t is =
 -- ---- answers
 
 -- If the body describes no table, the answer has its errors, and the records' error.
-pub refuse_description-answer : {E : Type 0} (result : Result (Answer TablePlan) E) (quota : Quota)
-    (beside : List ResourceTable) (make : List Json → ResourceTable → Answer TableChange)
-    (described : Result ResourceTable (List KeyError)) (errors : List KeyError) (recs : Result (Bor (List Json)) (List ℕ))
+pub refuse_description-answer : (quota : Quota) (beside : List ResourceTable)
+    (make : List Json → ResourceTable → Answer TableChange) (described : Result ResourceTable (List KeyError))
+    (errors : List KeyError) (recs : Result (Bor (List Json)) (List ℕ)) (denial : Denial)
     → described ≡ Err errors
-    → IfOk result (λ a. map_answer change_of a
-    ≡ validation_refusal quota (error_if (codes "records") (error_of recs) errors))
-    → IfOk result (λ a. map_answer change_of a ≡ create_answer_for quota beside make described
-    (result_map_both (λ (r : Bor (List Json)). r.now) (λ (m : List ℕ). m) recs))
-refuse_description-answer (Err e) quota beside make described errors recs is same = tt
-refuse_description-answer (Ok a) quota beside make described errors recs is same =
-    same
-    ∙ ap (λ error. validation_refusal quota (error_if (codes "records") error errors)) (error-now recs)
-    ∙ ap (λ d. create_answer_for quota beside make d
-    (result_map_both (λ (r : Bor (List Json)). r.now) (λ (m : List ℕ). m) recs))
-    (sym is)
+    → denial ≡ Validation (error_if (codes "body") (quota_error quota)
+    (error_if (codes "records") (error_of recs) errors))
+    → Refused denial ≡ create_answer_for quota beside make described
+    (result_map_both (λ (r : Bor (List Json)). r.now) (λ (m : List ℕ). m) recs)
+refuse_description-answer quota beside make described errors recs denial is same =
+    rw (is, ← error-now recs) (ap Refused same)
 
 -- If the body describes a table and the records can be read, the answer is that of putting the records into it.
-pub made-answer : {E : Type 0} (result : Result (Answer TablePlan) E) (quota : Quota)
-    (beside other : List ResourceTable) (make : List Json → ResourceTable → Answer TableChange)
-    (described : Result ResourceTable (List KeyError)) (t : ResourceTable) (records : List Json)
-    (read : OrError (List Json))
+pub made-answer : (result : Result (Answer TablePlan) Stop) (quota : Quota) (beside other : List ResourceTable)
+    (make : List Json → ResourceTable → Answer TableChange) (described : Result ResourceTable (List KeyError))
+    (t : ResourceTable) (records : List Json) (read : OrError (List Json))
     → described ≡ Ok t → read ≡ Ok records → other ≡ beside
-    → IfOk result (λ a. map_answer change_of a ≡ answer_if_valid quota (error_if (codes "records")
+    → PlansAnswer result (answer_if_valid quota (error_if (codes "records")
     (put_error (put_among other method.Insert records t)) []) (make records t))
-    → IfOk result (λ a. map_answer change_of a ≡ create_answer_for quota beside make described read)
-made-answer (Err e) quota beside other make described t records read is was here same = tt
-made-answer (Ok a) quota beside other make described t records read is was here same =
+    → PlansAnswer result (create_answer_for quota beside make described read)
+made-answer result quota beside other make described t records read is was here same =
     rw (is, was, ← here) same
 
 -- If the body has errors for an existing table, the answer has them, and the records' error.
-pub other-answer : {E : Type 0} (result : Result (Answer TablePlan) E) (quota : Quota) (placed : Located)
-    (beside : List ResourceTable) (body : Json) (recs : Result (Bor (List Json)) (List ℕ))
-    (there : Option ResourceTable) (t : ResourceTable) (errors : List KeyError) → Some t ≡ there
+pub other-answer : (quota : Quota) (placed : Located) (beside : List ResourceTable) (body : Json)
+    (recs : Result (Bor (List Json)) (List ℕ)) (there : Option ResourceTable) (t : ResourceTable)
+    (errors : List KeyError) (denial : Denial) → Some t ≡ there
     → errors ≡ existing_table_errors t.table.schema body → (errors ≡ [] → ⊥)
-    → IfOk result (λ a. map_answer change_of a
-    ≡ validation_refusal quota (error_if (codes "records") (error_of recs) errors))
-    → IfOk result (λ a. map_answer change_of a ≡ authorized_create_answer quota placed beside body
-    (result_map_both (λ (r : Bor (List Json)). r.now) (λ (m : List ℕ). m) recs) there)
-other-answer result quota placed beside body recs there t errors is same_errors some same =
-    refuse_description-answer result quota beside (accepted_create_or_fill placed there)
-    (described_table placed beside body there) errors recs
+    → denial ≡ Validation (error_if (codes "body") (quota_error quota)
+    (error_if (codes "records") (error_of recs) errors))
+    → Refused denial ≡ authorized_create_answer quota placed beside body
+    (result_map_both (λ (r : Bor (List Json)). r.now) (λ (m : List ℕ). m) recs) there
+other-answer quota placed beside body recs there t errors denial is same_errors some same =
+    refuse_description-answer quota beside (accepted_create_or_fill placed there)
+    (described_table placed beside body there) errors recs denial
     (ap (described_table placed beside body) (sym is)
     ∙ ap (λ fs. unless_errors fs (Ok t)) (sym same_errors)
     ∙ unless_errors-some errors (Ok t) some)

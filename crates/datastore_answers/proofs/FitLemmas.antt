@@ -14,6 +14,7 @@ use Rattle.portal_calls.specs.declared.answer.Denial.{Denial}
 use Rattle.portal_calls.specs.declared.answer.Quota.{Quota}
 use Rattle.portal_calls.specs.declared.answer.Answer.TheVariants.{Shown, Refused, Accepted}
 use Rattle.portal_calls.specs.declared.answer.Right.TheVariants.{EditDataset}
+use Rattle.portal_calls.specs.declared.stop.Stop.{Stop}
 use Rattle.portal_calls.specs.declared.topic.TableAction.{TableAction}
 use Rattle.portal_calls.specs.declared.topic.TableAction.TheVariants.{DatastoreCreate, DatastoreInfo, DatastoreUpsert}
 use Rattle.portal_calls.proofs.Answering.{AcceptsOnly-answer_if_authorized, AcceptsOnly-answer_if_valid, error_if-none}
@@ -36,7 +37,7 @@ use Rattle.datastore_answers.specs.Described.{described_table, unless_errors, ex
 use Rattle.datastore_answers.specs.Linked.{put_among}
 use Rattle.datastore_answers.specs.Dictionary.{info_dictionary}
 use Rattle.datastore_answers.specs.Fit.{IsFitDeleteRows, IsFitTable, IsFitCreate, IsOwn, IsFitPut}
-use Rattle.datastore_answers.specs.Plan.{change_of}
+use Rattle.datastore_answers.specs.Plan.{PlansTableAnswer, change_of}
 use Rattle.datastore_answers.specs.Restrict.{is_referenced}
 use Rattle.datastore_answers.specs.Tables.{table_at}
 use Rattle.datastore_answers.specs.Errors.{OrError, read_method, read_records, records_error, error_of, put_errors}
@@ -295,9 +296,9 @@ nothing-planned Q (Answered (Shown json)) none = tt
 nothing-planned Q (Answered (Refused denial)) none = tt
 nothing-planned Q (Answered (Accepted json plan)) none = absurd none
 
-pub reading_plans : {E : Type 0} (Q : TablePlan → Type 0) (result : Result (TableAnswer TablePlan) E)
-    (expected : TableAnswer TableChange) → TableAcceptsOnly (λ change. ⊥) expected
-    → IfOk result (λ answer. map_table_answer change_of answer ≡ expected) → IfOk result (TableAcceptsOnly Q)
+pub reading_plans : (Q : TablePlan → Type 0) (result : Result (TableAnswer TablePlan) Stop)
+    (expected : TableAnswer TableChange) → TableAcceptsOnly (λ change. ⊥) expected → PlansTableAnswer result expected
+    → IfOk result (TableAcceptsOnly Q)
 reading_plans Q (Ok answer) expected none is =
     nothing-planned Q answer (subst (TableAcceptsOnly (λ change. ⊥)) (sym is) none)
-reading_plans Q (Err e) expected none is = tt
+reading_plans Q (Err stop) expected none is = tt

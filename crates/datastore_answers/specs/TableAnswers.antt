@@ -1,11 +1,14 @@
 -- Answers on the table of a resource. A missing table is reported after a missing resource, and before a missing
 -- right.
-use Rattle.std.specs.Prelude.{ℕ, List, Option, Some, None, Result, Ok, Err, ⊤}
+use Rattle.std.specs.Prelude.{ℕ, List, Option, Some, None, Result, Ok, Err, ⊤, alloc_error}
+use Rattle.std.specs.declared.alloc.AllocError.{AllocError}
 use Rattle.packages.specs.Named.{Located}
 use Rattle.portal_calls.specs.Answer.{AcceptsOnly}
 use Rattle.portal_calls.specs.declared.answer.Answer.{Answer}
 use Rattle.portal_calls.specs.declared.answer.Answer.TheVariants.{Shown, Refused, Accepted}
 use Rattle.portal_calls.specs.declared.answer.Denial.{Denial}
+use Rattle.portal_calls.specs.declared.stop.Stop.{Stop}
+use Rattle.portal_calls.specs.declared.stop.Stop.TheVariants as stop
 use Rattle.visibility.specs.CallView.{CallView}
 use Rattle.visibility.specs.Lookup.{resource_at}
 use Rattle.datastore_answers.specs.Tables.{table_at, tables_in}
@@ -43,6 +46,12 @@ abbrev pub answer_for_resource : {C : Type 0} → List ℕ → CallView → List
     → (Located → List ResourceTable → ResourceTable → Answer C) → TableAnswer C
 answer_for_resource key view tables answer =
     or_refused (resource_at key view) (λ placed. answer_for_table answer placed (tables_beside placed tables))
+
+-- the answer, or the refusal as the answer
+abbrev pub table_answer_or_refusal : {C : Type 0} → Result (TableAnswer C) Stop → Result (TableAnswer C) AllocError
+table_answer_or_refusal (Ok answer) = Ok answer
+table_answer_or_refusal (Err (stop.Refused denial)) = Ok (Answered (Refused denial))
+table_answer_or_refusal (Err stop.OutOfMemory) = Err alloc_error
 
 -- ---- accepted changes
 

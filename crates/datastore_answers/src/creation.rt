@@ -4,23 +4,22 @@ ghost use Rattle.std.specs.List.{list_all};
 ghost use Rattle.std.specs.Result.{result_map_both};
 ghost use Rattle.packages.specs.LocatedResource.{located_now};
 ghost use Rattle.portal_base.specs.KeyErrors.{error_if};
-ghost use Rattle.portal_calls.specs.Answer.{AcceptsOnly, answer_if_valid};
-ghost use Rattle.portal_calls.specs.declared.answer.Answer.{Answer};
+ghost use Rattle.portal_calls.specs.Answer.{AcceptsOnly, answer_if_valid, denial_of, quota_error};
+ghost use Rattle.portal_calls.specs.Stop.{Gives};
 ghost use Rattle.table_schema.specs.Values.{is_map};
 ghost use Rattle.visibility.specs.CallView.{context_view};
-ghost use Rattle.datastore_answers.specs.TableAnswers.{map_answer};
-ghost use Rattle.datastore_answers.specs.Answers.{validation_refusal, create_answer_for, authorized_create_answer};
+ghost use Rattle.datastore_answers.specs.Answers.{create_answer_for, authorized_create_answer};
 ghost use Rattle.datastore_answers.specs.Answers.{create_answer, accepted_fill, id_of, accepted_create};
-ghost use Rattle.datastore_answers.specs.Changed.{TableChange, put_into};
+ghost use Rattle.datastore_answers.specs.Changed.{put_into};
 ghost use Rattle.datastore_answers.specs.Described.{described_table};
 ghost use Rattle.datastore_answers.specs.Dictionary.{create_dictionary};
 ghost use Rattle.datastore_answers.specs.Linked.{AreLinked, put_among};
-ghost use Rattle.datastore_answers.specs.Plan.{IsPlanned, change_of};
+ghost use Rattle.datastore_answers.specs.Plan.{IsPlanned, PlansAnswer};
 ghost use Rattle.datastore_answers.specs.Tables.{Stored, without_room, table_at, tables_in, tables_of};
 ghost use Rattle.datastore_answers.specs.Errors.{put_error, error_of};
 ghost use Rattle.datastore_answers.specs.declared.resource_table.ResourceTable.{ResourceTable};
 
-use crate::answers::{answer_put, refuse};
+use crate::answers::{answer_put, refuse_at};
 use crate::described::{described_new, existing_table_errors};
 use crate::dictionary::create_json;
 use crate::errors::{fault_text, read_records};
@@ -34,78 +33,62 @@ use portal_base::json_value::Json;
 use portal_base::key_errors::KeyErrors;
 use portal_base::seq::Seq;
 use portal_base::text::Text;
-use portal_calls::answer::{Answer, Denial, Quota, Right, denial_with_quota};
+use portal_calls::answer::{Answer, Denial, Quota, Right};
+use portal_calls::stop::{Stop, authorize, validate_change};
 use std::alloc::{AllocError, Global};
 use visibility::context::CallContext;
 
 // ---- refusals
 
-// The refusal of a body that breaks these rules. It reports the used up quota too.
-fn validation_refusal(quota: Quota, errors: KeyErrors) -> Result<Answer<TablePlan>, AllocError>
-    ensures refusal { IfOk result (λ answer. map_answer change_of answer ≡ validation_refusal quota errors) }
-    ensures nothing { IfOk result (λ answer. (stored : Stored) → AcceptsOnly (λ plan. IsPlanned plan stored) answer) }
-{
-    let mut errors = errors;
-    if quota == Quota::UsedUp {
-        let message = Text::from_static("Quota of accepted bytes is used up");
-        errors.add_error(Text::from_static("body"), message)?;
-    }
-    Ok(Answer::Refused(Denial::Validation(errors.into_list())))
-}
-
-// The refusal of a body that describes no table. It reports the records' error too.
+// The refusal of a body that describes no table. It reports the records' error and the used up quota too.
 fn refuse_description(
     quota: Quota,
     errors: KeyErrors,
     records: Result<&Seq<Json>, Text>,
-) -> Result<Answer<TablePlan>, AllocError>
-    ensures refusal { IfOk result (λ answer. map_answer change_of answer
-        ≡ validation_refusal quota (error_if (codes "records") (error_of records.entry) errors)) }
-    ensures nothing { IfOk result (λ answer. (stored : Stored) → AcceptsOnly (λ plan. IsPlanned plan stored) answer) }
+) -> Result<Denial, AllocError>
+    ensures { IfOk result (λ denial. denial ≡ Denial.Validation (error_if (codes "body") (quota_error quota)
+        (error_if (codes "records") (error_of records.entry) errors))) }
 {
     let mut errors = errors;
     if let Err(message) = records {
         errors.add_error(Text::from_static("records"), message)?;
     }
-    validation_refusal(quota, errors)
-}
-
-// The refusal for the records' error alone.
-fn refuse_records(
-    alloc: Global,
-    quota: Quota,
-    message: Text,
-) -> Result<Answer<TablePlan>, AllocError>
-    ensures refusal { IfOk result (λ answer. (given : Answer TableChange) → map_answer change_of answer
-        ≡ answer_if_valid quota (error_if (codes "records") (Some message) []) given) }
-    ensures nothing { IfOk result (λ answer. (stored : Stored) → AcceptsOnly (λ plan. IsPlanned plan stored) answer) }
-{
-    let mut errors = KeyErrors::new(alloc);
-    errors.add_error(Text::from_static("records"), message)?;
-    refuse(quota, errors)
+    if quota == Quota::UsedUp {
+        let message = Text::from_static("Quota of accepted bytes is used up");
+        errors.add_error(Text::from_static("body"), message)?;
+    }
+    Ok(Denial::Validation(errors.into_list()))
 }
 
 // ---- a new table
 
-// The new table with the records in it. The inner error is the message of the table's refusal.
-fn filled(
+// The new table with the records in it. It refuses records that the table refuses.
+fn fill(
     alloc: Global,
+    quota: Quota,
     tables: &Tables,
     table: ResourceTable,
     records: &Seq<Json>,
-) -> Result<Result<ResourceTable, Text>, AllocError>
+) -> Result<ResourceTable, Stop>
     requires maps { IsTrue (list_all is_map records.now) }
     requires empty { table.table.rows ≡ [] }
-    ensures table { IfOk result (λ outcome. IfOk outcome (λ t.
-        without_room t ≡ put_into Method.Insert records.now (without_room table))) }
-    ensures error { IfOk result (λ outcome. error_of outcome
-        ≡ put_error (put_among (tables_in table.address.dataset (tables_of tables.now)) Method.Insert records.now
-        (without_room table))) }
+    ensures table { IfOk result (λ t.
+        without_room t ≡ put_into Method.Insert records.now (without_room table)) }
+    ensures valid { Gives result (λ t. None) Some
+        (denial_of (error_if (codes "body") (quota_error quota) (error_if (codes "records")
+        (put_error (put_among (tables_in table.address.dataset (tables_of tables.now)) Method.Insert records.now
+        (without_room table))) []))) }
 {
     match tables.filled(table, records) {
-        Ok(table) => Ok(Ok(table)),
-        Err(TableFault::OutOfMemory) => Err(AllocError),
-        Err(fault) => Ok(Err(fault_text(alloc, &fault)?)),
+        Ok(table) => {
+            validate_change(quota, KeyErrors::new(alloc))?;
+            Ok(table)
+        }
+        Err(TableFault::OutOfMemory) => Err(Stop::OutOfMemory),
+        Err(fault) => {
+            let message = fault_text(alloc, &fault)?;
+            Err(Stop::Refused(refuse_at(alloc, quota, "records", message)?))
+        }
     }
 }
 
@@ -117,25 +100,18 @@ fn answer_new_table_with(
     tables: &Tables,
     table: ResourceTable,
     records: &Seq<Json>,
-) -> Result<Answer<TablePlan>, AllocError>
+) -> Result<Answer<TablePlan>, Stop>
     requires maps { IsTrue (list_all is_map records.now) }
     requires empty { table.table.rows ≡ [] }
-    ensures answer { IfOk result (λ answer. map_answer change_of answer
-        ≡ answer_if_valid quota (error_if (codes "records")
+    ensures answer { PlansAnswer result (answer_if_valid quota (error_if (codes "records")
         (put_error (put_among (tables_in table.address.dataset (tables_of tables.now)) Method.Insert records.now
         (without_room table))) [])
         (accepted_create (located_now placed.now) records.now (without_room table))) }
     ensures ready { IfOk result (λ answer. (stored : Stored) → AcceptsOnly (λ plan. IsPlanned plan stored) answer) }
 {
     let shown = create_json(alloc, id_of(alloc, placed)?, table.table.schema())?;
-    let table = match filled(alloc, tables, table, records)? {
-        Ok(table) => table,
-        Err(message) => return refuse_records(alloc, quota, message),
-    };
-    match denial_with_quota(quota, KeyErrors::new(alloc))? {
-        Some(denial) => Ok(Answer::Refused(denial)),
-        None => Ok(Answer::Accepted(shown, TablePlan::Create(table))),
-    }
+    let table = fill(alloc, quota, tables, table, records)?;
+    Ok(Answer::Accepted(shown, TablePlan::Create(table)))
 }
 
 // The answer if the resource has no table.
@@ -145,23 +121,23 @@ fn answer_new_table(
     placed: &LocatedResource<'_>,
     tables: &Tables,
     records: Result<&Seq<Json>, Text>,
-) -> Result<Answer<TablePlan>, AllocError>
+) -> Result<Answer<TablePlan>, Stop>
     requires maps { IfOk records (λ records. IsTrue (list_all is_map records.now)) }
-    ensures answer { IfOk result (λ answer. map_answer change_of answer
-        ≡ create_answer_for context.now.quota (tables_in placed.now.dataset.now.id (tables_of tables.now))
-        (accepted_create (located_now placed.now))
+    ensures answer { PlansAnswer result (create_answer_for context.now.quota
+        (tables_in placed.now.dataset.now.id (tables_of tables.now)) (accepted_create (located_now placed.now))
         (described_table (located_now placed.now) (tables_in placed.now.dataset.now.id (tables_of tables.now))
         context.now.call.now.request.body None)
         (result_map_both (λ records. records.now) (λ message. message) records.entry)) }
     ensures ready { IfOk result (λ answer. (stored : Stored) → AcceptsOnly (λ plan. IsPlanned plan stored) answer) }
 {
+    let quota = context.quota;
     let table = match described_new(alloc, placed, tables, &context.call.request.body)? {
         Ok(table) => table,
-        Err(errors) => return refuse_description(context.quota, errors, records),
+        Err(errors) => return Err(Stop::Refused(refuse_description(quota, errors, records)?)),
     };
     match records {
-        Ok(records) => answer_new_table_with(alloc, context.quota, placed, tables, table, records),
-        Err(message) => refuse_records(alloc, context.quota, message),
+        Ok(records) => answer_new_table_with(alloc, quota, placed, tables, table, records),
+        Err(message) => Err(Stop::Refused(refuse_at(alloc, quota, "records", message)?)),
     }
 }
 
@@ -176,40 +152,38 @@ fn answer_existing_table(
     tables: &mut Tables,
     shown: Json,
     records: Result<&Seq<Json>, Text>,
-) -> Result<Answer<TablePlan>, AllocError>
+) -> Result<Answer<TablePlan>, Stop>
     requires exists { IsSome (table_at placed.now.resource.now.number
         (tables_in placed.now.dataset.now.id (tables_of tables.old))) }
     requires maps { IfOk records (λ records. IsTrue (list_all is_map records.now)) }
     requires linked { AreLinked (tables_of tables.old) }
     ensures same { tables_of tables.new ≡ tables_of tables.old }
-    ensures answer { IfOk result (λ answer. (t : ResourceTable) →
+    ensures answer { (t : ResourceTable) →
         table_at placed.now.resource.now.number (tables_in placed.now.dataset.now.id (tables_of tables.old)) ≡ Some t
         → shown ≡ create_dictionary (id_of (located_now placed.now)) t.table.schema
-        → map_answer change_of answer
-        ≡ create_answer_for quota (tables_in placed.now.dataset.now.id (tables_of tables.old))
+        → PlansAnswer result (create_answer_for quota (tables_in placed.now.dataset.now.id (tables_of tables.old))
         (accepted_fill (located_now placed.now)) (Ok t)
         (result_map_both (λ records. records.now) (λ message. message) records.entry)) }
     ensures ready { IfOk result (λ answer. AcceptsOnly (λ plan. IsPlanned plan tables.new) answer) }
 {
     match records {
         Ok(records) => answer_put(alloc, quota, placed, tables, Method::Insert, records, shown),
-        Err(message) => refuse_records(alloc, quota, message),
+        Err(message) => Err(Stop::Refused(refuse_at(alloc, quota, "records", message)?)),
     }
 }
 
 /// The answer to a `datastore_create` on a resource that the caller may edit, given the records or their error.
-pub(crate) fn answer_authorized_create(
+fn answer_authorized_create(
     alloc: Global,
     context: &CallContext<'_>,
     placed: &LocatedResource<'_>,
     tables: &mut Tables,
     records: Result<&Seq<Json>, Text>,
-) -> Result<Answer<TablePlan>, AllocError>
+) -> Result<Answer<TablePlan>, Stop>
     requires maps { IfOk records (λ records. IsTrue (list_all is_map records.now)) }
     requires linked { AreLinked (tables_of tables.old) }
     ensures same { tables_of tables.new ≡ tables_of tables.old }
-    ensures answer { IfOk result (λ answer. map_answer change_of answer
-        ≡ authorized_create_answer context.now.quota (located_now placed.now)
+    ensures answer { PlansAnswer result (authorized_create_answer context.now.quota (located_now placed.now)
         (tables_in placed.now.dataset.now.id (tables_of tables.old)) context.now.call.now.request.body
         (result_map_both (λ records. records.now) (λ message. message) records.entry)
         (table_at placed.now.resource.now.number (tables_in placed.now.dataset.now.id (tables_of tables.old)))) }
@@ -220,7 +194,8 @@ pub(crate) fn answer_authorized_create(
             let schema = table.table.schema();
             let errors = existing_table_errors(alloc, schema, &context.call.request.body)?;
             if !errors.is_empty() {
-                return refuse_description(context.quota, errors, records);
+                let denial = refuse_description(context.quota, errors, records)?;
+                return Err(Stop::Refused(denial));
             }
             let shown = create_json(alloc, id_of(alloc, placed)?, schema)?;
             answer_existing_table(alloc, context.quota, placed, tables, shown, records)
@@ -235,18 +210,15 @@ pub(crate) fn answer_create(
     context: &CallContext<'_>,
     placed: &LocatedResource<'_>,
     tables: &mut Tables,
-) -> Result<Answer<TablePlan>, AllocError>
+) -> Result<Answer<TablePlan>, Stop>
     requires linked { AreLinked (tables_of tables.old) }
     ensures same { tables_of tables.new ≡ tables_of tables.old }
-    ensures answer { IfOk result (λ answer. map_answer change_of answer
-        ≡ create_answer (context_view context.now) (located_now placed.now)
+    ensures answer { PlansAnswer result (create_answer (context_view context.now) (located_now placed.now)
         (tables_in placed.now.dataset.now.id (tables_of tables.old))
         (table_at placed.now.resource.now.number (tables_in placed.now.dataset.now.id (tables_of tables.old)))) }
     ensures ready { IfOk result (λ answer. AcceptsOnly (λ plan. IsPlanned plan tables.new) answer) }
 {
-    if !context.may_edit(placed.dataset) {
-        return Ok(Answer::Refused(Denial::NotAuthorized(Right::EditDataset)));
-    }
+    authorize(context.may_edit(placed.dataset), Right::EditDataset)?;
     let none = Seq::new(alloc);
     let records = read_records(alloc, &none, &context.call.request.body)?;
     answer_authorized_create(alloc, context, placed, tables, records)

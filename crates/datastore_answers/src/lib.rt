@@ -5,7 +5,6 @@ pub mod address;
 pub mod answer;
 pub mod answers;
 mod batches;
-pub mod copies;
 mod creation;
 mod deletions;
 mod described;

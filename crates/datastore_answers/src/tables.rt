@@ -19,6 +19,7 @@ use portal_base::seq::Seq;
 use portal_base::text::Text;
 use std::alloc::{AllocError, Global};
 use std::marker::Model;
+use std::snapshot::Snapshot;
 
 /// The tables of resources. A contract sees the list of the tables, which ascends by dataset and number, and whether
 /// there is room for one more without allocation.
@@ -121,10 +122,16 @@ impl Tables {
     }
 
     // Commits a batch of these records in the table at the address.
-    fn put(&mut self, address: &Address, _method: Method, _records: &Seq<Json>, batch: Batch)
-        requires ready { IsPutReady address.now _method _records.now batch self.old }
+    fn put(
+        &mut self,
+        address: &Address,
+        _method: Method,
+        _records: &Snapshot<Seq<Json>>,
+        batch: Batch,
+    )
+        requires ready { IsPutReady address.now _method _records.now.value batch self.old }
         ensures { tables_of self.new
-            ≡ with_table_at address.now (put_into _method _records.now) (tables_of self.old) }
+            ≡ with_table_at address.now (put_into _method _records.now.value) (tables_of self.old) }
     {
         match find_index(self.tables.as_slice(), &address.dataset, address.number) {
             Some(index) => {

@@ -28,13 +28,13 @@ use Rattle.portal_core.specs.declared.quota.QuotaUsed.{QuotaUsed}
 use Rattle.portal_calls.specs.declared.event.Event.TheVariants.{Call as a_call}
 
 -- the order of an entry relative to a user's
-at : List ℕ → QuotaUsed → Ordering
+abbrev at : List ℕ → QuotaUsed → Ordering
 at user entry = slice_cmp nat_cmp entry.user user
 
 at-IsKey : (user : List ℕ) → IsKey quota_used_cmp (at user)
 at-IsKey user = IsKey-field (λ (entry : QuotaUsed). entry.user) nat_list_cmp_total user
 
-bytes_in : Option QuotaUsed → ℕ
+abbrev bytes_in : Option QuotaUsed → ℕ
 bytes_in entry = unwrap_or (option_map (λ s. s.bytes) entry) 0
 
 accepted-found : (user : List ℕ) (quota_used : List QuotaUsed)

@@ -6,7 +6,6 @@ ghost use Rattle.portal_core.specs.SearchBody.{count_or, dictionary_or, with_que
 ghost use Rattle.portal_core.specs.SearchBody.{search_in};
 ghost use Rattle.portal_core.specs.SearchBody.{text_or, texts_or, truth_or};
 
-use datastore_answers::copies::entries_of;
 use datastore_query::Parts;
 use portal_base::copy::TryClone;
 use portal_base::json_value::Json;
@@ -121,7 +120,7 @@ fn filters_or(alloc: Global, faults: &mut KeyErrors, body: &Json) -> Result<Json
         ≡ error_if (codes "filters") (kind_message (dictionary_at (codes "filters") body.now)) faults.old) }
 {
     match dictionary_at(body, "filters") {
-        Ok(Some(entries)) => Ok(Json::Map(entries_of(alloc, entries)?)),
+        Ok(Some(entries)) => Ok(Json::Map(entries.try_clone(alloc)?)),
         Ok(None) => Ok(Json::Map(Seq::new(alloc))),
         Err(fault) => {
             add_kind_error(alloc, faults, "filters", fault)?;

@@ -1,19 +1,18 @@
-use Rattle.std.proofs.Common.{sym, refl}
+use Rattle.std.proofs.Common.{sym, ◌∙◌, refl, subst}
+use Rattle.portal_calls.specs.Stop.{Answers}
 use Rattle.visibility.specs.CallView.{context_view}
-use Rattle.portal_calls.proofs.Answering.{found_thing, no_rule_broken}
-use Rattle.dataset_answers.proofs.TableSummaryAnswers.{by_all_tables, change_same, rule_broken}
+use Rattle.portal_calls.proofs.Answering.{found_thing}
+use Rattle.dataset_answers.specs.Answers.{answer_to_change_of}
+use Rattle.dataset_answers.proofs.TableSummaryAnswers.{change_same}
 use Rattle.dataset_answers.proofs.answers.package_change.Goals as goal
-
-pub returns-in-Some : goal.returns-in-Some
-returns-in-Some g c =
-    by_all_tables (change_same c.args.whole (context_view c.args.context.now) (g.H.TableLookup.summaries c.args.tables.now))
-    (found_thing _ _ _ c.in-Ok.dataset.now (sym (rw (c.in-Ok.is, c.naming_key-key.ensures) at c.in_ok-dataset.ensures))
-    (rule_broken _ _ _ _ _ _ (rw c.in_ok-changed.ensures at c.in_ok-faults.ensures) c.in_ok-denial.ensures
-    c.in-Some.is))
 
 pub returns : goal.returns
 returns g c =
-    by_all_tables (change_same c.args.whole (context_view c.args.context.now) (g.H.TableLookup.summaries c.args.tables.now))
-    (found_thing _ _ _ c.in-Ok.dataset.now (sym (rw (c.in-Ok.is, c.naming_key-key.ensures) at c.in_ok-dataset.ensures))
-    (no_rule_broken _ _ _ _ _ _ (rw c.in_ok-changed.ensures at c.in_ok-faults.ensures) c.in_ok-denial.ensures
-    c.in_default.is (rw (c.in_ok-shown.ensures, c.in_ok-changed.ensures) refl)))
+    let view = context_view c.args.context.now in
+    let summaries = g.H.TableLookup.summaries c.args.tables.now in
+    subst (λ x. Answers c.change_of_dataset.result x)
+    (found_thing _ (λ dataset. answer_to_change_of c.args.whole view summaries dataset)
+    (answer_to_change_of c.args.whole view summaries c.in_ok-dataset.dataset.now) c.in_ok-dataset.dataset.now
+    (sym (rw c.naming_key-key.ensures at c.in_ok-dataset.ensures)) refl
+    ∙ change_same c.args.whole view summaries)
+    c.change_of_dataset.ensures

@@ -1,9 +1,16 @@
-use Rattle.std.proofs.Common.{sym, ◌∙◌, refl}
+use Rattle.std.proofs.Common.{◌≡◌, Bool, true, false, Ok, refl, sym, ◌∙◌}
+use Rattle.portal_calls.specs.Answer.{authorized}
+use Rattle.portal_calls.specs.declared.answer.Right.{Right}
 use Rattle.portal_calls.proofs.Answering.{has_right, no_rule_broken}
 use Rattle.dataset_answers.proofs.answers.package_create.Goals as goal
 
+-- a caller who isn't refused has the right
+allowed : {X : Type 0} (has : Bool) (right : Right) (u v : X) → Ok u ≡ authorized has right v → has ≡ true
+allowed true right u v is = refl
+allowed false right u v is = absurd (cc)
+
 pub returns : goal.returns
 returns c =
-    has_right _ _ _ _ (sym c.may_create.ensures ∙ c.if-not-may_create.false)
-    (no_rule_broken _ _ _ _ _ _ c.in_ok-faults.ensures c.in_ok-denial.ensures c.in_default.is
+    has_right _ _ _ _ (sym c.may_create.ensures ∙ allowed c.may_create.result _ _ _ c.in_ok-authorize.ensures)
+    (no_rule_broken _ _ _ _ _ _ c.in_ok-faults.ensures c.in_ok-validate_change.ensures refl
     (rw (c.in_ok-shown.ensures, c.in_ok-dataset.ensures) refl))

@@ -5,8 +5,8 @@ use Rattle.portal_calls.proofs.Answering.{found_thing}
 use Rattle.dataset_answers.proofs.TableSummaryAnswers.{by_all_tables, show_same}
 use Rattle.dataset_answers.proofs.answers.package_show.Goals as goal
 
-pub returns-in_ok-package_json-in-Ok : goal.returns-in_ok-package_json-in-Ok
-returns-in_ok-package_json-in-Ok g c =
+pub returns : goal.returns
+returns g c =
     by_all_tables (show_same (context_view c.args.context.now) (g.H.TableLookup.summaries c.args.tables.now))
-    (found_thing _ _ _ c.in-Ok.dataset.now (sym (rw c.in-Ok.is at c.in_ok-dataset.ensures))
-    (ap Shown c.in_ok-package_json-in-Ok.ensures))
+    (found_thing _ _ _ c.in_ok-dataset.dataset.now (sym c.in_ok-dataset.ensures)
+    (ap Shown c.in_ok-shown.ensures))

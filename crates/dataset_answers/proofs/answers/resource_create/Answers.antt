@@ -7,6 +7,6 @@ use Rattle.dataset_answers.proofs.answers.resource_create.Goals as goal
 pub returns : goal.returns
 returns g c =
     by_all_tables (resource_create_same (context_view c.args.context.now) (g.H.TableLookup.summaries c.args.tables.now))
-    (found_thing _ _ _ c.in-Ok.dataset.now (sym (rw c.in-Ok.is at c.in_ok-dataset.ensures))
-    (no_rule_broken _ _ _ _ _ _ c.in_ok-faults.ensures c.in_ok-denial.ensures c.in_default.is
+    (found_thing _ _ _ c.in_ok-dataset.dataset.now (sym c.in_ok-dataset.ensures)
+    (no_rule_broken _ _ _ _ _ _ c.in_ok-faults.ensures c.in_ok-validate_change.ensures refl
     (rw (c.in_ok-shown.ensures, c.in_ok-changed.ensures, c.in_ok-resource.ensures, c.len.ensures) refl)))

@@ -8,6 +8,6 @@ use Rattle.dataset_answers.proofs.answers.resource_update.Goals as goal
 pub returns : goal.returns
 returns g c =
     by_all_tables (resource_update_same (context_view c.args.context.now) (g.H.TableLookup.summaries c.args.tables.now))
-    (found_thing _ _ _ (located_now c.in-Ok.located) (sym (rw c.in-Ok.is at c.in_ok-located.ensures.found))
-    (no_rule_broken _ _ _ _ _ _ c.in_ok-faults.ensures c.in_ok-denial.ensures c.in_default.is
+    (found_thing _ _ _ (located_now c.in_ok-located.located) (sym c.in_ok-located.ensures.found)
+    (no_rule_broken _ _ _ _ _ _ c.in_ok-faults.ensures c.in_ok-validate_change.ensures refl
     (rw (c.in_ok-shown.ensures, c.in_ok-changed.ensures, c.in_ok-resource.ensures) refl)))

@@ -11,12 +11,12 @@ use Rattle.datastore_answers.proofs.answers.datastore_info.Goals as goal
 pub returns-in_ok-info_json-in-Some : goal.returns-in_ok-info_json-in-Some
 returns-in_ok-info_json-in-Some c =
     on-there (codes "id") (context_view c.args.context.now) (tables_of c.args.tables.now)
-    (λ placed beside t. Shown (info_dictionary t)) (located_now c.in-Ok.placed) (without_room c.in-Some.table.now)
-    (Shown c.in_ok-info_json-in-Some.field-0) (rw c.in-Ok.is at c.in_ok-placed.ensures.found) (sym c.in-Some.ensures.table)
+    (λ placed beside t. Shown (info_dictionary t)) (located_now c.in_ok-placed.placed) (without_room c.in-Some.table.now)
+    (Shown c.in_ok-info_json-in-Some.field-0) c.in_ok-placed.ensures.found (sym c.in-Some.ensures.table)
     (ap Shown c.in_ok-info_json-in-Some.ensures)
 
 pub returns-in-None : goal.returns-in-None
 returns-in-None c =
     on-none (codes "id") (context_view c.args.context.now) (tables_of c.args.tables.now)
-    (λ placed beside t. Shown (info_dictionary t)) (located_now c.in-Ok.placed)
-    (rw c.in-Ok.is at c.in_ok-placed.ensures.found) (sym c.in-None.ensures.table)
+    (λ placed beside t. Shown (info_dictionary t)) (located_now c.in_ok-placed.placed)
+    c.in_ok-placed.ensures.found (sym c.in-None.ensures.table)

@@ -11,13 +11,12 @@ pub returns-then-not-is_empty-clause-answer : goal.returns-then-not-is_empty-cla
 returns-then-not-is_empty-clause-answer c =
     let beside = tables_in c.args.placed.now.dataset.now.id (tables_of c.args.tables.now) in
     let body = c.args.context.now.call.now.request.body in
-    other-answer c.refuse_description.result c.args.context.now.quota (located_now c.args.placed.now) beside body
-    c.args.records
+    other-answer c.args.context.now.quota (located_now c.args.placed.now) beside body c.args.records
     (table_at c.args.placed.now.resource.now.number beside) (without_room c.in-Some.table.now)
-    c.in_ok-errors-in-Some.errors c.in-Some.ensures.table
+    c.in_ok-errors-in-Some.errors c.in_ok-denial-in-Some.denial c.in-Some.ensures.table
     (c.in_ok-errors-in-Some.ensures ∙ ap (λ (s : SchemaValue). existing_table_errors s body) c.schema-schema.ensures)
     (λ none. let both : false ≡ true = sym c.if-not-is_empty.true ∙ c.is_empty.ensures.1 none in cc)
-    c.refuse_description.ensures.refusal
+    c.in_ok-denial-in-Some.ensures
 
 pub returns-in-None-clause-ready : goal.returns-in-None-clause-ready
 returns-in-None-clause-ready c = at-stored c.answer_new_table.result _ c.answer_new_table.ensures.ready

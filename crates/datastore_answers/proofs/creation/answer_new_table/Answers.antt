@@ -24,3 +24,12 @@ returns-in-Ok-records-clause-answer c =
     (accepted_create placed) (described_table placed beside body None) t c.in-Ok-records.records.now _ (sym described)
     (ap (result_map_both (λ (r : Bor (List Json)). r.now) (λ (m : List ℕ). m)) c.in-Ok-records.is)
     (ap (λ (u : ResourceTable). tables_in u.address.dataset tables) new.made) c.answer_new_table_with.ensures.answer
+
+pub answer_new_table_with-requires-clause-empty : goal.answer_new_table_with-requires-clause-empty
+answer_new_table_with-requires-clause-empty c =
+    let placed = located_now c.args.placed.now in
+    let beside = tables_in c.args.placed.now.dataset.now.id (tables_of c.args.tables.now) in
+    let body = c.args.context.now.call.now.request.body in
+    let t = without_room c.in-Ok.table in
+    let described : Ok t ≡ described_table placed beside body None = rw c.in-Ok.is at c.in_ok-table.ensures in
+    ap (λ (u : ResourceTable). u.table.rows) (new-empty_table placed beside body t (sym described)).made

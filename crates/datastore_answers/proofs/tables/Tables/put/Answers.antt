@@ -42,13 +42,13 @@ returns c =
     c.index_mut-table.ensures.value in
     let got : slice_get ts c.in-Some.index ≡ Some t =
     slice_get-get_or ts c.in-Some.index t within ∙ ap Some (sym c.index_mut-table.ensures.value) in
-    let made : put_records c.args._method c.args._records.now t.table ≡ Ok (worked_on t.table.rows c.args.batch.work) =
-    subst (λ (u : ResourceTable). put_records c.args._method c.args._records.now u.table
+    let made : put_records c.args._method c.args._records.now.value t.table ≡ Ok (worked_on t.table.rows c.args.batch.work) =
+    subst (λ (u : ResourceTable). put_records c.args._method c.args._records.now.value u.table
     ≡ Ok (worked_on u.table.rows c.args.batch.work)) (sym same) c.requires.ready.made in
-    with_table_at-set c.args.address.now (put_into c.args._method c.args._records.now) t
+    with_table_at-set c.args.address.now (put_into c.args._method c.args._records.now.value) t
     (record t { table = c.commit.new.self }) ts c.in-Some.index c.self.invariant got
     (there-at c.args.address.now ts t (exists ∙ ap Some (sym same)))
-    (without_room-put t c.args._method c.args._records.now c.args.batch.work c.commit.new.self c.commit.ensures.rows
+    (without_room-put t c.args._method c.args._records.now.value c.args.batch.work c.commit.new.self c.commit.ensures.rows
     c.commit.ensures.next_id c.commit.ensures.schema made)
-    ∙ ap (λ (s : Stored). with_table_at c.args.address.now (put_into c.args._method c.args._records.now) (tables_of s))
+    ∙ ap (λ (s : Stored). with_table_at c.args.address.now (put_into c.args._method c.args._records.now.value) (tables_of s))
     c.self.view_is

@@ -1,7 +1,7 @@
 use Rattle.visibility.specs.CallView.{context_view}
 use Rattle.datastore_answers.specs.Tables.{tables_of, tables_seen}
 use Rattle.datastore_answers.proofs.FitLemmas.{info_only, reading_plans}
-use Rattle.datastore_answers.proofs.answers.answer.Goals as goal
+use Rattle.datastore_answers.proofs.answers.answer_to_action.Goals as goal
 
 pub returns-in-DatastoreInfo-clause-ready : goal.returns-in-DatastoreInfo-clause-ready
 returns-in-DatastoreInfo-clause-ready c =
