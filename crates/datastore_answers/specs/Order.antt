@@ -5,7 +5,7 @@ use Rattle.std.specs.Ordering.{is_eq, nat_cmp, ordering_then}
 use Rattle.std.specs.Cmp.{IsTotalOrder, nat_cmp_total}
 use Rattle.std.specs.Cmp.Lexicographic.{slice_cmp}
 use Rattle.std.proofs.lemmas.Cmp.{on_total, then_total, nat_list_cmp_total}
-use Rattle.portal_base.specs.Ordered.{IsKey, IsKey-field}
+use Rattle.portal_base.specs.Ordered.{IsKey, IsKey-field, IsMonotone, IsMonotone-field}
 use Rattle.datastore_answers.specs.declared.address.Address.{Address}
 use Rattle.datastore_answers.specs.declared.resource_table.ResourceTable.{ResourceTable}
 
@@ -27,6 +27,9 @@ at_address address t = address_cmp t.address address
 
 pub IsKey-at_address : (address : Address) → IsKey table_cmp (at_address address)
 IsKey-at_address address = IsKey-field (λ t. t.address) address_cmp_total address
+
+pub IsMonotone-at_address : (address : Address) → IsMonotone table_cmp (at_address address)
+IsMonotone-at_address address = IsMonotone-field (λ t. t.address) address_cmp_total address
 
 -- the table is at this address
 abbrev pub is_at : Address → ResourceTable → Bool

@@ -39,11 +39,13 @@ impl Ordered for ResourceTable {
 }
 
 impl Key<ResourceTable> for Address {
-    ghost use Rattle.datastore_answers.specs.Order.{at_address, IsKey-at_address};
+    ghost use Rattle.datastore_answers.specs.Order.{at_address, IsKey-at_address, IsMonotone-at_address};
 
     ghost at = { at_address };
 
     ghost is_key = { IsKey-at_address };
+
+    ghost is_monotone = { IsMonotone-at_address };
 
     fn compare_item(&self, item: &ResourceTable) -> Ordering {
         item.address.order(self)

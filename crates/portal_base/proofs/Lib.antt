@@ -4,6 +4,7 @@ mod KeyErrorExamples
 pub mod KeyErrorLemmas
 pub mod Filtered
 pub mod FormLemmas
+pub mod Halved
 mod IdExamples
 pub mod IdForms
 mod KindExamples

@@ -60,3 +60,12 @@ IsKey {X} cmp at = (x y : X) → at x ≡ Equal → at y ≡ cmp y x
 pub IsKey-field : {X K : Type 0} (field : X → K) {cmp : K → K → Ordering} → IsTotalOrder cmp → (key : K)
     → IsKey (λ x y. cmp (field x) (field y)) (λ x. cmp (field x) key)
 IsKey-field field o key x y e = sym (alike_right o (field x) key (field y) e)
+
+-- An item below one that is below the key is below the key too.
+abbrev pub IsMonotone : {X : Type 0} → (X → X → Ordering) → (X → Ordering) → Type 0
+IsMonotone {X} cmp at = (x y : X) → cmp x y ≡ Less → at y ≡ Less → at x ≡ Less
+
+-- That holds of the values of a field, for the order by that field.
+pub IsMonotone-field : {X K : Type 0} (field : X → K) {cmp : K → K → Ordering} → IsTotalOrder cmp → (key : K)
+    → IsMonotone (λ x y. cmp (field x) (field y)) (λ x. cmp (field x) key)
+IsMonotone-field field o key x y below less = o.trans (field x) (field y) key below less

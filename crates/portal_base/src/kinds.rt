@@ -158,8 +158,8 @@ fn whole_spelled(text: &str) -> Option<i128>
     }
 }
 
-// Parses 1 to 18 digits.
-fn digits_spelled(text: &str) -> Option<u64>
+/// The number that 1 to 18 digits spell. It is none for any other text.
+pub fn digits_spelled(text: &str) -> Option<u64>
     ensures { result ≡ digits_spelled text.now }
 {
     if !is_digits(text) {

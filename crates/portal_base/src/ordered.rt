@@ -1,6 +1,7 @@
 //! Lists that ascend by a key of their items, without repeated keys.
 //!
-//! `reserve` prepares a change and alone takes memory; `put` or `replace_or_put` makes the change. Look-ups scan the
+//! `reserve` prepares a change and alone takes memory; `put` or `replace_or_put` makes the change. `find_in_order`,
+//! `replace_or_put` and `drop_at` want a list that ascends, and find an item by a binary search. The others scan the
 //! list from its start, so they also work on lists that are not in order.
 ghost use Rattle.std.specs.Prelude.{◌≡◌, ◌<◌, ◌≤◌, IsTrue, IfErr, IfSome, OnOk, OnErr, MatchResult, None, length};
 ghost use Rattle.std.specs.Prelude.{position, vec_len, vec_capacity, slice_get, slice_set, insert};
@@ -30,7 +31,7 @@ pub trait Ordered {
 
 /// A key by which items are looked up.
 pub trait Key<T: Ordered> {
-    ghost use Rattle.portal_base.specs.Ordered.{IsKey};
+    ghost use Rattle.portal_base.specs.Ordered.{IsKey, IsMonotone};
 
     /// The order of an item relative to the key.
     ghost at: { Self → T → Ordering };
@@ -39,6 +40,8 @@ pub trait Key<T: Ordered> {
         ensures { result ≡ at self.now item.now };
 
     ghost is_key: { (key : Self) → IsKey T.order (at key) };
+
+    ghost is_monotone: { (key : Self) → IsMonotone T.order (at key) };
 }
 
 /// The number of leading items that are less than this one.
@@ -59,8 +62,39 @@ pub fn find<'a, T: Ordered, K: Key<T>>(items: &'a [T], key: &K) -> Option<&'a T>
     items.iter().find(|item| key.compare_item(item).is_eq())
 }
 
-/// Whether no two items have equal keys.
+/// The item with the key, of a list that ascends. It is found by a binary search.
+pub fn find_in_order<'a, T: Ordered, K: Key<T>>(items: &'a [T], key: &K) -> Option<&'a T>
+    requires { IsAscending T.order items.now }
+    ensures { option_copied result ≡ found (K.at key.now) items.now }
+{
+    items.get(index_in_order(items, key)?)
+}
+
+/// The index of the item with the key, by a binary search.
+fn index_in_order<T: Ordered, K: Key<T>>(items: &[T], key: &K) -> Option<usize>
+    requires { IsAscending T.order items.now }
+    ensures index { result ≡ position (λ item. is_eq (K.at key.now item)) items.now }
+    ensures within { IfSome result (λ index. index < length items.now) }
+{
+    items.binary_search_by(|item| key.compare_item(item)).ok()
+}
+
+/// Whether no two items have equal keys. For a list that ascends it is one walk.
 pub fn are_apart<T: Ordered>(items: &[T]) -> bool
+    ensures { result ≡ are_apart T.order items.now }
+{
+    ascends(items) || has_no_equal_pair(items)
+}
+
+/// Whether each item is less than the next one.
+fn ascends<T: Ordered>(items: &[T]) -> bool
+    ensures { IsTrue result → IsAscending T.order items.now }
+{
+    items.is_sorted_by(|item, next| item.compare(next).is_lt())
+}
+
+/// Whether no two items have equal keys, in a list in any order.
+fn has_no_equal_pair<T: Ordered>(items: &[T]) -> bool
     ensures { result ≡ are_apart T.order items.now }
 {
     let mut rest = items;
@@ -137,12 +171,7 @@ fn find_index<T: Ordered>(items: &[T], item: &T) -> Result<usize, usize>
         (λ index. upserted T.order item.now items.now ≡ slice_set items.now index item.now)
         (λ index. upserted T.order item.now items.now ≡ insert items.now index item.now) }
 {
-    let index = insertion_index(items, item);
-    if index < items.len() && items[index].compare(item).is_eq() {
-        Ok(index)
-    } else {
-        Err(index)
-    }
+    items.binary_search_by(|other| other.compare(item))
 }
 
 /// Removes and returns the only item with the key, if there is one. It takes no memory.
@@ -152,7 +181,8 @@ pub fn drop_at<T: Ordered, K: Key<T>>(items: &mut Vec<T>, key: &K) -> Option<T>
     ensures rest { items.new.items ≡ dropped (K.at key.now) items.old.items }
     ensures ascending { IsAscending T.order items.new.items }
 {
-    remove(items, key)
+    let index = index_in_order(items.as_slice(), key)?;
+    Some(items.remove(index))
 }
 
 /// Removes and returns the first item with the key, if there is one. It takes no memory.

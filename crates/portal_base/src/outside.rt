@@ -3,7 +3,7 @@
 //! The ghost members of a trait are what is observable of a device. Content is an `Option`: it is none for a device
 //! whose content is not observable, and then no clause claims anything of it. The count of faults is always observable.
 ghost use Rattle.std.specs.Prelude.{◌≡◌, ◌↔◌, ◌<◌, ◌≤◌, ℕ, ℤ, Bool, true, false, not, if◌then◌else◌, List, [], Option};
-ghost use Rattle.std.specs.Prelude.{None, Ok, length, take, IsTrue, IsNone, IfSome, IfOk, OnErr, IsErrOf};
+ghost use Rattle.std.specs.Prelude.{None, Ok, length, take, IsTrue, IsNone, IfSome, IfOk, OnOk, OnErr, IsErrOf};
 ghost use Rattle.portal_base.specs.Counted.{next_count};
 ghost use Rattle.portal_base.specs.Outside.{Gives, Takes, Draws, Rose, IsAtEnd, HoldsAt, HoldsNothingAt, HoldsMoreAt};
 ghost use Rattle.portal_base.specs.Outside.{GivesOne, TakesOne, is_some_link};
@@ -154,7 +154,8 @@ pub trait Listener {
     /// The number of faults so far, up to the maximum of a `u64`.
     ghost faults: { Self → ℕ };
 
-    /// The next link, which is then out, or `None` exactly at the end. A failed call changes only the count of faults.
+    /// The next link, which is then out, or `None` exactly at the end. A failed call changes only the count of faults,
+    /// and only a failed call changes it.
     fn accept(&mut self) -> Result<Option<Self::Peer>, Failed>
         requires { is_out self.old ≡ false }
         ensures end { IfOk result (λ peer. IsNone peer ↔ IsTrue (is_at_end self.old)) }
@@ -165,6 +166,7 @@ pub trait Listener {
         ensures end_kept { is_out self.new ≡ false → is_at_end self.new ≡ is_at_end self.old }
         ensures taken_back { taken_back self.new ≡ taken_back self.old }
         ensures count { count self.new ≡ count self.old }
+        ensures quiet { OnOk result (faults self.new ≡ faults self.old) }
         ensures failed { OnErr result (Rose (faults self.old) (faults self.new)) }
         ensures counts { faults self.old ≤ faults self.new };
 

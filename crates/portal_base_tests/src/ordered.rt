@@ -27,11 +27,13 @@ impl Ordered for Numbered {
 impl Key<Numbered> for u32 {
     ghost use Rattle.std.specs.Ordering.{nat_cmp};
     ghost use Rattle.std.proofs.lemmas.Cmp.{nat_cmp_total};
-    ghost use Rattle.portal_base.specs.Ordered.{IsKey-field};
+    ghost use Rattle.portal_base.specs.Ordered.{IsKey-field, IsMonotone-field};
 
     ghost at = { λ key x. nat_cmp x.number key };
 
     ghost is_key = { λ key. IsKey-field (λ x. x.number) nat_cmp_total key };
+
+    ghost is_monotone = { λ key. IsMonotone-field (λ x. x.number) nat_cmp_total key };
 
     fn compare_item(&self, item: &Numbered) -> Ordering {
         item.number.cmp(self)

@@ -1,6 +1,6 @@
 use Rattle.std.proofs.Common.{◌≡◌, length}
 use Rattle.portal_base.specs.Ordered.{are_apart}
-use Rattle.portal_base.proofs.ordered.are_apart.Given as goal
+use Rattle.portal_base.proofs.ordered.has_no_equal_pair.Given as goal
 
 -- The items are distinct exactly if the rest are.
 abbrev pub invariant-loop-first : goal.invariant-loop-first
