@@ -39,17 +39,17 @@ is_eq-pair_at : (org user : List ℕ) (m : Membership)
 is_eq-pair_at org user m = is_eq-membership_cmp m (record { org = org; user = user; role = m.role })
 
 -- The organization of a name is found at the name.
-pub org_in-found : (p : PeopleLists) (name : List ℕ) → org_in p name ≡ found (org_at name) p.orgs
-org_in-found p name = find-same _ _ (λ o. sym (is_eq-slice_cmp o.name name)) p.orgs
+pub org_found : (p : PeopleLists) (name : List ℕ) → org_in p name ≡ found (org_at name) p.orgs
+org_found p name = find-same _ _ (λ o. sym (is_eq-slice_cmp o.name name)) p.orgs
 
 -- The membership of a pair is found at the pair.
-pub membership_in-found : (p : PeopleLists) (org user : List ℕ)
+pub membership_found : (p : PeopleLists) (org user : List ℕ)
     → membership_in p org user ≡ found (pair_at org user) p.roles
-membership_in-found p org user = find-same _ _ (λ m. sym (is_eq-pair_at org user m)) p.roles
+membership_found p org user = find-same _ _ (λ m. sym (is_eq-pair_at org user m)) p.roles
 
-pub role_in-found : (p : PeopleLists) (org user : List ℕ)
+pub role_found : (p : PeopleLists) (org user : List ℕ)
     → role_in p org user ≡ option_map (λ m. m.role) (found (pair_at org user) p.roles)
-role_in-found p org user = ap (option_map (λ m. m.role)) (membership_in-found p org user)
+role_found p org user = ap (option_map (λ m. m.role)) (membership_found p org user)
 
 -- Names that compare as equal are equal.
 same_name : (a b : List ℕ) → slice_cmp nat_cmp a b ≡ Equal → a ≡ b
@@ -63,29 +63,29 @@ other_name a b n = is_eq-slice_cmp a b ∙ unequal a b n
 
 pub org_in-with_org : (o : Org) (p : PeopleLists) → org_in (with_org o p) o.name ≡ Some o
 org_in-with_org o p =
-    org_in-found (with_org o p) o.name
+    org_found (with_org o p) o.name
     ∙ found-upserted org_cmp (org_at o.name) (IsKey-org_at o.name) o p.orgs (tied_itself org_cmp_total o)
 
 pub org_in-with_org_other : (o : Org) (p : PeopleLists) (name : List ℕ) → name ≢ o.name
     → org_in (with_org o p) name ≡ org_in p name
 org_in-with_org_other o p name n =
-    org_in-found (with_org o p) name
+    org_found (with_org o p) name
     ∙ found-upserted_other org_cmp org_cmp_total (org_at name) (IsKey-org_at name) o p.orgs
     (other_name o.name name (λ e. n (sym e)))
-    ∙ sym (org_in-found p name)
+    ∙ sym (org_found p name)
 
 -- ---- an organization that is dropped
 
 pub org_in-without_org : (p : PeopleLists) (name : List ℕ) → org_in (without_org name p) name ≡ None
-org_in-without_org p name = org_in-found (without_org name p) name ∙ found-dropped (org_at name) p.orgs
+org_in-without_org p name = org_found (without_org name p) name ∙ found-dropped (org_at name) p.orgs
 
 pub org_in-without_org_other : (p : PeopleLists) (name other : List ℕ) → other ≢ name
     → org_in (without_org name p) other ≡ org_in p other
 org_in-without_org_other p name other n =
-    org_in-found (without_org name p) other
+    org_found (without_org name p) other
     ∙ found-dropped_other (org_at name) (org_at other) p.orgs
     (λ o e. other_name o.name other (λ is. n (sym is ∙ same_name o.name name e)))
-    ∙ sym (org_in-found p other)
+    ∙ sym (org_found p other)
 
 -- No role names it.
 pub without_org-roles : (p : PeopleLists) (name : List ℕ) → All (λ m. m.org ≢ name) (without_org name p).roles
@@ -101,17 +101,17 @@ without_org-roles p name =
 pub role_in-without_org : (p : PeopleLists) (name org user : List ℕ) → org ≢ name
     → role_in (without_org name p) org user ≡ role_in p org user
 role_in-without_org p name org user n =
-    role_in-found (without_org name p) org user
+    role_found (without_org name p) org user
     ∙ ap (option_map (λ m. m.role)) (found-dropped_other (membership_in_org_at name) (pair_at org user) p.roles
     (λ m e. is_eq-pair_at org user m
     ∙ ap (λ b. b && bytes_eq m.user user) (unequal m.org org (λ is. n (sym is ∙ same_name m.org name e)))))
-    ∙ sym (role_in-found p org user)
+    ∙ sym (role_found p org user)
 
 -- ---- a role that is set
 
 pub role_in-with_role : (m : Membership) (p : PeopleLists) → role_in (with_role m p) m.org m.user ≡ Some m.role
 role_in-with_role m p =
-    role_in-found (with_role m p) m.org m.user
+    role_found (with_role m p) m.org m.user
     ∙ ap (option_map (λ n. n.role))
     (found-upserted membership_cmp (pair_at m.org m.user) (IsKey-pair_at m.org m.user) m p.roles
     (tied_itself membership_cmp_total m))
@@ -119,17 +119,17 @@ role_in-with_role m p =
 pub role_in-with_role_other : (m : Membership) (p : PeopleLists) (org user : List ℕ) → (org ≢ m.org) ⊎ (user ≢ m.user)
     → role_in (with_role m p) org user ≡ role_in p org user
 role_in-with_role_other m p org user n =
-    role_in-found (with_role m p) org user
+    role_found (with_role m p) org user
     ∙ ap (option_map (λ n. n.role))
     (found-upserted_other membership_cmp membership_cmp_total (pair_at org user) (IsKey-pair_at org user) m p.roles
     (is_eq-pair_at org user m ∙ differ org user m.org m.user n))
-    ∙ sym (role_in-found p org user)
+    ∙ sym (role_found p org user)
 
 -- ---- a role that is dropped
 
 pub role_in-without_role : (p : PeopleLists) (org user : List ℕ) → role_in (without_role org user p) org user ≡ None
 role_in-without_role p org user =
-    role_in-found (without_role org user p) org user
+    role_found (without_role org user p) org user
     ∙ ap (option_map (λ m. m.role)) (found-dropped (pair_at org user) p.roles)
 
 -- a membership of one pair isn't one of another pair
@@ -149,11 +149,11 @@ pub role_in-without_role_other : (p : PeopleLists) (org user other_org other_use
     → (other_org ≢ org) ⊎ (other_user ≢ user)
     → role_in (without_role org user p) other_org other_user ≡ role_in p other_org other_user
 role_in-without_role_other p org user other_org other_user n =
-    role_in-found (without_role org user p) other_org other_user
+    role_found (without_role org user p) other_org other_user
     ∙ ap (option_map (λ m. m.role)) (found-dropped_other (pair_at org user) (pair_at other_org other_user) p.roles
     (λ m e. is_eq-pair_at other_org other_user m
     ∙ apart_from org user other_org other_user m n (sym (is_eq-pair_at org user m) ∙ ap is_eq e)))
-    ∙ sym (role_in-found p other_org other_user)
+    ∙ sym (role_found p other_org other_user)
 
 -- ---- the users and the order
 
@@ -265,13 +265,13 @@ pub room_for_org : (os : List Org) (b : Bool) (kept : PeopleWithRoom) (o : Org) 
     → b ≡ kept.room.org
     → (org_in kept.people o.name ≡ None → IsTrue kept.room.org) → found (λ other. org_cmp other o) os ≡ None → IsTrue b
 room_for_org os b kept o orgs room needed none =
-    room ∙ needed (org_in-found kept.people o.name ∙ ap (found (org_at o.name)) (sym orgs) ∙ none)
+    room ∙ needed (org_found kept.people o.name ∙ ap (found (org_at o.name)) (sym orgs) ∙ none)
 
 pub room_for_role : (ms : List Membership) (b : Bool) (kept : PeopleWithRoom) (m : Membership) → ms ≡ kept.people.roles
     → b ≡ kept.room.role → (role_in kept.people m.org m.user ≡ None → IsTrue kept.room.role)
     → found (λ other. membership_cmp other m) ms ≡ None → IsTrue b
 room_for_role ms b kept m roles room needed none =
-    room ∙ needed (role_in-found kept.people m.org m.user
+    room ∙ needed (role_found kept.people m.org m.user
     ∙ ap (λ (l : List Membership). option_map (λ n. n.role) (found (pair_at m.org m.user) l)) (sym roles)
     ∙ ap (option_map (λ n. n.role)) none)
 

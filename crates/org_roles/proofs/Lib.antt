@@ -1,4 +1,5 @@
 pub mod ChangeLemmas
 mod Examples
+pub mod LookupLemmas
 pub mod PeopleLemmas
 pub mod RestoreLemmas

@@ -3,8 +3,8 @@ ghost use Rattle.std.specs.Prelude.{◌≡◌, ◌&&◌, [], IsTrue};
 ghost use Rattle.std.specs.List.{list_any};
 ghost use Rattle.std.specs.Option.{option_copied};
 ghost use Rattle.std.specs.Str.{bytes_eq};
-ghost use Rattle.portal_base.specs.Ordered.{ascending, are_apart};
-ghost use Rattle.org_roles.specs.Distinct.{is_name_among, have_distinct_names, have_distinct_org_names};
+ghost use Rattle.portal_base.specs.Ordered.{IsAscending, ascending, are_apart};
+ghost use Rattle.org_roles.specs.Distinct.{have_distinct_names, have_distinct_org_names};
 ghost use Rattle.org_roles.specs.Distinct.{have_distinct_pairs};
 ghost use Rattle.org_roles.specs.Order.{user_cmp, org_cmp, membership_cmp, users_ascending};
 ghost use Rattle.org_roles.specs.PeopleLists.{is_user_in, org_in, role_in, is_sysadmin_in};
@@ -13,9 +13,10 @@ pub mod prepared;
 pub mod restored;
 
 use crate::entry::{Membership, Org, User};
+use crate::key::Pair;
 use crate::role::Role;
 use portal_base::caller::Caller;
-use portal_base::ordered::{Ordered, are_apart, sort};
+use portal_base::ordered::{Ordered, are_apart, find_in_order, sort};
 use portal_base::seq::Seq;
 use portal_base::text::Text;
 use std::alloc::Global;
@@ -97,10 +98,11 @@ impl People {
     }
 
     /// Whether a user has that name.
+    #[tactic(auto, using(crate::proofs::LookupLemmas::name_found))]
     pub fn has_user(&self, name: &str) -> bool
         ensures { result ≡ is_user_in self.now.people name.now }
     {
-        is_name_among(&self.users, name)
+        find_in_order(self.users.as_slice(), &name).is_some()
     }
 
     /// Whether the caller is a user who is a sysadmin.
@@ -109,25 +111,25 @@ impl People {
     {
         match caller {
             Caller::Anonymous => false,
-            Caller::Named(name) => is_sysadmin_among(&self.users, name),
+            Caller::Named(name) => is_sysadmin_among(self.users.as_slice(), name.as_str()),
         }
     }
 
     /// The organization of that name.
+    #[tactic(auto, using(crate::proofs::ChangeLemmas::org_found))]
     pub fn org(&self, name: &Text) -> Option<&Org>
         ensures { option_copied result ≡ org_in self.now.people name.now }
     {
-        self.orgs.iter().find(|org| org.name == *name)
+        find_in_order(self.orgs.as_slice(), name)
     }
 
     /// The role of the user in the organization.
+    #[tactic(auto, using(crate::proofs::ChangeLemmas::role_found))]
     pub fn role_of(&self, org: &Text, user: &Text) -> Option<Role>
         ensures { result ≡ role_in self.now.people org.now user.now }
     {
-        self.roles
-            .iter()
-            .find(|membership| membership.org == *org && membership.user == *user)
-            .map(|membership| membership.role)
+        let membership = find_in_order(self.roles.as_slice(), &Pair { org, user })?;
+        Some(membership.role)
     }
 }
 
@@ -162,16 +164,13 @@ fn sorted<T: Ordered>(items: Seq<T>) -> Vec<T>
     items
 }
 
-/// Whether one of the users has that name.
-fn is_name_among(users: &[User], name: &str) -> bool
-    ensures { result ≡ is_name_among users.now name.now }
-{
-    users.iter().any(|user| user.name.as_str() == name)
-}
-
-/// Whether one of the users has that name and is a sysadmin.
-fn is_sysadmin_among(users: &[User], name: &Text) -> bool
+/// Whether the user of that name is a sysadmin.
+fn is_sysadmin_among(users: &[User], name: &str) -> bool
+    requires { IsAscending user_cmp users.now }
     ensures { result ≡ list_any (λ user. bytes_eq user.name name.now && user.sysadmin) users.now }
 {
-    users.iter().any(|user| user.name == *name && user.sysadmin)
+    match find_in_order(users, &name) {
+        Some(user) => user.sysadmin,
+        None => false,
+    }
 }

@@ -63,7 +63,7 @@ impl People {
             OrgChange::Patch(org) => self.set_org(org),
             OrgChange::Remove(name) => self.drop_org(&name),
             OrgChange::SetRole(org, user, role) => self.set_role(Membership { org, user, role }),
-            OrgChange::DropRole(org, user) => self.drop_role(&Pair { org, user }),
+            OrgChange::DropRole(org, user) => self.drop_role(&org, &user),
         }
     }
 
@@ -145,10 +145,10 @@ impl People {
     }
 
     /// Drops the role of that organization and user.
-    fn drop_role(&mut self, pair: &Pair)
-        ensures { self.new.people ≡ without_role pair.now.org pair.now.user self.old.people }
+    fn drop_role(&mut self, org: &Text, user: &Text)
+        ensures { self.new.people ≡ without_role org.now user.now self.old.people }
     {
-        drop_at(&mut self.roles, pair);
+        drop_at(&mut self.roles, &Pair { org, user });
     }
 }
 
