@@ -1,21 +1,19 @@
 //! The fields of a head: Content-Length, Transfer-Encoding and Authorization.
 ghost use Rattle.std.specs.Prelude.{◌≡◌, if◌then◌else◌, Option, Some, None, IfOk};
 ghost use Rattle.std.specs.Option.{option_copied};
-ghost use Rattle.std.specs.Char.{is_ascii_digit};
 ghost use Rattle.std.specs.List.{list_all};
 ghost use Rattle.std.specs.Str.{is_utf8};
-ghost use Rattle.portal_base.specs.Kinds.{is_digits, digits_spelled};
+ghost use Rattle.portal_base.specs.Kinds.{digits_spelled};
 ghost use Rattle.http_front.specs.Fields.{is_named, first_named, has_named, is_same_number, agrees, length_text};
 ghost use Rattle.http_front.specs.Fields.{has_bad_length, length_given, token_of};
 
 use crate::head::Field;
+use portal_base::kinds::digits_spelled;
 use portal_base::text::Text;
 use std::alloc::{AllocError, Global};
 use std::str;
 
 const LENGTH: &str = "content-length";
-
-const MOST_DIGITS: usize = 18;
 
 // Whether the field has this name, in any case.
 fn is_named(name: &str, field: &Field) -> bool
@@ -39,35 +37,12 @@ pub fn has_named(name: &str, fields: &[Field]) -> bool
     fields.iter().any(|field| is_named(name, field))
 }
 
-fn has_only_digits(bytes: &[u8]) -> bool
-    ensures { result ≡ list_all is_ascii_digit bytes.now }
-{
-    bytes.iter().all(|byte| byte.is_ascii_digit())
-}
-
-// Whether the text is 1 to 18 digits.
-fn is_digits(text: &str) -> bool
-    ensures { result ≡ is_digits text.now }
-{
-    !text.is_empty() && text.len() <= MOST_DIGITS && has_only_digits(text.as_bytes())
-}
-
-// The number that 1 to 18 digits spell.
-fn number_in(text: &str) -> Option<u64>
-    ensures { result ≡ digits_spelled text.now }
-{
-    if !is_digits(text) {
-        return None;
-    }
-    text.parse::<u64>().ok()
-}
-
 #[tactic(auto, using(crate::proofs::FieldLemmas::not_digits))]
 fn length_in(value: &[u8]) -> Option<u64>
     ensures { result ≡ digits_spelled value.now }
 {
     match str::from_utf8(value) {
-        Ok(text) => number_in(text),
+        Ok(text) => digits_spelled(text),
         Err(_) => None,
     }
 }

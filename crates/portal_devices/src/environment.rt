@@ -1,10 +1,9 @@
 //! The host around a run: the command line, variables of the environment, a TCP listener and a random seed.
 ghost use Rattle.std.specs.Prelude.{◌≡◌, ◌⊎◌, false, map, string_bytes, Ok, None, IfErr};
-ghost use Rattle.std.specs.Char.{is_ascii_digit};
-ghost use Rattle.std.specs.List.{list_all};
 ghost use Rattle.portal_devices.specs.Port.{is_port_number, port_in, port_number};
 ghost use Rattle.portal_words.specs.FirstWord.{is_serve};
 
+use portal_base::characters::has_only_digits;
 use portal_status::status::Status;
 use portal_words::first_word::is_serve;
 use std::alloc::Global;
@@ -51,12 +50,6 @@ pub fn is_real_time(rt: &(impl env::Env + Alloc<A = Global>)) -> Result<bool, St
         Some(value) => Ok(value.as_str() == "real"),
         None => Ok(false),
     }
-}
-
-fn has_only_digits(bytes: &[u8]) -> bool
-    ensures { result ≡ list_all is_ascii_digit bytes.now }
-{
-    bytes.iter().all(|byte| byte.is_ascii_digit())
 }
 
 /// Whether the text is 1 to 5 digits.

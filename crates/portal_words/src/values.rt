@@ -1,12 +1,11 @@
 //! The values of options.
 ghost use Rattle.std.specs.Prelude.{◌≡◌, ◌≤◌, ◌&&◌, ◌<◌, nat_lt, nat_le, length, option_map, Some, None, IfOk};
 ghost use Rattle.std.specs.Prelude.{IsErrOf};
-ghost use Rattle.std.specs.Char.{is_ascii_digit};
-ghost use Rattle.std.specs.List.{list_all};
 ghost use Rattle.portal_words.specs.Commands.{is_number, is_text, required_text_for, number_for, number_in};
 ghost use Rattle.portal_words.specs.Commands.{number_of_digits, text_for};
 
 use crate::command::WordsFault;
+use portal_base::characters::has_only_digits;
 use portal_base::text::Text;
 use std::alloc::Global;
 
@@ -41,12 +40,6 @@ pub fn required_text_of(alloc: Global, value: Option<&str>) -> Result<Text, Word
         Some(text) => Ok(text),
         None => Err(WordsFault::BadWords),
     }
-}
-
-fn has_only_digits(bytes: &[u8]) -> bool
-    ensures { result ≡ list_all is_ascii_digit bytes.now }
-{
-    bytes.iter().all(|byte| byte.is_ascii_digit())
 }
 
 /// Whether the text is 1 to 10 digits.
