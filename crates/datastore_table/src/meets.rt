@@ -97,6 +97,7 @@ fn is_accepted(field: &Field, cell: &Cell) -> bool
     }
 }
 
+// Whether a cell of its own kind is of the column's kind. A cell without a kind, which is Null, is not.
 fn is_of_kind(kind: Kind, own: Option<Kind>) -> bool
     ensures { result ≡ is_of_kind kind own }
 {

@@ -96,7 +96,7 @@ fn shared_nodes<'a>(
     Ok(shared)
 }
 
-// The nodes that are equal to the one before.
+// The nodes that are equal to the one before. They only spare copies, so that nothing is promised of them.
 fn repeats_of<'a>(
     alloc: Global,
     nodes: &[Borrowed<'a, Term>],

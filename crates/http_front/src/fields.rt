@@ -62,6 +62,7 @@ fn agrees(first: &[u8], field: &Field) -> bool
     !is_named(LENGTH, field) || is_same_number(length_in(first), length_in(field.1.as_slice()))
 }
 
+// The text of the first Content-Length.
 fn length_text(fields: &[Field]) -> Option<&[u8]>
     ensures { option_copied result ≡ length_text fields.now }
 {

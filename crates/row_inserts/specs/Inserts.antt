@@ -23,11 +23,11 @@ insert_body resource records = json.Map (
 abbrev pub insert_size : List ℕ → List Json → ℕ
 insert_size resource records = length (json_text (insert_body resource records))
 
--- The maximum count of records in an insert, and the maximum length of its body in bytes. An insert of one record may
--- be longer.
+-- the maximum count of records in an insert
 abbrev pub max_records : ℕ
 max_records = 500
 
+-- the maximum length of an insert's body, in bytes; an insert of one record may be longer
 abbrev pub max_bytes : ℕ
 max_bytes = 200000
 

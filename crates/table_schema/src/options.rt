@@ -181,6 +181,7 @@ fn constraints_in(
     }))
 }
 
+// The length that a constraint's key names, if it is there. The outer `None` says that the value is not a length.
 fn length_at(value: &Json, key: &str, kind: Kind) -> Option<Option<i128>>
     ensures { result ≡ optional (length_in kind) (present key.now value.now) }
 {
