@@ -1,5 +1,5 @@
 -- The first key that has the cells of a row, or that one of some rows refers to.
-use Rattle.std.proofs.Common.{◌≡◌, ◌∙◌, ◌⊎◌, inl, inr, ◌<◌, ℕ, ◌+◌, ◌++◌, ◌==◌, Bool, true, false, ◌&&◌, ◌||◌, not, cond}
+use Rattle.std.proofs.Common.{◌≡◌, ◌∙◌, ◌⊎◌, inl, inr, ◌<◌, ◌≤◌, ℕ, ◌+◌, ◌++◌, ◌==◌, Bool, true, false, ◌&&◌, ◌||◌, not, cond}
 use Rattle.std.proofs.Common.{List, [], ◌∷◌, Option, Some, None, find, filter, map, ap, refl, subst, sym, arith, drop}
 use Rattle.std.proofs.Common.{if◌then◌else◌, length, get_or, take, suc}
 use Rattle.std.proofs.lemmas.Bool.Decides.{nat_tests}
@@ -14,15 +14,17 @@ use Rattle.portal_base.specs.Ordered.{IsAscending, IsBelowAll}
 use Rattle.portal_base.proofs.Filtered.{IsAscending-filter}
 use Rattle.portal_base.proofs.Unique.{IsIn, IsIn-Contains, below_in}
 use Rattle.table_schema.specs.declared.cell.Cell.{Cell}
-use Rattle.datastore_table.specs.declared.index.Index.{Index}
+use Rattle.digest_index.specs.Index.{IndexState, IsUnder, entries_under, first_under, further_under}
+use Rattle.digest_index.specs.declared.Further.{Further}
 use Rattle.datastore_table.specs.declared.row.Row.{Row}
 use Rattle.datastore_table.specs.Batch.{is_among, key_row, refers_to, removed_keys}
 use Rattle.datastore_table.specs.Cells.{cells_at, has_null_at}
-use Rattle.datastore_table.specs.Index.{HasRoomFor, IsCandidate, digest_of, id_under}
+use Rattle.datastore_table.specs.Index.{digest_of}
 use Rattle.datastore_table.specs.Keys.{is_key_at, is_key_of, is_key_under, only_key, AreFound, EntersKey, IsLedToKey}
 use Rattle.datastore_table.specs.Put.{id_of}
 use Rattle.datastore_table.specs.References.{refers}
 use Rattle.datastore_table.specs.Rows.{earlier, has_id, row_at, row_cmp, row_cmp_total}
+use Rattle.datastore_table.proofs.ApartLemmas.{any_map}
 use Rattle.datastore_table.proofs.KeyLemmas.{cells-is}
 use Rattle.datastore_table.proofs.LookupLemmas.{at_own}
 use Rattle.datastore_table.proofs.Merged.{IsLeast, find-least, find-nothing, found-least, found-nothing}
@@ -159,11 +161,12 @@ filled [] cells some = absurd (cc)
 filled (column ∷ columns) cells some = refl
 
 -- The first key that has the cells is the first among the candidates.
-pub first_found : (columns : List ℕ) (cells : List Cell) (keys : List Row) (index : Index) → AreFound keys index
+pub first_found : (columns : List ℕ) (cells : List Cell) (keys : List Row) (index : IndexState ℕ) → AreFound keys index
     → is_empty columns ≡ false
     → earlier nat_cmp
-    (id_of (find (is_key_under columns cells (id_under index (digest_of [] (cells_at columns cells)))) keys))
-    (id_of (find (λ key. list_any (λ id. is_key_at columns cells id key) index.colliding.items) keys))
+    (id_of (find (is_key_under columns cells (first_under (digest_of [] (cells_at columns cells)) index)) keys))
+    (id_of (find (λ key. list_any (λ (e : Further ℕ). is_key_at columns cells e.number key)
+    (entries_under (digest_of [] (cells_at columns cells)) index.further)) keys))
     ≡ id_of (find (is_key_of columns cells) keys)
 first_found columns cells keys index found some =
     id_of-earlier (find under keys) (find among keys)
@@ -176,11 +179,14 @@ first_found columns cells keys index found some =
     p : Row → Bool
     p = is_key_of columns cells
 
+    beside : List (Further ℕ)
+    beside = entries_under (digest_of [] own) index.further
+
     under : Row → Bool
-    under = is_key_under columns cells (id_under index (digest_of [] own))
+    under = is_key_under columns cells (first_under (digest_of [] own) index)
 
     among : Row → Bool
-    among = λ key. list_any (λ id. is_key_at columns cells id key) index.colliding.items
+    among = λ key. list_any (λ (e : Further ℕ). is_key_at columns cells e.number key) beside
 
     itself : (a : ℕ) → (a == a) ≡ true
     itself a = grind (arith, nat_tests)
@@ -192,36 +198,37 @@ first_found columns cells keys index found some =
     none_under key fails None = refl
     none_under key fails (Some id) = unfit key fails id
 
-    none_among : (key : Row) → p key ≡ false → (ids : List ℕ)
-        → list_any (λ id. is_key_at columns cells id key) ids ≡ false
+    none_among : (key : Row) → p key ≡ false → (es : List (Further ℕ))
+        → list_any (λ (e : Further ℕ). is_key_at columns cells e.number key) es ≡ false
     none_among key fails [] = refl
-    none_among key fails (id ∷ ids) =
-        ap (λ b. b || list_any (λ i. is_key_at columns cells i key) ids) (unfit key fails id)
-        ∙ none_among key fails ids
+    none_among key fails (e ∷ es) =
+        ap (λ b. b || list_any (λ (f : Further ℕ). is_key_at columns cells f.number key) es) (unfit key fails e.number)
+        ∙ none_among key fails es
 
     fit : (key : Row) → p key ≡ true → is_key_at columns cells key.id key ≡ true
     fit key has = rw (itself key.id, has) refl
 
-    candidate : (key : Row) → IsIn key keys → p key ≡ true → IsCandidate index (digest_of [] own) key.id
+    candidate : (key : Row) → IsIn key keys → p key ≡ true → IsUnder index (digest_of [] own) key.id
     candidate key m has =
         let same : own ≡ key.cells = cells-is own key.cells has in
-        subst (λ cs. IsCandidate index (digest_of [] cs) key.id) (sym same)
+        subst (λ cs. IsUnder index (digest_of [] cs) key.id) (sym same)
         (found.led key m (ap is_empty (sym same) ∙ filled columns cells some))
 
-    there : (key : Row) → p key ≡ true → IsCandidate index (digest_of [] own) key.id → (under key || among key) ≡ true
+    there : (key : Row) → p key ≡ true → IsUnder index (digest_of [] own) key.id → (under key || among key) ≡ true
     there key has (inl e) =
         ap (λ b. b || among key) (ap (λ o. is_key_under columns cells o key) e ∙ fit key has)
     there key has (inr m) =
         ap (λ b. under key || b)
-        (found-any (λ id. is_key_at columns cells id key) key.id index.colliding.items
-        (IsIn-Contains key.id index.colliding.items m) (fit key has))
+        (sym (any_map (λ (e : Further ℕ). e.number) (λ id. is_key_at columns cells id key) beside)
+        ∙ found-any (λ id. is_key_at columns cells id key) key.id (further_under (digest_of [] own) index.further)
+        (IsIn-Contains key.id (further_under (digest_of [] own) index.further) m) (fit key has))
         ∙ or_true (under key)
 
     each : (key : Row) → IsIn key keys → (b : Bool) → p key ≡ b → (under key || among key) ≡ p key
     each key m true has = there key has (candidate key m has) ∙ sym has
     each key m false fails =
-        ap (λ b. b || among key) (none_under key fails (id_under index (digest_of [] own)))
-        ∙ none_among key fails index.colliding.items ∙ sym fails
+        ap (λ b. b || among key) (none_under key fails (first_under (digest_of [] own) index))
+        ∙ none_among key fails beside ∙ sym fails
 
 -- ---- by a row that refers
 
@@ -259,7 +266,7 @@ referred_some columns ids row h =
 
 -- ---- the index of keys
 
-pub key_entered : (keys : List Row) (k : ℕ) (key : Row) (old new : Index) → k < length keys → key ≡ get_or keys k key
+pub key_entered : (keys : List Row) (k : ℕ) (key : Row) (old new : IndexState ℕ) → k < length keys → key ≡ get_or keys k key
     → ((z : Row) → IsIn z keys → IsIn z (drop k keys) ⊎ IsLedToKey old z) → EntersKey old new key
     → (z : Row) → IsIn z keys → IsIn z (drop (k + 1) keys) ⊎ IsLedToKey new z
 key_entered keys k key old new lt is led enters z m = by (led z m)
@@ -272,14 +279,9 @@ key_entered keys k key old new lt is led enters z m = by (led z m)
         split (inr later) = inl later
     by (inr there) = inr (λ some. enters.kept _ z.id (there some))
 
-pub key_room : (keys : List Row) (k : ℕ) (key : Row) (index : Index) → k < length keys → key ≡ get_or keys k key
-    → HasRoomFor index (length (drop k keys)) → HasRoomFor index (length (drop (k + 1) keys) + 1)
-key_room keys k key index lt is room =
-    subst (λ n. HasRoomFor index n) (step (length (drop (k + 1) keys)))
-    (subst (λ (xs : List Row). HasRoomFor index (length xs)) (rest_of keys k key lt is) room)
-  where
-    step : (n : ℕ) → suc n ≡ n + 1
-    step n = omega arith
+pub key_room : (keys : List Row) (k : ℕ) (key : Row) (old new : ℕ) → k < length keys → key ≡ get_or keys k key
+    → length (drop k keys) ≤ old → old ≤ new + 1 → length (drop (k + 1) keys) ≤ new
+key_room keys k key old new lt is room step = omega (arith, ap length (rest_of keys k key lt is))
 
 -- ---- the keys of deleted rows
 

@@ -3,10 +3,12 @@ pub mod AmongLemmas
 pub mod ApartLemmas
 pub mod CellLemmas
 pub mod DeleteLemmas
+pub mod DraftLemmas
 mod Examples
 pub mod FirstLemmas
 pub mod KeptLemmas
 pub mod KeyLemmas
+pub mod KeySetLemmas
 pub mod LookupLemmas
 pub mod MeetLemmas
 pub mod Merged

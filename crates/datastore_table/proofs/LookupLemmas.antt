@@ -11,23 +11,26 @@ use Rattle.std.specs.Option.{option_map_or}
 use Rattle.std.specs.Ordering.{is_eq, is_lt, nat_cmp}
 use Rattle.lexical_forms.specs.Digits.{is_empty}
 use Rattle.portal_base.specs.Ordered.{IsAscending, found}
+use Rattle.portal_base.proofs.Inserted.{both_false, list_any-same}
 use Rattle.portal_base.proofs.Upserted.{upserted_at, inserted_at}
 use Rattle.portal_base.proofs.Unique.{IsIn, IsIn-Contains}
 use Rattle.table_schema.specs.declared.cell.Cell.{Cell}
 use Rattle.table_schema.specs.Field.{FieldValue}
 use Rattle.table_schema.specs.Order.{same_cell}
-use Rattle.datastore_table.specs.declared.index.Index.{Index}
+use Rattle.digest_index.specs.Index.{IndexState, IsUnder}
 use Rattle.datastore_table.specs.declared.row.Row.{Row}
 use Rattle.datastore_table.specs.Cells.{cell_at, cells_at, has_null, has_null_at, is_null}
-use Rattle.datastore_table.specs.Index.{IsAlone, IsCandidate, IsIndexedAt, digest_of, has_cells_at, is_other_unwritten}
+use Rattle.datastore_table.specs.Index.{IsAlone, IsIndexedAt, IsKeyed, digest_of, has_cells_at, is_other_unwritten}
 use Rattle.datastore_table.specs.Index.{only, unwritten}
 use Rattle.datastore_table.specs.Meets.{are_apart, has_cell_of, has_key_of, keys_apart, uniques_apart}
 use Rattle.datastore_table.specs.Put.{written_row}
+use Rattle.datastore_table.specs.References.{refers}
 use Rattle.datastore_table.specs.Rows.{has_cells, has_id, has_like, is_other, row_at, row_cmp, row_cmp_total}
 use Rattle.datastore_table.specs.Rows.{takes_cell}
 use Rattle.datastore_table.proofs.ApartLemmas.{any_map}
 use Rattle.datastore_table.proofs.ReferenceLemmas.{found-any}
-use Rattle.datastore_table.proofs.KeyLemmas.{are_one, cell_turned, cells-is, in-any, key_turned, same_cell-is}
+use Rattle.datastore_table.proofs.KeyLemmas.{are_one, cell_turned, cells-is, in-any, key_turned}
+use Rattle.datastore_table.proofs.KeyLemmas.{not_true, same_cell-is}
 use Rattle.datastore_table.proofs.Merged.{IsLeast, find-least, found-least, found-nothing, is_some-find}
 use Rattle.datastore_table.proofs.RowLemmas.{both_hold, find-same, same_id}
 
@@ -75,6 +78,16 @@ at_own row rows up m =
     by_id : (a b : ℕ) → (a == b) ≡ true → a ≡ b
     by_id a b h = grind (arith, nat_tests)
 
+pub has_row_is : (id : ℕ) (rows : List Row)
+    → is_some (row_at id rows) ≡ list_any (λ (row : Row). is_eq (nat_cmp id row.id)) rows
+has_row_is id rows =
+    sym (is_some-find (has_id id) rows)
+    ∙ list_any-same (has_id id) (λ (row : Row). is_eq (nat_cmp id row.id)) (λ row. turned row.id id ∙ sym (same_id id row.id))
+    rows
+  where
+    turned : (a b : ℕ) → (a == b) ≡ (b == a)
+    turned a b = grind (arith, nat_tests)
+
 -- ---- by an index
 
 true_false : {A : Type 0} (b : Bool) → b ≡ true → b ≡ false → A
@@ -103,9 +116,9 @@ found_by columns cells rows up alone id h = by (row_at id rows) refl h
         (found-least row_cmp row_cmp_total (has_id id) r rows up e).is_there has)
 
 -- If no candidate has the cells, no row has them.
-pub found_none : (columns : List ℕ) (cells : List Cell) (rows : List Row) (index : Index) → IsAscending row_cmp rows
+pub found_none : (columns : List ℕ) (cells : List Cell) (rows : List Row) (index : IndexState ℕ) → IsAscending row_cmp rows
     → has_null cells ≡ false → IsIndexedAt columns rows index
-    → ((id : ℕ) → IsCandidate index (digest_of columns cells) id → has_cells_at columns cells rows id ≡ false)
+    → ((id : ℕ) → IsUnder index (digest_of columns cells) id → has_cells_at columns cells rows id ≡ false)
     → find (has_cells columns cells) rows ≡ None
 found_none columns cells rows index up full indexed none = by (find (has_cells columns cells) rows) refl
   where
@@ -116,7 +129,7 @@ found_none columns cells rows index up full indexed none = by (find (has_cells c
         let same : cells_at columns r.cells ≡ cells = cells-is (cells_at columns r.cells) cells least.passes in
         let own : has_null_at columns r.cells ≡ false =
         sym (any_map (cell_at r.cells) is_null columns) ∙ ap has_null same ∙ full in
-        let led = subst (λ cs. IsCandidate index (digest_of columns cs) r.id) same (indexed r least.is_there own) in
+        let led = subst (λ cs. IsUnder index (digest_of columns cs) r.id) same (indexed r least.is_there own) in
         let has : has_cells_at columns cells rows r.id ≡ true =
         ap (λ o. option_map_or (has_cells columns cells) o false) (at_own r rows up least.is_there) ∙ least.passes in
         true_false (has_cells_at columns cells rows r.id) has (none r.id led)
@@ -166,6 +179,14 @@ alone_unique column c fields field rows apart at unique some a b m n has also =
   where
     zero_add : (k : ℕ) → k ≡ 0 + k
     zero_add k = omega arith
+
+-- No rows are found by any index.
+pub none_keyed : (key : List ℕ) (index : IndexState ℕ) → IsKeyed key [] index
+none_keyed key index = record { ascending = tt; apart = by (is_empty key); indexed = λ some row m. absurd m }
+  where
+    by : (b : Bool) → (b || true) ≡ true
+    by true = refl
+    by false = refl
 
 -- ---- rows that no written row replaces
 
@@ -277,6 +298,27 @@ pub any_apart : (columns : List ℕ) (cells : List Cell) (written rows : List Ro
 any_apart columns cells written rows up alone =
     is_some-find (λ row. has_cells columns cells row && not (has_like written row)) rows
     ∙ ap is_some (find_unwritten columns cells written rows up alone)
+
+-- ---- rows that refer
+
+-- A row that refers by some columns has no Null in them.
+pub refers_full : (columns : List ℕ) (row : Row) → refers columns row ≡ true
+    → has_null (cells_at columns row.cells) ≡ false
+refers_full columns row h =
+    any_map (cell_at row.cells) is_null columns
+    ∙ (both_false (is_empty columns) (has_null_at columns row.cells)
+    (not_true (is_empty columns || has_null_at columns row.cells) h)).1
+
+-- If there is no key, a row that refers has the key of no row.
+pub none_without_key : (key columns : List ℕ) (row : Row) (written rows : List Row) → is_empty key ≡ true
+    → refers columns row ≡ true
+    → list_any (λ (other : Row). has_cells key (cells_at columns row.cells) other && not (has_like written other)) rows
+    ≡ false
+none_without_key [] [] row written rows none h = absurd (cc)
+none_without_key [] (column ∷ columns) row written rows none h =
+    in-any (λ (other : Row). has_cells [] (cells_at (column ∷ columns) row.cells) other && not (has_like written other))
+    rows (λ z m. refl)
+none_without_key (k ∷ key) columns row written rows none h = absurd (cc)
 
 -- ---- a search's result
 

@@ -1,22 +1,23 @@
--- Of two rows that are alike, one is in the index's colliding list.
+-- Of two rows that are alike, one is a further number of the index.
 use Rattle.std.proofs.Common.{◌≡◌, ◌∙◌, ◌⊎◌, inl, inr, ℕ, ◌==◌, Bool, true, false, ◌&&◌, ◌||◌, not, List, [], ◌∷◌}
-use Rattle.std.proofs.Common.{Option}
-use Rattle.std.proofs.Common.{Some, None, ap, refl, subst, sym, arith}
+use Rattle.std.proofs.Common.{Option, Some, None, ap, cond, map, refl, subst, sym, arith}
 use Rattle.std.proofs.lemmas.Bool.Decides.{nat_tests}
 use Rattle.std.specs.List.{Contains, list_all, list_any}
 use Rattle.std.specs.Option.{option_map_or}
 use Rattle.portal_base.specs.Ordered.{IsAscending}
 use Rattle.portal_base.proofs.Inserted.{both_false}
-use Rattle.portal_base.proofs.Unique.{IsIn, IsIn-Contains}
+use Rattle.portal_base.proofs.Unique.{Contains-IsIn, IsIn, IsIn-Contains}
 use Rattle.table_schema.specs.Field.{SchemaValue}
 use Rattle.table_schema.specs.declared.cell.Cell.{Cell}
 use Rattle.table_schema.specs.Order.{same_cell}
-use Rattle.datastore_table.specs.declared.index.Index.{Index}
+use Rattle.digest_index.specs.Index.{IndexState, IsUnder, entries_under, first_under, further_under}
+use Rattle.digest_index.specs.declared.Further.{Further}
 use Rattle.datastore_table.specs.declared.row.Row.{Row}
 use Rattle.datastore_table.specs.Cells.{cell_at, cells_at, has_null_at, is_null}
-use Rattle.datastore_table.specs.Index.{IsCandidate, IsIndexedAt, IsLedTo, digest_of, id_under, is_twice}
+use Rattle.datastore_table.specs.Index.{IsIndexedAt, IsLedTo, digest_of, is_twice}
 use Rattle.datastore_table.specs.Meets.{are_accepted, are_apart, has_cell_of, has_key_of, row_meets}
 use Rattle.datastore_table.specs.Rows.{has_id, row_at, row_cmp, row_cmp_total}
+use Rattle.datastore_table.proofs.ApartLemmas.{any_map}
 use Rattle.datastore_table.proofs.LookupLemmas.{at_own}
 use Rattle.datastore_table.proofs.ReferenceLemmas.{any-found, found-any}
 use Rattle.datastore_table.proofs.KeyLemmas.{are_one, cell_turned, cells-is, key_turned, not_true, one_apart}
@@ -39,11 +40,11 @@ same_or_other a b = by (a == b) refl
     by true h = inl (grind (arith, nat_tests))
     by false h = inr (ap not h)
 
--- one of two rows is in the colliding list
+-- one of two rows is in the list
 abbrev pub IsColliding : List ℕ → Row → Row → Type 0
 IsColliding colliding a b = Contains colliding a.id ⊎ Contains colliding b.id
 
--- If of any two alike rows one is in the colliding list, and no row of that list is like another row, no two rows are
+-- If of any two alike rows one is in the list, and no row of that list is like another row, no two rows are
 -- alike.
 pub apart_colliding : (like : Row → Row → Bool) → ((a b : Row) → like a b ≡ true → like b a ≡ true) → (rows : List Row)
     (colliding : List ℕ) → IsAscending row_cmp rows
@@ -112,23 +113,46 @@ apart_colliding like turned rows colliding up pairs = by (list_any (is_twice lik
                 beside (inl there) = free a b m n l other there
                 beside (inr there) = free b a n m (turned a b l) (turned_id a.id b.id other) there
 
--- Of two rows with equal cells, one is in the colliding list.
-pub colliding_pair : (columns : List ℕ) (index : Index) (a b : Row) → IsLedTo columns index a → IsLedTo columns index b
+-- the further numbers of all digests
+abbrev pub further_numbers : IndexState ℕ → List ℕ
+further_numbers index = map (λ (e : Further ℕ). e.number) index.further
+
+further_in : (d n : ℕ) (es : List (Further ℕ)) → IsIn n (further_under d es)
+    → IsIn n (map (λ (e : Further ℕ). e.number) es)
+further_in d n [] m = m
+further_in d n (e ∷ es) m = by (e.digest == d) (λ rest. further_in d n es rest) m
+  where
+    by : (b : Bool) → (IsIn n (further_under d es) → IsIn n (map (λ (f : Further ℕ). f.number) es))
+        → IsIn n (map (λ (f : Further ℕ). f.number) (cond b (e ∷ entries_under d es) (entries_under d es)))
+        → (n ≡ e.number) ⊎ IsIn n (map (λ (f : Further ℕ). f.number) es)
+    by true more (inl same) = inl same
+    by true more (inr rest) = inr (more rest)
+    by false more rest = inr (more rest)
+
+-- A further number of a digest is one of all.
+further_there : (d n : ℕ) (index : IndexState ℕ) → Contains (further_under d index.further) n
+    → Contains (further_numbers index) n
+further_there d n index m =
+    Contains-IsIn n (further_numbers index)
+    (further_in d n index.further (IsIn-Contains n (further_under d index.further) m))
+
+-- Of two rows with equal cells, one is a further number.
+pub colliding_pair : (columns : List ℕ) (index : IndexState ℕ) (a b : Row) → IsLedTo columns index a → IsLedTo columns index b
     → has_null_at columns a.cells ≡ false → cells_at columns b.cells ≡ cells_at columns a.cells
-    → has_null_at columns b.cells ≡ false → (a.id ≡ b.id → ⊥) → IsColliding index.colliding.items a b
+    → has_null_at columns b.cells ≡ false → (a.id ≡ b.id → ⊥) → IsColliding (further_numbers index) a b
 colliding_pair columns index a b one other full same also differ =
-    by (one full) (subst (λ cs. IsCandidate index (digest_of columns cs) b.id) same (other also))
+    by (one full) (subst (λ cs. IsUnder index (digest_of columns cs) b.id) same (other also))
   where
     d : ℕ
     d = digest_of columns (cells_at columns a.cells)
 
-    ids : (x y : ℕ) → id_under index d ≡ Some x → id_under index d ≡ Some y → x ≡ y
+    ids : (x y : ℕ) → first_under d index ≡ Some x → first_under d index ≡ Some y → x ≡ y
     ids x y h k = cc
 
-    by : IsCandidate index d a.id → IsCandidate index d b.id → IsColliding index.colliding.items a b
+    by : IsUnder index d a.id → IsUnder index d b.id → IsColliding (further_numbers index) a b
     by (inl h) (inl k) = absurd (differ (ids a.id b.id h k))
-    by (inr there) k = inl there
-    by (inl h) (inr there) = inr there
+    by (inr there) k = inl (further_there d a.id index there)
+    by (inl h) (inr there) = inr (further_there d b.id index there)
 
 -- ---- keys
 
@@ -137,12 +161,13 @@ in_all p [] all x m = absurd m
 in_all p (y ∷ ys) all x (inl e) = ap p e ∙ (both_hold (p y) (list_all p ys) all).0
 in_all p (y ∷ ys) all x (inr m) = in_all p ys (both_hold (p y) (list_all p ys) all).1 x m
 
-pub keys_colliding : (schema : SchemaValue) (rows : List Row) (index : Index) → IsAscending row_cmp rows
+pub keys_colliding : (schema : SchemaValue) (rows : List Row) (index : IndexState ℕ) → IsAscending row_cmp rows
     → list_all (row_meets schema) rows ≡ true → IsIndexedAt schema.key rows index
-    → not (list_any (is_twice (has_key_of schema.key) rows) index.colliding.items)
+    → not (list_any (λ (e : Further ℕ). is_twice (has_key_of schema.key) rows e.number) index.further)
     ≡ are_apart (has_key_of schema.key) rows
 keys_colliding schema rows index up met indexed =
-    apart_colliding (has_key_of schema.key) (key_turned schema.key) rows index.colliding.items up
+    ap not (sym (any_map (λ (e : Further ℕ). e.number) (is_twice (has_key_of schema.key) rows) index.further))
+    ∙ apart_colliding (has_key_of schema.key) (key_turned schema.key) rows (further_numbers index) up
     (λ a b m n l differ. colliding_pair schema.key index a b (indexed a m) (indexed b n) (full a m)
     (cells-is (cells_at schema.key b.cells) (cells_at schema.key a.cells) l) (full b n) differ)
   where
@@ -154,11 +179,13 @@ keys_colliding schema rows index up met indexed =
 
 -- ---- unique fields
 
-pub cells_colliding : (column : ℕ) (rows : List Row) (index : Index) → IsAscending row_cmp rows
+pub cells_colliding : (column : ℕ) (rows : List Row) (index : IndexState ℕ) → IsAscending row_cmp rows
     → IsIndexedAt (column ∷ []) rows index
-    → not (list_any (is_twice (has_cell_of column) rows) index.colliding.items) ≡ are_apart (has_cell_of column) rows
+    → not (list_any (λ (e : Further ℕ). is_twice (has_cell_of column) rows e.number) index.further)
+    ≡ are_apart (has_cell_of column) rows
 cells_colliding column rows index up indexed =
-    apart_colliding (has_cell_of column) (cell_turned column) rows index.colliding.items up
+    ap not (sym (any_map (λ (e : Further ℕ). e.number) (is_twice (has_cell_of column) rows) index.further))
+    ∙ apart_colliding (has_cell_of column) (cell_turned column) rows (further_numbers index) up
     (λ a b m n l differ.
     let parts = both_hold (not (is_null (cell_at a.cells column)))
     (same_cell (cell_at b.cells column) (cell_at a.cells column)) l in

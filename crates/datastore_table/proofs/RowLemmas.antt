@@ -8,6 +8,7 @@ use Rattle.std.specs.Option.{option_or}
 use Rattle.std.specs.List.{list_any}
 use Rattle.std.specs.Ordering.{is_eq, nat_cmp}
 use Rattle.portal_base.specs.Ordered.{IsAscending}
+use Rattle.portal_base.proofs.Inserted.{list_any-same}
 use Rattle.lexical_forms.specs.Digits.{is_empty}
 use Rattle.table_schema.specs.declared.cell.Cell.{Cell}
 use Rattle.datastore_table.specs.declared.row.Row.{Row}
@@ -40,20 +41,37 @@ pub any_current : (p : Row → Bool) (written rows : List Row) → IsAscending r
     ≡ (list_any p written || list_any (λ row. p row && not (has_like written row)) rows)
 any_current p written rows uw ur = list_any-merged row_cmp row_cmp_total p written rows uw ur
 
+-- Where nothing was written, no row is replaced.
+pub none_replaced : (p : Row → Bool) (rows : List Row)
+    → list_any (λ row. p row && not (has_like [] row)) rows ≡ list_any p rows
+none_replaced p rows = list_any-same (λ row. p row && not (has_like [] row)) p (λ row. and_true (p row)) rows
+  where
+    and_true : (b : Bool) → (b && true) ≡ b
+    and_true true = refl
+    and_true false = refl
+
+either_current : (p : Row → Bool) (written rows : List Row) → IsAscending row_cmp written → IsAscending row_cmp rows
+    → list_any p (rows_after written rows)
+    ≡ (list_any (λ row. p row && not (has_like [] row)) written
+    || list_any (λ row. p row && not (has_like written row)) rows)
+either_current p written rows uw ur =
+    any_current p written rows uw ur
+    ∙ ap (λ b. b || list_any (λ row. p row && not (has_like written row)) rows) (sym (none_replaced p written))
+
 pub taken_current : (except : Option ℕ) (column : ℕ) (c : Cell) (written rows : List Row)
     → IsAscending row_cmp written → IsAscending row_cmp rows
     → is_taken except column c (rows_after written rows)
-    ≡ (not (is_null c) && (list_any (takes_cell except column c) written
+    ≡ (not (is_null c) && (list_any (λ row. takes_cell except column c row && not (has_like [] row)) written
     || list_any (λ row. takes_cell except column c row && not (has_like written row)) rows))
 taken_current except column c written rows uw ur =
-    ap (λ b. not (is_null c) && b) (any_current (takes_cell except column c) written rows uw ur)
+    ap (λ b. not (is_null c) && b) (either_current (takes_cell except column c) written rows uw ur)
 
 pub exists_current : (key : List ℕ) (cells : List Cell) (written rows : List Row)
     → IsAscending row_cmp written → IsAscending row_cmp rows
     → key_exists key cells (rows_after written rows)
-    ≡ (list_any (has_cells key cells) written
+    ≡ (list_any (λ row. has_cells key cells row && not (has_like [] row)) written
     || list_any (λ row. has_cells key cells row && not (has_like written row)) rows)
-exists_current key cells written rows uw ur = any_current (has_cells key cells) written rows uw ur
+exists_current key cells written rows uw ur = either_current (has_cells key cells) written rows uw ur
 
 pub same_id : (a b : ℕ) → is_eq (nat_cmp a b) ≡ (a == b)
 same_id a b = unsigned_tied a b

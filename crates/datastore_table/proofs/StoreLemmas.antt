@@ -16,15 +16,14 @@ use Rattle.portal_base.proofs.Upserted.{IsIn-upserted}
 use Rattle.portal_base.proofs.Unique.{IsIn, IsIn-get_or}
 use Rattle.table_schema.specs.Field.{FieldValue, SchemaValue}
 use Rattle.table_schema.specs.declared.cell.Cell.{Cell}
-use Rattle.datastore_table.specs.declared.index.Index.{Index}
+use Rattle.digest_index.specs.Index.{IndexState, IsUnder, Enters, Leaves, first_under, further_under}
 use Rattle.datastore_table.specs.declared.row.Row.{Row}
 use Rattle.datastore_table.specs.declared.store.RowStore.{RowStore}
 use Rattle.datastore_table.specs.Batch.{cut_rows, is_among}
 use Rattle.datastore_table.specs.Cells.{cells_at}
-use Rattle.datastore_table.specs.Index.{EntersAt, EntersRow, HasRoomFor, IsIndexed, IsIndexedAt, IsLedBeside, IsLedTo}
-use Rattle.datastore_table.specs.Index.{IsSound, IsStoreOf, IsSearchable, IsUniquelyIndexed, Leaves}
-use Rattle.datastore_table.specs.Index.{IsLeft, LeavesAll, LeavesRows}
-use Rattle.datastore_table.specs.Index.{column_lists_of, digest_of, id_under, unique_column_lists, IsCandidate}
+use Rattle.datastore_table.specs.Index.{EntersAt, EntersRow, IsIndexed, IsIndexedAt, IsLedTo}
+use Rattle.datastore_table.specs.Index.{IsLeft, IsSound, IsStoreOf, IsSearchable, IsUniquelyIndexed, LeavesAll, LeavesRow}
+use Rattle.datastore_table.specs.Index.{column_lists_of, digest_of, unique_column_lists}
 use Rattle.datastore_table.specs.Meets.{keeps_self_reference, is_numbered, IsTable, keys_apart, meets_schema, row_meets}
 use Rattle.datastore_table.specs.Meets.{uniques_apart}
 use Rattle.datastore_table.specs.Rows.{has_like, row_cmp}
@@ -65,12 +64,12 @@ unique_in from (suc column) (f ∷ fields) field at unique =
     by true m = inr m
     by false m = m
 
-pub key_indexed : (schema : SchemaValue) (rows : List Row) (index : Index)
+pub key_indexed : (schema : SchemaValue) (rows : List Row) (index : IndexState ℕ)
     → IsIndexed (column_lists_of schema) rows index
     → is_empty schema.key ≡ false → IsIndexedAt schema.key rows index
 key_indexed schema rows index indexed some = indexed schema.key (key_in schema some)
 
-pub unique_indexed : (schema : SchemaValue) (rows : List Row) (index : Index)
+pub unique_indexed : (schema : SchemaValue) (rows : List Row) (index : IndexState ℕ)
     → IsIndexed (column_lists_of schema) rows index → IsUniquelyIndexed schema.fields rows index
 unique_indexed schema rows index indexed column field at unique =
     indexed (column ∷ [])
@@ -101,7 +100,7 @@ searchable schema store next_id whole =
 -- ---- changes
 
 -- The index leads to the remaining rows.
-pub delete_indexed : (column_lists : List (List ℕ)) (ids : List ℕ) (rows : List Row) (old new : Index)
+pub delete_indexed : (column_lists : List (List ℕ)) (ids : List ℕ) (rows : List Row) (old new : IndexState ℕ)
     → IsIndexed column_lists rows old → LeavesAll old new ids → IsIndexed column_lists (cut_rows ids rows) new
 delete_indexed column_lists ids rows old new indexed leaves columns m row n full =
     let stays = IsIn-filter (λ (r : Row). not (is_among ids r.id)) row rows n in
@@ -110,32 +109,37 @@ delete_indexed column_lists ids rows old new indexed leaves columns m row n full
 like_itself : (a b : Row) → a.id ≡ b.id → is_eq (row_cmp a b) ≡ true
 like_itself a b same = ap (λ i. is_eq (nat_cmp a.id i)) (sym same) ∙ ap is_eq (tied_itself nat_cmp_total a.id)
 
--- The index leads to the rows that no changed row replaces.
-pub left_beside : (column_lists : List (List ℕ)) (changed rows : List Row) (old new : Index)
-    → IsIndexed column_lists rows old
-    → LeavesRows old new changed → IsLedBeside column_lists changed rows new
-left_beside column_lists changed rows old new indexed leaves columns m row n unlike full =
-    leaves.kept _ row.id
-    (λ w k same. true_false (is_eq (row_cmp row w)) (like_itself row w same)
-    (any-in (λ (other : Row). is_eq (row_cmp row other)) changed unlike w k))
-    (indexed columns m row n full)
-
--- That stays so after a row was entered and written.
-pub led_placed : (column_lists : List (List ℕ)) (w : Row) (changed rows : List Row) (old new : Index)
-    → IsLedBeside column_lists (w ∷ changed) rows old → EntersRow old new column_lists w
-    → IsLedBeside column_lists changed (upserted row_cmp w rows) new
-led_placed column_lists w changed rows old new led enters columns m row n unlike = by (IsIn-upserted row_cmp w row rows n)
+-- After a row's entries were replaced, the index leads to it and to all others.
+pub put_indexed : (column_lists : List (List ℕ)) (w : Row) (rows : List Row) (old mid new : IndexState ℕ)
+    → IsIndexed column_lists rows old → LeavesRow old mid w.id → EntersRow mid new column_lists w
+    → IsIndexed column_lists (upserted row_cmp w rows) new
+put_indexed column_lists w rows old mid new indexed leaves enters columns m row n = by (IsIn-upserted row_cmp w row rows n)
   where
+    other : is_eq (row_cmp row w) ≡ false → row.id ≡ w.id → ⊥
+    other apart same = true_false (is_eq (row_cmp row w)) (like_itself row w same) apart
+
     by : (row ≡ w) ⊎ (IsIn row rows × (is_eq (row_cmp row w) ≡ false)) → IsLedTo columns new row
     by (inl same) = subst (λ (r : Row). IsLedTo columns new r) (sym same) (enters.led columns m)
-    by (inr k) = λ full. enters.kept _ row.id (led columns m row k.0 both full)
-      where
-        both : has_like (w ∷ changed) row ≡ false
-        both = rw (k.1, unlike) refl
+    by (inr k) = λ full.
+        enters.kept _ row.id (leaves.kept _ row.id (other k.1) (indexed columns m row k.0 full))
 
-pub led_all : (column_lists : List (List ℕ)) (rows : List Row) (index : Index) → IsLedBeside column_lists [] rows index
-    → IsIndexed column_lists rows index
-led_all column_lists rows index led columns m row n = led columns m row n refl
+-- What an index has after one number was entered or removed.
+pub entered_one : (old new : IndexState ℕ) (digest id : ℕ) → Enters old new digest id → IsUnder new digest id
+entered_one old new digest id enters = (enters.under digest id).1 (inr (refl, refl))
+
+pub entered_kept : (old new : IndexState ℕ) (digest id : ℕ) → Enters old new digest id → (d i : ℕ) → IsUnder old d i
+    → IsUnder new d i
+entered_kept old new digest id enters d i under = (enters.under d i).1 (inl under)
+
+pub left_one : (old new : IndexState ℕ) (digest id : ℕ) → Leaves old new digest id → LeavesRow old new id
+left_one old new digest id leaves = record {
+  kept = λ d i other under. (leaves.under d i).1 (under, λ both. other both.1);
+  there = λ d i under. ((leaves.under d i).0 under).0;
+  room = leaves.room;
+}
+
+pub left_gone : (old new : IndexState ℕ) (digest id : ℕ) → Leaves old new digest id → IsUnder new digest id → ⊥
+left_gone old new digest id leaves under = ((leaves.under digest id).0 under).1 (refl, refl)
 
 -- ---- one more item of a list
 
@@ -153,19 +157,13 @@ pub split_rest : {X : Type 0} (xs : List X) (k : ℕ) (x z : X) → k < length x
     → IsIn z (drop k xs) → (z ≡ x) ⊎ IsIn z (drop (k + 1) xs)
 split_rest xs k x z lt is m = subst (λ ys. IsIn z ys) (rest_of xs k x lt is) m
 
-pub room_split : (index : Index) (n m : ℕ) → HasRoomFor index (suc n * m) → HasRoomFor index (n * m + m)
-room_split index n m room = subst (λ r. HasRoomFor index r) (step n m) room
-  where
-    step : (a b : ℕ) → suc a * b ≡ a * b + b
-    step a b = omega arith
-
 -- the index leads to the rows, except those of the rest
-abbrev pub IsLedTill : List (List ℕ) → List Row → List Row → Index → Type 0
+abbrev pub IsLedTill : List (List ℕ) → List Row → List Row → IndexState ℕ → Type 0
 IsLedTill column_lists rest rows index =
     (columns : List ℕ) → IsIn columns column_lists → (row : Row) → IsIn row rows
     → IsIn row rest ⊎ IsLedTo columns index row
 
-pub enter_more : (column_lists : List (List ℕ)) (rows : List Row) (k : ℕ) (row : Row) (old new : Index)
+pub enter_more : (column_lists : List (List ℕ)) (rows : List Row) (k : ℕ) (row : Row) (old new : IndexState ℕ)
     → k < length rows
     → row ≡ get_or rows k row → IsLedTill column_lists (drop k rows) rows old → EntersRow old new column_lists row
     → IsLedTill column_lists (drop (k + 1) rows) rows new
@@ -179,28 +177,45 @@ enter_more column_lists rows k row old new lt is led enters columns m r n = by (
         split (inr later) = inl later
     by (inr there) = inr (λ full. enters.kept _ r.id (there full))
 
-pub room_more : (column_lists : List (List ℕ)) (rows : List Row) (k : ℕ) (row : Row) (old : Index) → k < length rows
-    → row ≡ get_or rows k row → HasRoomFor old (length (drop k rows) * length column_lists)
-    → HasRoomFor old (length (drop (k + 1) rows) * length column_lists + length column_lists)
-room_more column_lists rows k row old lt is room =
-    room_split old (length (drop (k + 1) rows)) (length column_lists)
-    (subst (λ (xs : List Row). HasRoomFor old (length xs * length column_lists)) (rest_of rows k row lt is) room)
+times_more : (a b : ℕ) → suc a * b ≡ a * b + b
+times_more a b = omega arith
 
-pub leave_more : (changed : List Row) (k : ℕ) (row : Row) (old mid new : Index) → k < length changed
-    → row ≡ get_or changed k row → LeavesRows old mid changed → Leaves mid new row.id → LeavesRows old new changed
-leave_more changed k row old mid new lt is so_far leaves = record {
-  kept = λ d i apart candidate.
-      leaves.kept d i (λ same. apart row (IsIn-get_or row changed k lt (sym is)) same)
-      (so_far.kept d i apart candidate);
-  room = λ more room. leaves.room more (so_far.room more room);
-}
+pub room_more : (rows : List Row) (k : ℕ) (row : Row) (lists old new : ℕ) → k < length rows → row ≡ get_or rows k row
+    → length (drop k rows) * lists ≤ old → old ≤ new + lists → length (drop (k + 1) rows) * lists ≤ new
+room_more rows k row lists old new lt is room step =
+    let count : length (drop k rows) ≡ suc (length (drop (k + 1) rows)) = ap length (rest_of rows k row lt is) in
+    let product : length (drop k rows) * lists ≡ length (drop (k + 1) rows) * lists + lists =
+    ap (λ n. n * lists) count ∙ times_more (length (drop (k + 1) rows)) lists in
+    omega (arith, room, product, step)
 
-pub leave_next : (ids : List ℕ) (k id : ℕ) (old mid new : Index) → k < length ids → id ≡ get_or ids k id
-    → LeavesAll old mid ids → Leaves mid new id → LeavesAll old new ids
+-- There is room for the first of some rows.
+pub room_first : (rows : List Row) (k : ℕ) (row : Row) (lists room : ℕ) → k < length rows → row ≡ get_or rows k row
+    → length (drop k rows) * lists ≤ room → lists ≤ room
+room_first rows k row lists room lt is fits =
+    let count : length (drop k rows) ≡ suc (length (drop (k + 1) rows)) = ap length (rest_of rows k row lt is) in
+    let product : length (drop k rows) * lists ≡ length (drop (k + 1) rows) * lists + lists =
+    ap (λ n. n * lists) count ∙ times_more (length (drop (k + 1) rows)) lists in
+    omega (arith, fits, product)
+
+-- The room that is left after one of the rows for which there was room.
+pub room_left : (ready left lists old mid new : ℕ) → left + 1 ≡ ready → ready * lists ≤ old → old ≤ mid
+    → mid ≤ new + lists → left * lists ≤ new
+room_left ready left lists old mid new one fits leaves enters =
+    let count : ready ≡ suc left = omega (arith, one) in
+    let product : ready * lists ≡ left * lists + lists = ap (λ n. n * lists) count ∙ times_more left lists in
+    omega (arith, fits, product, leaves, enters)
+
+pub room_of_one : (ready lists old mid : ℕ) → 1 ≤ ready → ready * lists ≤ old → old ≤ mid → lists ≤ mid
+room_of_one ready lists old mid some fits leaves =
+    let product : 1 * lists ≤ ready * lists = grind arith in
+    omega (arith, fits, product, leaves)
+
+pub leave_next : (ids : List ℕ) (k id : ℕ) (old mid new : IndexState ℕ) → k < length ids → id ≡ get_or ids k id
+    → LeavesAll old mid ids → LeavesRow mid new id → LeavesAll old new ids
 leave_next ids k id old mid new lt is so_far leaves = record {
   kept = λ d i apart candidate.
       leaves.kept d i (λ same. true_false (is_among ids i) (among i same) apart) (so_far.kept d i apart candidate);
-  room = λ more room. leaves.room more (so_far.room more room);
+  room = omega (arith, so_far.room, leaves.room);
 }
   where
     among : (i : ℕ) → i ≡ id → is_among ids i ≡ true
@@ -216,23 +231,17 @@ item_at [] k d e lt = absurd (omega arith)
 item_at (x ∷ xs) zero d e lt = refl
 item_at (x ∷ xs) (suc k) d e lt = item_at xs k d e (omega (arith, lt))
 
-pub leave_next_at : (ids : List ℕ) (k : ℕ) (old mid new : Index) → k < length ids → LeavesAll old mid ids
-    → Leaves mid new (get_or ids k 0) → LeavesAll old new ids
+pub leave_next_at : (ids : List ℕ) (k : ℕ) (old mid new : IndexState ℕ) → k < length ids → LeavesAll old mid ids
+    → LeavesRow mid new (get_or ids k 0) → LeavesAll old new ids
 leave_next_at ids k old mid new lt so_far leaves =
     leave_next ids k (get_or ids k 0) old mid new lt (item_at ids k 0 (get_or ids k 0) lt) so_far leaves
 
-pub room_less : (index : Index) (more less : ℕ) → HasRoomFor index more → less ≤ more → HasRoomFor index less
-room_less index more less room le = record {
-  by_digest = omega (arith, room.by_digest, le);
-  colliding = omega (arith, room.colliding, le);
-}
-
 -- the index leads to the row, except by the lists of columns of the rest
-abbrev pub IsLedButBy : List (List ℕ) → List (List ℕ) → Row → Index → Type 0
+abbrev pub IsLedButBy : List (List ℕ) → List (List ℕ) → Row → IndexState ℕ → Type 0
 IsLedButBy column_lists rest row index =
     (columns : List ℕ) → IsIn columns column_lists → IsIn columns rest ⊎ IsLedTo columns index row
 
-pub led_more : (column_lists : List (List ℕ)) (k : ℕ) (columns : List ℕ) (row : Row) (old new : Index)
+pub led_more : (column_lists : List (List ℕ)) (k : ℕ) (columns : List ℕ) (row : Row) (old new : IndexState ℕ)
     → k < length column_lists
     → columns ≡ get_or column_lists k columns → IsLedButBy column_lists (drop k column_lists) row old
     → EntersAt old new columns row
@@ -248,67 +257,51 @@ led_more column_lists k columns row old new lt is led enters p m = by (led p m)
         split (inr later) = inl later
     by (inr there) = inr (λ full. enters.kept _ row.id (there full))
 
-pub column_lists_room : (column_lists : List (List ℕ)) (k : ℕ) (columns : List ℕ) (index : Index) (more : ℕ)
-    → k < length column_lists → columns ≡ get_or column_lists k columns
-    → HasRoomFor index (more + length (drop k column_lists))
-    → HasRoomFor index (more + length (drop (k + 1) column_lists) + 1)
-column_lists_room column_lists k columns index more lt is room =
-    subst (λ n. HasRoomFor index n) (step more (length (drop (k + 1) column_lists)))
-    (subst (λ (xs : List (List ℕ)). HasRoomFor index (more + length xs)) (rest_of column_lists k columns lt is) room)
-  where
-    step : (a b : ℕ) → a + suc b ≡ a + b + 1
-    step a b = omega arith
-
-pub leaves_through : (old mid new : Index) (id : ℕ) → Leaves old mid id → Leaves mid new id → Leaves old new id
+pub leaves_through : (old mid new : IndexState ℕ) (id : ℕ) → LeavesRow old mid id → LeavesRow mid new id
+    → LeavesRow old new id
 leaves_through old mid new id first second = record {
   kept = λ d i other candidate. second.kept d i other (first.kept d i other candidate);
   there = λ d i candidate. first.there d i (second.there d i candidate);
-  room = λ more room. second.room more (first.room more room);
+  room = omega (arith, first.room, second.room);
 }
 
 -- the entries of these cells are removed, except for the lists of columns of the rest
-abbrev pub IsGoneBut : List (List ℕ) → List (List ℕ) → List Cell → ℕ → Index → Type 0
+abbrev pub IsGoneBut : List (List ℕ) → List (List ℕ) → List Cell → ℕ → IndexState ℕ → Type 0
 IsGoneBut column_lists rest cells id index =
     (columns : List ℕ) → IsIn columns column_lists
-    → IsIn columns rest ⊎ (IsCandidate index (digest_of columns (cells_at columns cells)) id → ⊥)
+    → IsIn columns rest ⊎ (IsUnder index (digest_of columns (cells_at columns cells)) id → ⊥)
 
-pub gone_more : (column_lists : List (List ℕ)) (k : ℕ) (columns : List ℕ) (cells : List Cell) (id : ℕ) (old new : Index)
+pub gone_more : (column_lists : List (List ℕ)) (k : ℕ) (columns : List ℕ) (cells : List Cell) (id : ℕ) (old new : IndexState ℕ)
     → k < length column_lists → columns ≡ get_or column_lists k columns
     → IsGoneBut column_lists (drop k column_lists) cells id old
-    → Leaves old new id → (IsCandidate new (digest_of columns (cells_at columns cells)) id → ⊥)
+    → LeavesRow old new id → (IsUnder new (digest_of columns (cells_at columns cells)) id → ⊥)
     → IsGoneBut column_lists (drop (k + 1) column_lists) cells id new
 gone_more column_lists k columns cells id old new lt is gone leaves here p m = by (gone p m)
   where
-    by : IsIn p (drop k column_lists) ⊎ (IsCandidate old (digest_of p (cells_at p cells)) id → ⊥)
-        → IsIn p (drop (k + 1) column_lists) ⊎ (IsCandidate new (digest_of p (cells_at p cells)) id → ⊥)
+    by : IsIn p (drop k column_lists) ⊎ (IsUnder old (digest_of p (cells_at p cells)) id → ⊥)
+        → IsIn p (drop (k + 1) column_lists) ⊎ (IsUnder new (digest_of p (cells_at p cells)) id → ⊥)
     by (inl rest) = split (split_rest column_lists k columns p lt is rest)
       where
         split : (p ≡ columns) ⊎ IsIn p (drop (k + 1) column_lists)
-            → IsIn p (drop (k + 1) column_lists) ⊎ (IsCandidate new (digest_of p (cells_at p cells)) id → ⊥)
+            → IsIn p (drop (k + 1) column_lists) ⊎ (IsUnder new (digest_of p (cells_at p cells)) id → ⊥)
         split (inl same) =
-            inr (subst (λ (q : List ℕ). IsCandidate new (digest_of q (cells_at q cells)) id → ⊥) (sym same) here)
+            inr (subst (λ (q : List ℕ). IsUnder new (digest_of q (cells_at q cells)) id → ⊥) (sym same) here)
         split (inr later) = inl later
     by (inr away) = inr (λ candidate. away (leaves.there _ id candidate))
 
--- An `_id` that was removed from the map for a digest, and that isn't in the colliding list, is no candidate.
-pub gone_here : (digest id : ℕ) (index : Index) → (id_under index digest ≡ Some id → ⊥)
-    → (Contains index.colliding.items id → ⊥) → IsCandidate index digest id → ⊥
-gone_here digest id index under beside (inl there) = under there
-gone_here digest id index under beside (inr among) = beside among
-
-pub left_still : (column_lists : List (List ℕ)) (rows : List Row) (i id : ℕ) (old new : Index) → Leaves old new id
+pub left_still : (column_lists : List (List ℕ)) (rows : List Row) (i id : ℕ) (old new : IndexState ℕ) → LeavesRow old new id
     → IsLeft column_lists rows i old → IsLeft column_lists rows i new
 left_still column_lists rows i id old new leaves left row at columns m candidate =
     left row at columns m (leaves.there _ i candidate)
 
 -- the entries of the items are removed, except those of the rest
-abbrev pub IsLeftBut : {X : Type 0} → (X → ℕ) → List (List ℕ) → List Row → List X → List X → Index → Type 0
+abbrev pub IsLeftBut : {X : Type 0} → (X → ℕ) → List (List ℕ) → List Row → List X → List X → IndexState ℕ → Type 0
 IsLeftBut {X} id_of column_lists rows items rest index =
     (x : X) → IsIn x items → IsIn x rest ⊎ IsLeft column_lists rows (id_of x) index
 
 pub left_more : {X : Type 0} (id_of : X → ℕ) (column_lists : List (List ℕ)) (rows : List Row) (items : List X) (k : ℕ)
-    (x : X) (old new : Index) → k < length items → x ≡ get_or items k x
-    → IsLeftBut id_of column_lists rows items (drop k items) old → Leaves old new (id_of x)
+    (x : X) (old new : IndexState ℕ) → k < length items → x ≡ get_or items k x
+    → IsLeftBut id_of column_lists rows items (drop k items) old → LeavesRow old new (id_of x)
     → IsLeft column_lists rows (id_of x) new → IsLeftBut id_of column_lists rows items (drop (k + 1) items) new
 left_more {X} id_of column_lists rows items k x old new lt is left leaves here y m = by (left y m)
   where
@@ -339,45 +332,33 @@ all_but_end P items k le all x m = by (all x m)
     by (inl rest) = absurd (subst (λ xs. IsIn x xs) (drop_end items k le) rest)
     by (inr holds) = holds
 
-pub entered_all : (column_lists : List (List ℕ)) (k : ℕ) (row : Row) (old new : Index) → length column_lists ≤ k
-    → IsLedButBy column_lists (drop k column_lists) row new → ((d i : ℕ) → IsCandidate old d i → IsCandidate new d i)
-    → ((more : ℕ) → HasRoomFor old (more + length column_lists) → HasRoomFor new (more + length (drop k column_lists)))
-    → EntersRow old new column_lists row
-entered_all column_lists k row old new le led kept room = record {
+pub entered_all : (column_lists : List (List ℕ)) (k : ℕ) (row : Row) (old new : IndexState ℕ)
+    → length column_lists ≤ k → k ≤ length column_lists → IsLedButBy column_lists (drop k column_lists) row new
+    → ((d i : ℕ) → IsUnder old d i → IsUnder new d i) → old.room ≤ new.room + k → EntersRow old new column_lists row
+entered_all column_lists k row old new le within led kept room = record {
   led = λ p m. by p (led p m);
   kept = kept;
-  room = λ more fits. subst (λ n. HasRoomFor new n) (add_zero more)
-      (subst (λ (xs : List (List ℕ)). HasRoomFor new (more + length xs)) (drop_end column_lists k le) (room more fits));
+  room = omega (arith, le, within, room);
 }
   where
     by : (p : List ℕ) → IsIn p (drop k column_lists) ⊎ IsLedTo p new row → IsLedTo p new row
     by p (inl rest) = absurd (subst (λ ys. IsIn p ys) (drop_end column_lists k le) rest)
     by p (inr there) = there
 
-    add_zero : (n : ℕ) → n + 0 ≡ n
-    add_zero n = omega arith
-
-pub room_times : (index : Index) (less more each : ℕ) → less ≤ more → HasRoomFor index (more * each)
-    → HasRoomFor index (less * each)
-room_times index less more each le room = room_less index (more * each) (less * each) room (times less more each le)
-  where
-    times : (a b m : ℕ) → a ≤ b → a * m ≤ b * m
-    times a b m h = grind arith
-
 -- ---- the same
 
-pub indexed_same : (column_lists : List (List ℕ)) (was rows : List Row) (old new : Index) → rows ≡ was
-    → ((d : ℕ) → id_under new d ≡ id_under old d) → new.colliding.items ≡ old.colliding.items
+pub indexed_same : (column_lists : List (List ℕ)) (was rows : List Row) (old new : IndexState ℕ) → rows ≡ was
+    → ((d : ℕ) → first_under d new ≡ first_under d old) → new.further ≡ old.further
     → IsIndexed column_lists was old → IsIndexed column_lists rows new
-indexed_same column_lists was rows old new same under colliding indexed columns m row n full =
+indexed_same column_lists was rows old new same under further indexed columns m row n full =
     by (indexed columns m row (subst (λ rs. IsIn row rs) same n) full)
   where
     d : ℕ
     d = digest_of columns (cells_at columns row.cells)
 
-    by : IsCandidate old d row.id → IsCandidate new d row.id
+    by : IsUnder old d row.id → IsUnder new d row.id
     by (inl there) = inl (under d ∙ there)
-    by (inr among) = inr (subst (λ ids. Contains ids row.id) (sym colliding) among)
+    by (inr among) = inr (subst (λ es. Contains (further_under d es) row.id) (sym further) among)
 
 -- ---- restored rows
 

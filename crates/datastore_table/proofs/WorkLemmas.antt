@@ -1,5 +1,5 @@
 -- What a batch writes, one record after another.
-use Rattle.std.proofs.Common.{◌≡◌, ◌∙◌, ◌⊎◌, inl, inr, ℕ, ◌+◌, ◌<◌, List, [], ◌∷◌, ◌++◌, Option, Ok, Err, ap, drop}
+use Rattle.std.proofs.Common.{◌≡◌, ◌∙◌, ◌⊎◌, inl, inr, ℕ, ◌+◌, ◌<◌, List, [], ◌∷◌, ◌++◌, Option, Ok, Err, ap, ap₂, drop}
 use Rattle.std.proofs.Common.{length, get_or, sym, subst, Result, IfErr, IsErrAnd}
 use Rattle.std.proofs.Common.{Bool, true, false, ◌==◌, ◌&&◌, ◌||◌, not, cond, find, refl, Some, None}
 use Rattle.std.specs.List.{list_any}
@@ -14,8 +14,12 @@ use Rattle.datastore_table.specs.declared.fault.TableFault.TheVariants.{OutOfMem
 use Rattle.datastore_table.specs.declared.method.Method.{Method}
 use Rattle.datastore_table.specs.declared.row.Row.{Row}
 use Rattle.datastore_table.specs.Batch.{AreThoseOf, Written, is_among, worked_on}
+use Rattle.datastore_table.specs.Put.{admitted, begun, put_records, with_self_references}
 use Rattle.datastore_table.specs.Put.{Worked, next_after, put_from, put_record, row_id, with_cells, written_row}
-use Rattle.datastore_table.specs.Rows.{has_id, has_like, row_cmp, row_cmp_total}
+use Rattle.datastore_table.specs.References.{self_references_checked}
+use Rattle.datastore_table.specs.Results.{Answers, ◌>>>◌}
+use Rattle.datastore_table.specs.Rows.{has_id, has_like, row_cmp, row_cmp_total, rows_after}
+use Rattle.datastore_table.specs.Table.{TableValue}
 use Rattle.datastore_table.proofs.Merged.{merged-placed}
 use Rattle.datastore_table.proofs.ResultLemmas.{in_turn-next, in_turn-fault}
 use Rattle.datastore_table.proofs.RowLemmas.{any_current, apart-test, unlike-at}
@@ -90,3 +94,39 @@ pub through : {B : Type 0} (one other : Result B TableFault) (fault : TableFault
     → (fault ≡ OutOfMemory) ⊎ (other ≡ Err fault) → (fault ≡ OutOfMemory) ⊎ (one ≡ Err fault)
 through one other fault e (inl h) = inl h
 through one other fault e (inr h) = inr (e ∙ h)
+
+-- A batch that is admitted and whose records were applied is refused exactly if a self reference breaks.
+pub worked_is : (method : Method) (records : List Json) (table : TableValue) (one two three : SchemaValue)
+    (rows changed : List Row) (next_id : ℕ) (written : List ℕ) (work : Written) (result : Result (Unit {0}) TableFault)
+    → one ≡ table.schema → two ≡ table.schema → three ≡ table.schema → rows ≡ table.rows → next_id ≡ table.next_id
+    → changed ≡ work.changed → written ≡ work.written → Answers (Ok tt) (admitted method records one rows)
+    → put_from method two 1 records (begun rows next_id) ≡ Ok (worked_on rows work)
+    → result ≡ self_references_checked three (rows_after changed rows) written
+    → put_records method records table ≡ (result >>> λ _. Ok (worked_on table.rows work))
+worked_is method records table one two three rows changed next_id written work result e1 e2 e3 er en ec ew admits puts
+    checks =
+    ap (λ a. a >>> λ _. (put_from method table.schema 1 records (begun table.rows table.next_id)
+    >>> with_self_references table.schema)) (of_answer (admitted method records one rows) admits)
+    ∙ ap (λ p. p >>> with_self_references table.schema) put
+    ∙ ap (λ r. r >>> λ _. Ok (worked_on table.rows work)) (sym checked)
+  where
+    of_answer : (r : Result (Unit {0}) TableFault) → Answers (Ok tt) r → admitted method records table.schema table.rows
+        ≡ Ok tt
+    of_answer r (inl e) = absurd (cc)
+    of_answer r (inr e) =
+        ap₂ (λ s rs. admitted method records s rs) (sym e1) (sym er) ∙ known admits
+      where
+        known : Answers (Ok tt) (admitted method records one rows) → admitted method records one rows ≡ Ok tt
+        known (inl h) = absurd (cc)
+        known (inr h) = sym h
+
+    put : put_from method table.schema 1 records (begun table.rows table.next_id) ≡ Ok (worked_on table.rows work)
+    put =
+        subst (λ (rs : List Row). put_from method table.schema 1 records (begun rs table.next_id)
+        ≡ Ok (worked_on rs work)) er
+        (ap₂ (λ s n. put_from method s 1 records (begun rows n)) (sym e2) (sym en) ∙ puts)
+
+    checked : result ≡ self_references_checked table.schema (rows_after work.changed table.rows) work.written
+    checked =
+        checks ∙ ap₂ (λ s w. self_references_checked s (rows_after changed rows) w) e3 ew
+        ∙ ap₂ (λ c rs. self_references_checked table.schema (rows_after c rs) work.written) ec er

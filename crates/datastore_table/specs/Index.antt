@@ -1,15 +1,14 @@
 -- The index that finds a table's rows: their `_id`s by digests of their cells. No public clause cites this.
-use Rattle.std.specs.Prelude.{◌≡◌, ℕ, ◌+◌, ◌*◌, ◌≤◌, ◌==◌, nat_eq, ◌⊎◌, Bool, true, false, ◌&&◌, not, List, [], ◌∷◌}
-use Rattle.std.specs.Prelude.{◌++◌}
+use Rattle.std.specs.Prelude.{◌≡◌, ℕ, ◌+◌, ◌*◌, ◌≤◌, ◌==◌, Bool, true, false, ◌&&◌, not, List, [], ◌∷◌, ◌++◌}
 use Rattle.std.specs.Prelude.{fold, length, if◌then◌else◌}
 use Rattle.std.specs.Prelude.{Option, Some, None, slice_get}
-use Rattle.std.specs.List.{Contains, list_any}
+use Rattle.std.specs.List.{list_any}
 use Rattle.std.specs.Option.{option_map_or}
 use Rattle.std.specs.Vec.{vec_len, vec_capacity}
-use Rattle.std.specs.HashMap.{get, spare}
 use Rattle.std.specs.Hash as hash
 use Rattle.std.specs.Hash.DefaultHasher as sip
 use Rattle.std.specs.declared.hash.DefaultHasher.{DefaultHasher}
+use Rattle.digest_index.specs.Index.{IndexState, IsUnder}
 use Rattle.lexical_forms.specs.Digits.{is_empty}
 use Rattle.portal_base.specs.Ordered.{IsAscending}
 use Rattle.portal_base.proofs.Unique.{IsIn}
@@ -17,7 +16,6 @@ use Rattle.table_schema.specs.Field.{FieldValue, SchemaValue}
 use Rattle.table_schema.specs.Order.{rank_of}
 use Rattle.table_schema.specs.declared.cell.Cell.{Cell}
 use Rattle.table_schema.specs.declared.cell.Cell.TheVariants as cell
-use Rattle.datastore_table.specs.declared.index.Index.{Index}
 use Rattle.datastore_table.specs.declared.row.Row.{Row}
 use Rattle.datastore_table.specs.declared.store.RowStore.{RowStore}
 use Rattle.datastore_table.specs.declared.lookup_key.LookupKey.{LookupKey}
@@ -46,50 +44,23 @@ abbrev pub lookup_cells : LookupKey → List Cell
 lookup_cells (lookup_key.OfKey cells) = cells.now
 lookup_cells (lookup_key.OfRow cells columns) = cells_at columns.now cells.now
 
--- ---- the index
-
--- the `_id` that the map has for a digest
-abbrev pub id_under : Index → ℕ → Option ℕ
-id_under index digest = get nat_eq index.by_digest digest
-
--- the `_id` may be that of a row whose cells have this digest
-abbrev pub IsCandidate : Index → ℕ → ℕ → Type 0
-IsCandidate index digest id = (id_under index digest ≡ Some id) ⊎ Contains index.colliding.items id
-
--- This count of further `_id`s fits without an allocation.
-pub record HasRoomFor (index : Index) (more : ℕ) : Type 0 where
-  pub by_digest : more ≤ spare index.by_digest
-  pub colliding : vec_len index.colliding + more ≤ vec_capacity index.colliding
-
--- The `_id` was entered under the digest, and no candidate was lost.
-pub record Enters (old new : Index) (digest id : ℕ) : Type 0 where
-  pub entered : IsCandidate new digest id
-  pub kept : (d i : ℕ) → IsCandidate old d i → IsCandidate new d i
-  pub room : (more : ℕ) → HasRoomFor old (more + 1) → HasRoomFor new more
-
--- Only entries of this `_id` were removed, and none was added.
-pub record Leaves (old new : Index) (id : ℕ) : Type 0 where
-  pub kept : (d i : ℕ) → (i ≡ id → ⊥) → IsCandidate old d i → IsCandidate new d i
-  pub there : (d i : ℕ) → IsCandidate new d i → IsCandidate old d i
-  pub room : (more : ℕ) → HasRoomFor old more → HasRoomFor new more
-
 -- ---- an index of rows
 
--- The row is a candidate for its cells in these columns, unless one of them is Null.
-abbrev pub IsLedTo : List ℕ → Index → Row → Type 0
+-- The row's `_id` is under the digest of its cells in these columns, unless one of them is Null.
+abbrev pub IsLedTo : List ℕ → IndexState ℕ → Row → Type 0
 IsLedTo columns index row =
-    has_null_at columns row.cells ≡ false → IsCandidate index (digest_of columns (cells_at columns row.cells)) row.id
+    has_null_at columns row.cells ≡ false → IsUnder index (digest_of columns (cells_at columns row.cells)) row.id
 
 -- the index leads to each of the rows by these columns
-abbrev pub IsIndexedAt : List ℕ → List Row → Index → Type 0
+abbrev pub IsIndexedAt : List ℕ → List Row → IndexState ℕ → Type 0
 IsIndexedAt columns rows index = (row : Row) → IsIn row rows → IsLedTo columns index row
 
 -- the index leads to each of the rows by each of these lists of columns
-abbrev pub IsIndexed : List (List ℕ) → List Row → Index → Type 0
+abbrev pub IsIndexed : List (List ℕ) → List Row → IndexState ℕ → Type 0
 IsIndexed column_lists rows index = (columns : List ℕ) → IsIn columns column_lists → IsIndexedAt columns rows index
 
 -- the index leads to each of the rows by each unique field
-abbrev pub IsUniquelyIndexed : List FieldValue → List Row → Index → Type 0
+abbrev pub IsUniquelyIndexed : List FieldValue → List Row → IndexState ℕ → Type 0
 IsUniquelyIndexed fields rows index =
     (column : ℕ) (field : FieldValue) → slice_get fields column ≡ Some field → field.constraints.unique ≡ true
     → IsIndexedAt (column ∷ []) rows index
@@ -108,27 +79,27 @@ key_column_lists key = if is_empty key then [] else key ∷ []
 abbrev pub column_lists_of : SchemaValue → List (List ℕ)
 column_lists_of schema = key_column_lists schema.key ++ unique_column_lists 0 schema.fields
 
--- The row was entered by these columns, and no candidate was lost.
-pub record EntersAt (old new : Index) (columns : List ℕ) (row : Row) : Type 0 where
+-- The row was entered by these columns, and nothing was lost.
+pub record EntersAt (old new : IndexState ℕ) (columns : List ℕ) (row : Row) : Type 0 where
   pub led : IsLedTo columns new row
-  pub kept : (d i : ℕ) → IsCandidate old d i → IsCandidate new d i
-  pub room : (more : ℕ) → HasRoomFor old (more + 1) → HasRoomFor new more
+  pub kept : (d i : ℕ) → IsUnder old d i → IsUnder new d i
+  pub room : old.room ≤ new.room + 1
 
--- The row was entered by each of these lists of columns, and no candidate was lost.
-pub record EntersRow (old new : Index) (column_lists : List (List ℕ)) (row : Row) : Type 0 where
+-- The row was entered by each of these lists of columns, and nothing was lost.
+pub record EntersRow (old new : IndexState ℕ) (column_lists : List (List ℕ)) (row : Row) : Type 0 where
   pub led : (columns : List ℕ) → IsIn columns column_lists → IsLedTo columns new row
-  pub kept : (d i : ℕ) → IsCandidate old d i → IsCandidate new d i
-  pub room : (more : ℕ) → HasRoomFor old (more + length column_lists) → HasRoomFor new more
+  pub kept : (d i : ℕ) → IsUnder old d i → IsUnder new d i
+  pub room : old.room ≤ new.room + length column_lists
 
 -- The rows ascend and have distinct keys, and the index leads to each row by its key.
-pub record IsKeyed (key : List ℕ) (rows : List Row) (index : Index) : Type 0 where
+pub record IsKeyed (key : List ℕ) (rows : List Row) (index : IndexState ℕ) : Type 0 where
   pub ascending : IsAscending row_cmp rows
   pub apart : keys_apart key rows ≡ true
   pub indexed : is_empty key ≡ false → IsIndexedAt key rows index
 
 -- In addition, the rows have distinct cells in each unique field, and the index leads to each row by each of these
 -- fields.
-pub record IsSearchable (schema : SchemaValue) (rows : List Row) (index : Index) : Type 0 where
+pub record IsSearchable (schema : SchemaValue) (rows : List Row) (index : IndexState ℕ) : Type 0 where
   pub keyed : IsKeyed schema.key rows index
   pub uniques : uniques_apart 0 schema.fields rows ≡ true
   pub unique : IsUniquelyIndexed schema.fields rows index
@@ -166,36 +137,31 @@ is_twice like rows id =
 
 -- ---- the store of rows
 
--- The index leads to each of the rows that no changed row replaces.
-abbrev pub IsLedBeside : List (List ℕ) → List Row → List Row → Index → Type 0
-IsLedBeside column_lists changed rows index =
-    (columns : List ℕ) → IsIn columns column_lists → (row : Row) → IsIn row rows → has_like changed row ≡ false
-    → IsLedTo columns index row
-
--- The `_id` is no candidate for these cells in any of these lists of columns.
-abbrev pub IsGone : List (List ℕ) → List Cell → ℕ → Index → Type 0
+-- The `_id` isn't under the digest of these cells in any of these lists of columns.
+abbrev pub IsGone : List (List ℕ) → List Cell → ℕ → IndexState ℕ → Type 0
 IsGone column_lists cells id index =
-    (columns : List ℕ) → IsIn columns column_lists → IsCandidate index (digest_of columns (cells_at columns cells)) id
+    (columns : List ℕ) → IsIn columns column_lists → IsUnder index (digest_of columns (cells_at columns cells)) id
     → ⊥
 
 -- The row with this `_id`, if there is one, has no entry in the index.
-abbrev pub IsLeft : List (List ℕ) → List Row → ℕ → Index → Type 0
+abbrev pub IsLeft : List (List ℕ) → List Row → ℕ → IndexState ℕ → Type 0
 IsLeft column_lists rows id index = (row : Row) → row_at id rows ≡ Some row → IsGone column_lists row.cells id index
 
--- Only entries of these rows' `_id`s were removed.
-pub record LeavesRows (old new : Index) (rows : List Row) : Type 0 where
-  pub kept : (d i : ℕ) → ((row : Row) → IsIn row rows → i ≡ row.id → ⊥) → IsCandidate old d i → IsCandidate new d i
-  pub room : (more : ℕ) → HasRoomFor old more → HasRoomFor new more
+-- Only entries of this `_id` were removed, and none was added.
+pub record LeavesRow (old new : IndexState ℕ) (id : ℕ) : Type 0 where
+  pub kept : (d i : ℕ) → (i ≡ id → ⊥) → IsUnder old d i → IsUnder new d i
+  pub there : (d i : ℕ) → IsUnder new d i → IsUnder old d i
+  pub room : old.room ≤ new.room
 
 -- Only entries of these `_id`s were removed.
-pub record LeavesAll (old new : Index) (ids : List ℕ) : Type 0 where
-  pub kept : (d i : ℕ) → is_among ids i ≡ false → IsCandidate old d i → IsCandidate new d i
-  pub room : (more : ℕ) → HasRoomFor old more → HasRoomFor new more
+pub record LeavesAll (old new : IndexState ℕ) (ids : List ℕ) : Type 0 where
+  pub kept : (d i : ℕ) → is_among ids i ≡ false → IsUnder old d i → IsUnder new d i
+  pub room : old.room ≤ new.room
 
 -- There is memory for this count of further rows, in the list and in the index.
 pub record HasMemoryFor (store : RowStore) (more : ℕ) : Type 0 where
   pub rows : vec_len store.rows + more ≤ vec_capacity store.rows
-  pub index : HasRoomFor store.index (more * length store.column_lists.items)
+  pub index : more * length store.column_lists.items ≤ store.index.room
 
 -- The index leads to each row, and the memory that the store has reserved is there.
 pub record IsSound (store : RowStore) : Type 0 where

@@ -1,6 +1,8 @@
 pub mod Batch
 pub mod Cells
+pub mod Draft
 pub mod Index
+pub mod KeySet
 pub mod Keys
 pub mod Meets
 pub mod Put

@@ -5,13 +5,14 @@ ghost use Rattle.datastore_table.specs.Put.{admitted, grown_length, has_key, is_
 ghost use Rattle.datastore_table.specs.Put.{new_keys, with_key};
 ghost use Rattle.datastore_table.specs.Results.{Answers};
 
-use crate::cells::{are_same, has_null};
+use crate::cells::has_null;
 use crate::fault::TableFault;
-use crate::index::Index;
+use crate::key_set::KeySet;
 use crate::method::Method;
 use crate::reading::key_of;
 use crate::row::Row;
 use crate::rows::row_with;
+use digest_index::DigestIndex;
 use portal_base::json_value::Json;
 use portal_base::seq::Seq;
 use std::alloc::{AllocError, Global};
@@ -27,7 +28,7 @@ pub(crate) fn admit(
     records: &[Json],
     schema: &Schema,
     rows: &[Row],
-    index: &Index,
+    index: &DigestIndex<u64>,
 ) -> Result<(), TableFault>
     requires { IsKeyed schema.now.key rows.now index.now }
     ensures { Answers result (admitted method records.now schema.now rows.now) }
@@ -66,7 +67,7 @@ fn added_rows(
     records: &[Json],
     schema: &Schema,
     rows: &[Row],
-    index: &Index,
+    index: &DigestIndex<u64>,
 ) -> Result<usize, AllocError>
     requires { IsKeyed schema.now.key rows.now index.now }
     ensures { IfOk result (λ added. length rows.now + added ≡ grown_length method schema.now rows.now records.now) }
@@ -83,13 +84,13 @@ fn new_keys(
     alloc: Global,
     schema: &Schema,
     rows: &[Row],
-    index: &Index,
+    index: &DigestIndex<u64>,
     records: &[Json],
-) -> Result<Vec<Seq<Cell>>, AllocError>
+) -> Result<KeySet, AllocError>
     requires { IsKeyed schema.now.key rows.now index.now }
-    ensures { IfOk result (λ keys. keys.items ≡ new_keys schema.now rows.now records.now) }
+    ensures { IfOk result (λ keys. keys ≡ new_keys schema.now rows.now records.now) }
 {
-    let mut keys = Vec::new(alloc);
+    let mut keys = KeySet::new(alloc);
     for given in records {
         let key = key_of(alloc, schema, given)?;
         add_key(&mut keys, schema, rows, index, key)?;
@@ -99,44 +100,38 @@ fn new_keys(
 
 // Adds the key, if it is new and not yet in the list.
 fn add_key(
-    keys: &mut Vec<Seq<Cell>>,
+    keys: &mut KeySet,
     schema: &Schema,
     rows: &[Row],
-    index: &Index,
+    index: &DigestIndex<u64>,
     key: Seq<Cell>,
 ) -> Result<(), AllocError>
     requires { IsKeyed schema.now.key rows.now index.now }
-    ensures { OnOk result (keys.new.items ≡ with_key schema.now rows.now keys.old.items key) }
+    ensures { OnOk result (keys.new ≡ with_key schema.now rows.now keys.old key) }
 {
-    if !is_addable(keys.as_slice(), schema, rows, index, key.as_slice()) {
-        return Ok(());
+    if is_addable(keys, schema, rows, index, key.as_slice()) {
+        keys.add(key)
+    } else {
+        Ok(())
     }
-    keys.push(key)?;
-    Ok(())
 }
 
 fn is_addable(
-    keys: &[Seq<Cell>],
+    keys: &KeySet,
     schema: &Schema,
     rows: &[Row],
-    index: &Index,
+    index: &DigestIndex<u64>,
     key: &[Cell],
 ) -> bool
     requires { IsKeyed schema.now.key rows.now index.now }
     ensures { result ≡ (is_new_key schema.now rows.now key.now && not (has_key keys.now key.now)) }
 {
-    is_new_key(schema, rows, index, key) && !has_key(keys, key)
+    is_new_key(schema, rows, index, key) && !keys.has(key)
 }
 
-fn is_new_key(schema: &Schema, rows: &[Row], index: &Index, key: &[Cell]) -> bool
+fn is_new_key(schema: &Schema, rows: &[Row], index: &DigestIndex<u64>, key: &[Cell]) -> bool
     requires { IsKeyed schema.now.key rows.now index.now }
     ensures { result ≡ is_new_key schema.now rows.now key.now }
 {
     !(has_null(key) || row_with(rows, index, schema.key().as_slice(), key).is_some())
-}
-
-fn has_key(keys: &[Seq<Cell>], key: &[Cell]) -> bool
-    ensures { result ≡ has_key keys.now key.now }
-{
-    keys.iter().any(|other| are_same(other.as_slice(), key))
 }

@@ -10,6 +10,7 @@ use crate::references::check_all;
 use crate::removal::{Removal, check_referred_from};
 use crate::rows::CurrentRows;
 use crate::table::Table;
+use digest_index::DigestIndex;
 use table_schema::Foreign;
 
 /// Checks that each row of the batch refers by this foreign key to a row of the target. `foreign` is the index of the
@@ -22,20 +23,19 @@ pub fn check_foreign(batch: &Batch, foreign: u32, target: &Table) -> Result<(), 
         target.now.rows batch.now.work.changed batch.now.work.written }
 {
     let columns = foreign_fields(batch.schema.foreign().as_slice(), foreign);
+    let none = DigestIndex::new(target.alloc());
     let rows = CurrentRows {
         rows: target.rows(),
+        index: target.index(),
         written: &[],
-    };
-    let changed = CurrentRows {
-        rows: batch.work.changed(),
-        written: &[],
+        written_index: &none,
     };
     check_all(
         columns,
         target.schema().key().as_slice(),
         &rows,
-        target.index(),
-        &changed,
+        batch.work.changed(),
+        &[],
         batch.work.written(),
     )
 }

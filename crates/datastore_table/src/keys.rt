@@ -2,7 +2,7 @@
 //!
 //! An index leads to each key by the digest of its cells, so a look-up compares few keys. A row without a key has no
 //! cells, and no entry.
-ghost use Rattle.std.specs.Prelude.{◌≡◌, ℕ, false, find, length, IfOk, [], Some};
+ghost use Rattle.std.specs.Prelude.{◌≡◌, ◌≤◌, ℕ, false, find, length, IfOk, [], Some};
 ghost use Rattle.std.specs.List.{list_any};
 ghost use Rattle.std.specs.Ordering.{nat_cmp};
 ghost use Rattle.lexical_forms.specs.Digits.{is_empty};
@@ -11,32 +11,31 @@ ghost use Rattle.portal_base.proofs.Unique.{IsIn};
 ghost use Rattle.datastore_table.specs.declared.row.Row.{Row};
 ghost use Rattle.datastore_table.specs.Keys.{is_key_at, is_key_of, is_key_under, only_key};
 ghost use Rattle.datastore_table.specs.Keys.{AreFound, EntersKey, IsLedToKey};
-ghost use Rattle.datastore_table.specs.Index.{HasRoomFor};
 ghost use Rattle.datastore_table.specs.Put.{id_of};
 ghost use Rattle.datastore_table.specs.Rows.{earlier, row_cmp};
 
 use crate::cells::are_same_at;
-use crate::index::Index;
 use crate::lookup_key::{cells_digest, digest_at};
 use crate::row::Row;
 use crate::rows::row_at;
+use digest_index::{DigestIndex, Further};
 use std::alloc::{AllocError, Global};
 use table_schema::Cell;
 
 /// Creates the index of these keys.
-pub(crate) fn index_of_keys(alloc: Global, keys: &[Row]) -> Result<Index, AllocError>
+pub(crate) fn index_of_keys(alloc: Global, keys: &[Row]) -> Result<DigestIndex<u64>, AllocError>
     requires { IsAscending row_cmp keys.now }
     ensures { IfOk result (λ index. AreFound keys.now index) }
 {
-    let mut index = Index::new(alloc);
+    let mut index = DigestIndex::new(alloc);
     index.reserve(keys.len())?;
     enter_keys(&mut index, keys);
     Ok(index)
 }
 
 // Enters all keys into the index, which has room for them.
-fn enter_keys(index: &mut Index, keys: &[Row])
-    requires { HasRoomFor index.old (length keys.now) }
+fn enter_keys(index: &mut DigestIndex<u64>, keys: &[Row])
+    requires { length keys.now ≤ index.old.room }
     ensures { (key : Row) → IsIn key keys.now → IsLedToKey index.new key }
 {
     for key in keys {
@@ -45,8 +44,8 @@ fn enter_keys(index: &mut Index, keys: &[Row])
 }
 
 // Enters a key, unless it has no cells.
-fn enter_key(index: &mut Index, key: &Row)
-    requires { HasRoomFor index.old 1 }
+fn enter_key(index: &mut DigestIndex<u64>, key: &Row)
+    requires { 1 ≤ index.old.room }
     ensures { EntersKey index.old index.new key.now }
 {
     let cells = key.cells.as_slice();
@@ -56,15 +55,20 @@ fn enter_key(index: &mut Index, key: &Row)
 }
 
 /// The least `_id` of a key that has the cells of a row in these columns. There is a column.
-pub(crate) fn first_id(keys: &[Row], index: &Index, cells: &[Cell], columns: &[u32]) -> Option<u64>
+pub(crate) fn first_id(
+    keys: &[Row],
+    index: &DigestIndex<u64>,
+    cells: &[Cell],
+    columns: &[u32],
+) -> Option<u64>
     requires found { AreFound keys.now index.now }
     requires some { is_empty columns.now ≡ false }
     ensures { result ≡ id_of (find (is_key_of columns.now cells.now) keys.now) }
 {
-    let under = index.id_under(digest_at(&[], cells, columns));
+    let digest = digest_at(&[], cells, columns);
     lesser(
-        key_under(keys, under, cells, columns),
-        first_colliding(keys, index.colliding(), cells, columns),
+        key_under(keys, index.first(digest), cells, columns),
+        first_further(keys, index.further(digest), cells, columns),
     )
 }
 
@@ -79,14 +83,20 @@ fn key_under(keys: &[Row], id: Option<u64>, cells: &[Cell], columns: &[u32]) -> 
     }
 }
 
-// The least of these `_id`s whose key has the cells.
-fn first_colliding(keys: &[Row], ids: &[u64], cells: &[Cell], columns: &[u32]) -> Option<u64>
+// The least of the further `_id`s whose key has the cells.
+fn first_further(
+    keys: &[Row],
+    further: &[Further<u64>],
+    cells: &[Cell],
+    columns: &[u32],
+) -> Option<u64>
     requires { IsAscending row_cmp keys.now }
-    ensures { result ≡ id_of (find (λ key. list_any (λ id. is_key_at columns.now cells.now id key) ids.now) keys.now) }
+    ensures { result ≡ id_of (find
+        (λ key. list_any (λ e. is_key_at columns.now cells.now e.number key) further.now) keys.now) }
 {
     let mut first = None;
-    for id in ids {
-        first = lesser(first, key_at(keys, *id, cells, columns));
+    for entry in further {
+        first = lesser(first, key_at(keys, entry.number, cells, columns));
     }
     first
 }

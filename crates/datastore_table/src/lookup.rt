@@ -1,21 +1,21 @@
 //! Finds rows by the index.
-ghost use Rattle.std.specs.Prelude.{◌≡◌, ℕ, false, option_copied, find, IfSome, IfNone, IsTrue};
+ghost use Rattle.std.specs.Prelude.{◌≡◌, ℕ, false, map, option_copied, find, IfSome, IfNone, IsTrue};
+ghost use Rattle.digest_index.specs.Index.{first_under, IsUnder};
 ghost use Rattle.portal_base.specs.Ordered.{IsAscending};
 ghost use Rattle.datastore_table.specs.Cells.{has_null};
-ghost use Rattle.datastore_table.specs.Index.{digest_of, id_under, has_cells_at, lookup_cells};
-ghost use Rattle.datastore_table.specs.Index.{IsAlone, IsCandidate, IsIndexedAt};
+ghost use Rattle.datastore_table.specs.Index.{digest_of, has_cells_at, lookup_cells, IsAlone, IsIndexedAt};
 ghost use Rattle.datastore_table.specs.Rows.{has_cells, row_cmp};
 
-use crate::index::Index;
 use crate::lookup_key::LookupKey;
 use crate::row::Row;
 use crate::rows::row_at;
+use digest_index::{DigestIndex, Further};
 
 /// Finds the row that has the look-up key's cells in these columns, which the index covers. At most one row has them,
 /// and none of the cells is Null.
 pub(crate) fn find_by_index<'a>(
     rows: &'a [Row],
-    index: &Index,
+    index: &DigestIndex<u64>,
     columns: &[u32],
     lookup_key: LookupKey,
 ) -> Option<&'a Row>
@@ -32,24 +32,9 @@ pub(crate) fn find_by_index<'a>(
 }
 
 // Finds the `_id` of a row that has the look-up key's cells.
-fn find_id(rows: &[Row], index: &Index, columns: &[u32], lookup_key: LookupKey) -> Option<u64>
-    requires { IsAscending row_cmp rows.now }
-    ensures found { IfSome result (λ id.
-        IsTrue (has_cells_at columns.now (lookup_cells lookup_key.entry) rows.now id)) }
-    ensures none { IfNone result ((id : ℕ) →
-        IsCandidate index.now (digest_of columns.now (lookup_cells lookup_key.entry)) id →
-        has_cells_at columns.now (lookup_cells lookup_key.entry) rows.now id ≡ false) }
-{
-    match find_under_digest(rows, index, columns, lookup_key) {
-        Some(id) => Some(id),
-        None => find_colliding(rows, index.colliding(), columns, lookup_key),
-    }
-}
-
-// The `_id` that the index's map has for the digest, if its row has the look-up key's cells.
-fn find_under_digest(
+fn find_id(
     rows: &[Row],
-    index: &Index,
+    index: &DigestIndex<u64>,
     columns: &[u32],
     lookup_key: LookupKey,
 ) -> Option<u64>
@@ -57,22 +42,44 @@ fn find_under_digest(
     ensures found { IfSome result (λ id.
         IsTrue (has_cells_at columns.now (lookup_cells lookup_key.entry) rows.now id)) }
     ensures none { IfNone result ((id : ℕ) →
-        id_under index.now (digest_of columns.now (lookup_cells lookup_key.entry)) ≡ Some id →
+        IsUnder index.now (digest_of columns.now (lookup_cells lookup_key.entry)) id →
         has_cells_at columns.now (lookup_cells lookup_key.entry) rows.now id ≡ false) }
 {
-    match index.id_under(lookup_key.digest(columns)) {
+    let digest = lookup_key.digest(columns);
+    match find_first(rows, index.first(digest), columns, lookup_key) {
+        Some(id) => Some(id),
+        None => find_further(rows, index.further(digest), columns, lookup_key),
+    }
+}
+
+// The `_id`, if its row has the look-up key's cells.
+fn find_first(rows: &[Row], id: Option<u64>, columns: &[u32], lookup_key: LookupKey) -> Option<u64>
+    requires { IsAscending row_cmp rows.now }
+    ensures found { IfSome result (λ id.
+        IsTrue (has_cells_at columns.now (lookup_cells lookup_key.entry) rows.now id)) }
+    ensures none { IfNone result ((i : ℕ) → id ≡ Some i →
+        has_cells_at columns.now (lookup_cells lookup_key.entry) rows.now i ≡ false) }
+{
+    match id {
         Some(id) if has_cells_at(rows, columns, lookup_key, id) => Some(id),
         _ => None,
     }
 }
 
-// The first of the colliding `_id`s whose row has the look-up key's cells.
-fn find_colliding(rows: &[Row], ids: &[u64], columns: &[u32], lookup_key: LookupKey) -> Option<u64>
+// The first of the further `_id`s whose row has the look-up key's cells.
+fn find_further(
+    rows: &[Row],
+    further: &[Further<u64>],
+    columns: &[u32],
+    lookup_key: LookupKey,
+) -> Option<u64>
     requires { IsAscending row_cmp rows.now }
-    ensures { result ≡ find (has_cells_at columns.now (lookup_cells lookup_key.entry) rows.now) ids.now }
+    ensures { result ≡ find (has_cells_at columns.now (lookup_cells lookup_key.entry) rows.now)
+        (map (λ e. e.number) further.now) }
 {
-    ids.iter()
-        .copied()
+    further
+        .iter()
+        .map(|entry| entry.number)
         .find(|id| has_cells_at(rows, columns, lookup_key, *id))
 }
 

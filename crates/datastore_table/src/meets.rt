@@ -17,10 +17,10 @@ ghost use Rattle.datastore_table.specs.References.{is_broken};
 ghost use Rattle.datastore_table.specs.Rows.{row_cmp};
 
 use crate::cells::{are_same_between, has_null_at, is_null, is_same_at};
-use crate::index::Index;
-use crate::references::is_broken;
+use crate::references::is_broken_among;
 use crate::row::Row;
-use crate::rows::{CurrentRows, row_at};
+use crate::rows::row_at;
+use digest_index::{DigestIndex, Further};
 use table_schema::{Cell, Field, Foreign, Kind, Schema};
 
 /// Above the absolute value of every number cell, in billionths.
@@ -43,7 +43,7 @@ const SECONDS_PER_DAY: u32 = 86_400;
 const LAST_YEAR: u16 = 9999;
 
 /// Whether rows that each meet the schema also have distinct keys, distinct unique cells and valid self references.
-pub(crate) fn are_related(schema: &Schema, rows: &[Row], index: &Index) -> bool
+pub(crate) fn are_related(schema: &Schema, rows: &[Row], index: &DigestIndex<u64>) -> bool
     requires ascending { IsAscending row_cmp rows.now }
     requires met { list_all (row_meets schema.now) rows.now ≡ true }
     requires indexed { IsIndexed (column_lists_of schema.now) rows.now index.now }
@@ -152,7 +152,7 @@ fn is_moment(seconds: i64) -> bool
 }
 
 #[tactic(auto, using(crate::proofs::StoreLemmas::key_indexed))]
-fn are_keys_apart(schema: &Schema, rows: &[Row], index: &Index) -> bool
+fn are_keys_apart(schema: &Schema, rows: &[Row], index: &DigestIndex<u64>) -> bool
     requires ascending { IsAscending row_cmp rows.now }
     requires met { list_all (row_meets schema.now) rows.now ≡ true }
     requires indexed { IsIndexed (column_lists_of schema.now) rows.now index.now }
@@ -162,8 +162,8 @@ fn are_keys_apart(schema: &Schema, rows: &[Row], index: &Index) -> bool
     key.is_empty() || no_key_twice(schema, key, rows, index)
 }
 
-// If two rows have equal keys, one of them is in the index's colliding list.
-fn no_key_twice(schema: &Schema, key: &[u32], rows: &[Row], index: &Index) -> bool
+// If two rows have equal keys, one of them is a further number of the index.
+fn no_key_twice(schema: &Schema, key: &[u32], rows: &[Row], index: &DigestIndex<u64>) -> bool
     requires ascending { IsAscending row_cmp rows.now }
     requires met { list_all (row_meets schema.now) rows.now ≡ true }
     requires key { key.now ≡ schema.now.key }
@@ -173,12 +173,14 @@ fn no_key_twice(schema: &Schema, key: &[u32], rows: &[Row], index: &Index) -> bo
     !is_any_key_twice(key, rows, index.colliding())
 }
 
-// Whether the row with one of these `_id`s shares its key with another row.
-fn is_any_key_twice(key: &[u32], rows: &[Row], ids: &[u64]) -> bool
+// Whether the row of one of these entries shares its key with another row.
+fn is_any_key_twice(key: &[u32], rows: &[Row], further: &[Further<u64>]) -> bool
     requires { IsAscending row_cmp rows.now }
-    ensures { result ≡ list_any (is_twice (has_key_of key.now) rows.now) ids.now }
+    ensures { result ≡ list_any (λ e. is_twice (has_key_of key.now) rows.now e.number) further.now }
 {
-    ids.iter().any(|id| is_key_twice(key, rows, *id))
+    further
+        .iter()
+        .any(|entry| is_key_twice(key, rows, entry.number))
 }
 
 // Whether the row with this `_id` shares its key with another row.
@@ -206,7 +208,7 @@ fn has_same_key(key: &[u32], row: &Row, other: &Row) -> bool
 }
 
 // Whether no two rows have equal cells other than Null in a unique field.
-fn are_uniques_apart(fields: &[Field], rows: &[Row], index: &Index) -> bool
+fn are_uniques_apart(fields: &[Field], rows: &[Row], index: &DigestIndex<u64>) -> bool
     requires ascending { IsAscending row_cmp rows.now }
     requires indexed { IsUniquelyIndexed fields.now rows.now index.now }
     ensures { result ≡ uniques_apart 0 fields.now rows.now }
@@ -219,8 +221,8 @@ fn are_uniques_apart(fields: &[Field], rows: &[Row], index: &Index) -> bool
     true
 }
 
-// If two rows have equal cells in this column, one of them is in the index's colliding list.
-fn no_cell_twice(column: usize, rows: &[Row], index: &Index) -> bool
+// If two rows have equal cells in this column, one of them is a further number of the index.
+fn no_cell_twice(column: usize, rows: &[Row], index: &DigestIndex<u64>) -> bool
     requires ascending { IsAscending row_cmp rows.now }
     requires indexed { IsIndexedAt (column ∷ []) rows.now index.now }
     ensures { result ≡ are_apart (has_cell_of column) rows.now }
@@ -228,12 +230,14 @@ fn no_cell_twice(column: usize, rows: &[Row], index: &Index) -> bool
     !is_any_cell_twice(column, rows, index.colliding())
 }
 
-// Whether the row with one of these `_id`s shares its cell in this column, other than Null, with another row.
-fn is_any_cell_twice(column: usize, rows: &[Row], ids: &[u64]) -> bool
+// Whether the row of one of these entries shares its cell in this column, other than Null, with another row.
+fn is_any_cell_twice(column: usize, rows: &[Row], further: &[Further<u64>]) -> bool
     requires { IsAscending row_cmp rows.now }
-    ensures { result ≡ list_any (is_twice (has_cell_of column) rows.now) ids.now }
+    ensures { result ≡ list_any (λ e. is_twice (has_cell_of column) rows.now e.number) further.now }
 {
-    ids.iter().any(|id| is_cell_twice(column, rows, *id))
+    further
+        .iter()
+        .any(|entry| is_cell_twice(column, rows, entry.number))
 }
 
 // Whether the row with this `_id` shares its cell in this column, other than Null, with another row.
@@ -268,7 +272,7 @@ fn has_cell_of(column: usize, row: &Row, other: &Row) -> bool
     }
 }
 
-fn keeps_self_references(schema: &Schema, rows: &[Row], index: &Index) -> bool
+fn keeps_self_references(schema: &Schema, rows: &[Row], index: &DigestIndex<u64>) -> bool
     requires { IsKeyed schema.now.key rows.now index.now }
     ensures { result ≡ list_all (keeps_self_reference schema.now.key rows.now) schema.now.foreign }
 {
@@ -279,20 +283,24 @@ fn keeps_self_references(schema: &Schema, rows: &[Row], index: &Index) -> bool
         .all(|foreign| keeps_self_reference(key, rows, index, foreign))
 }
 
-fn keeps_self_reference(key: &[u32], rows: &[Row], index: &Index, foreign: &Foreign) -> bool
+fn keeps_self_reference(
+    key: &[u32],
+    rows: &[Row],
+    index: &DigestIndex<u64>,
+    foreign: &Foreign,
+) -> bool
     requires { IsKeyed key.now rows.now index.now }
     ensures { result ≡ keeps_self_reference key.now rows.now foreign.now }
 {
     !foreign.resource.is_empty() || is_none_broken(foreign.fields.as_slice(), key, rows, index)
 }
 
-fn is_none_broken(columns: &[u32], key: &[u32], rows: &[Row], index: &Index) -> bool
+fn is_none_broken(columns: &[u32], key: &[u32], rows: &[Row], index: &DigestIndex<u64>) -> bool
     requires { IsKeyed key.now rows.now index.now }
     ensures { result ≡ list_all (λ row. not (is_broken columns.now key.now rows.now row)) rows.now }
 {
-    let target = CurrentRows { rows, written: &[] };
     rows.iter()
-        .all(|row| !is_broken(columns, key, &target, index, row))
+        .all(|row| !is_broken_among(columns, key, rows, index, row))
 }
 
 /// Whether the `_id`s ascend, each is at least 1 and below `next_id`, and `next_id` is at least 1.

@@ -1,6 +1,5 @@
 //! References between rows: the checks that a batch leaves no foreign key without its row.
-ghost use Rattle.std.specs.Prelude.{◌≡◌, ◌<◌, ◌&&◌, ◌||◌, not, false, is_some, length, option_copied, find};
-ghost use Rattle.std.specs.Prelude.{slice_index_or};
+ghost use Rattle.std.specs.Prelude.{◌≡◌, ◌<◌, ◌&&◌, ◌||◌, not, true, false, is_some, length, option_copied};
 ghost use Rattle.std.specs.List.{list_any};
 ghost use Rattle.lexical_forms.specs.Digits.{is_empty};
 ghost use Rattle.portal_base.specs.Ordered.{IsAscending};
@@ -10,13 +9,13 @@ ghost use Rattle.datastore_table.specs.References.{foreign_checked, is_broken, i
 ghost use Rattle.datastore_table.specs.References.{self_reference_checked, self_references_checked, written_checked};
 ghost use Rattle.datastore_table.specs.Rows.{has_cells, has_like, row_at, row_cmp, rows_after};
 
-use crate::cells::{are_same_between, has_null_at};
+use crate::cells::has_null_at;
 use crate::fault::TableFault;
-use crate::index::Index;
 use crate::lookup::find_by_index;
 use crate::lookup_key::LookupKey;
 use crate::row::Row;
 use crate::rows::{CurrentRows, current_row_at, has_row};
+use digest_index::DigestIndex;
 use table_schema::{Foreign, Schema};
 
 /// Whether the row refers to a row by these columns: there is a column, and no cell in them is Null.
@@ -26,51 +25,32 @@ pub(crate) fn refers(row: &Row, columns: &[u32]) -> bool
     !(columns.is_empty() || has_null_at(row.cells.as_slice(), columns))
 }
 
-// Whether the row has the key that the other row has in these columns.
-fn has_key_of(row: &Row, key: &[u32], other: &Row, columns: &[u32]) -> bool
-    ensures { result ≡ has_cells key.now (cells_at columns.now other.now.cells) row.now }
-{
-    are_same_between(row.cells.as_slice(), key, other.cells.as_slice(), columns)
-}
-
-fn exists_among(rows: &[Row], key: &[u32], row: &Row, columns: &[u32]) -> bool
-    ensures { result ≡ list_any (has_cells key.now (cells_at columns.now row.now.cells)) rows.now }
-{
-    rows.iter()
-        .any(|other| has_key_of(other, key, row, columns))
-}
-
-// Whether a row has the key, among those that have no `_id` of the others.
-fn exists_unwritten(rows: &[Row], others: &[Row], key: &[u32], row: &Row, columns: &[u32]) -> bool
-    ensures { result ≡ list_any
-        (λ other. has_cells key.now (cells_at columns.now row.now.cells) other && not (has_like others.now other))
-        rows.now }
-{
-    rows.iter().any(|other| has_key_of(other, key, row, columns) && !has_row(others, other.id))
-}
-
-// Looks the key up by the index. The key has a field, and the row has no Null in these columns.
+// Whether a row has the key that this row has in these columns, among the rows that no written row replaces. The key has
+// a column.
 fn exists_by_index(
-    target: &CurrentRows,
-    index: &Index,
+    rows: &[Row],
+    index: &DigestIndex<u64>,
+    written: &[Row],
     key: &[u32],
     row: &Row,
     columns: &[u32],
 ) -> bool
-    requires keyed { IsKeyed key.now target.now.rows.now index.now }
+    requires keyed { IsKeyed key.now rows.now index.now }
+    requires written { IsAscending row_cmp written.now }
     requires some { is_empty key.now ≡ false }
     requires full { has_null (cells_at columns.now row.now.cells) ≡ false }
     ensures { result ≡ list_any
-        (λ other. has_cells key.now (cells_at columns.now row.now.cells) other
-        && not (has_like target.now.written.now other)) target.now.rows.now }
+        (λ other. has_cells key.now (cells_at columns.now row.now.cells) other && not (has_like written.now other))
+        rows.now }
 {
     let lookup_key = LookupKey::OfRow(row.cells.as_slice(), columns);
-    let other = find_by_index(target.rows, index, key, lookup_key);
-    is_unwritten(target.written, other)
+    let other = find_by_index(rows, index, key, lookup_key);
+    is_unwritten(written, other)
 }
 
 // Whether there is a row, and no written row has its `_id`.
 fn is_unwritten(written: &[Row], row: Option<&Row>) -> bool
+    requires { IsAscending row_cmp written.now }
     ensures { result ≡ is_some (unwritten written.now (option_copied row.entry)) }
 {
     match row {
@@ -79,78 +59,82 @@ fn is_unwritten(written: &[Row], row: Option<&Row>) -> bool
     }
 }
 
-fn exists_elsewhere(
-    target: &CurrentRows,
-    index: &Index,
+// Whether a row has the key that this row refers to, among the rows that no written row replaces. A table without a key
+// has no such row.
+#[tactic(auto, using(crate::proofs::LookupLemmas::refers_full))]
+fn exists_among(
+    rows: &[Row],
+    index: &DigestIndex<u64>,
+    written: &[Row],
     key: &[u32],
     row: &Row,
     columns: &[u32],
 ) -> bool
-    requires { IsKeyed key.now target.now.rows.now index.now }
+    requires keyed { IsKeyed key.now rows.now index.now }
+    requires written { IsAscending row_cmp written.now }
+    requires refers { refers columns.now row.now ≡ true }
     ensures { result ≡ list_any
-        (λ other. has_cells key.now (cells_at columns.now row.now.cells) other
-        && not (has_like target.now.written.now other)) target.now.rows.now }
+        (λ other. has_cells key.now (cells_at columns.now row.now.cells) other && not (has_like written.now other))
+        rows.now }
 {
-    if key.is_empty() || !is_full_at(row, columns) {
-        exists_unwritten(target.rows, target.written, key, row, columns)
-    } else {
-        exists_by_index(target, index, key, row, columns)
-    }
+    !key.is_empty() && exists_by_index(rows, index, written, key, row, columns)
 }
 
-// Whether the row has no Null in these columns.
-#[tactic(auto, using(crate::proofs::ApartLemmas::any_map))]
-fn is_full_at(row: &Row, columns: &[u32]) -> bool
-    ensures { result ≡ not (has_null (cells_at columns.now row.now.cells)) }
-{
-    !has_null_at(row.cells.as_slice(), columns)
-}
-
-// Whether a current row has the key that this row has in these columns.
+// Whether a current row has the key that this row refers to.
 #[tactic(auto, using(crate::proofs::RowLemmas::exists_current))]
-fn key_exists(target: &CurrentRows, index: &Index, key: &[u32], row: &Row, columns: &[u32]) -> bool
-    requires keyed { IsKeyed key.now target.now.rows.now index.now }
-    requires written { IsAscending row_cmp target.now.written.now }
+fn key_exists(target: &CurrentRows, key: &[u32], row: &Row, columns: &[u32]) -> bool
+    requires keyed { IsKeyed key.now target.now.rows.now target.now.index.now }
+    requires written { IsKeyed key.now target.now.written.now target.now.written_index.now }
+    requires refers { refers columns.now row.now ≡ true }
     ensures { result ≡ key_exists key.now (cells_at columns.now row.now.cells)
         (rows_after target.now.written.now target.now.rows.now) }
 {
-    exists_among(target.written, key, row, columns)
-        || exists_elsewhere(target, index, key, row, columns)
+    exists_among(target.written, target.written_index, &[], key, row, columns)
+        || exists_among(target.rows, target.index, target.written, key, row, columns)
+}
+
+/// Whether the row refers to a row, and none of these rows has that key.
+#[tactic(auto, using(crate::proofs::RowLemmas::none_replaced))]
+pub(crate) fn is_broken_among(
+    columns: &[u32],
+    key: &[u32],
+    rows: &[Row],
+    index: &DigestIndex<u64>,
+    row: &Row,
+) -> bool
+    requires { IsKeyed key.now rows.now index.now }
+    ensures { result ≡ is_broken columns.now key.now rows.now row.now }
+{
+    refers(row, columns) && !exists_among(rows, index, &[], key, row, columns)
 }
 
 /// Whether the row refers to a row, and no current row of the target has that key.
-pub(crate) fn is_broken(
-    columns: &[u32],
-    key: &[u32],
-    target: &CurrentRows,
-    index: &Index,
-    row: &Row,
-) -> bool
-    requires keyed { IsKeyed key.now target.now.rows.now index.now }
-    requires written { IsAscending row_cmp target.now.written.now }
+pub(crate) fn is_broken(columns: &[u32], key: &[u32], target: &CurrentRows, row: &Row) -> bool
+    requires keyed { IsKeyed key.now target.now.rows.now target.now.index.now }
+    requires written { IsKeyed key.now target.now.written.now target.now.written_index.now }
     ensures { result ≡ is_broken columns.now key.now
         (rows_after target.now.written.now target.now.rows.now) row.now }
 {
-    refers(row, columns) && !key_exists(target, index, key, row, columns)
+    refers(row, columns) && !key_exists(target, key, row, columns)
 }
 
 fn is_broken_at(
     columns: &[u32],
     key: &[u32],
     target: &CurrentRows,
-    index: &Index,
-    source: &CurrentRows,
+    rows: &[Row],
+    changed: &[Row],
     id: u64,
 ) -> bool
-    requires keyed { IsKeyed key.now target.now.rows.now index.now }
-    requires written { IsAscending row_cmp target.now.written.now }
-    requires source_rows { IsAscending row_cmp source.now.rows.now }
-    requires source_written { IsAscending row_cmp source.now.written.now }
+    requires keyed { IsKeyed key.now target.now.rows.now target.now.index.now }
+    requires written { IsKeyed key.now target.now.written.now target.now.written_index.now }
+    requires rows { IsAscending row_cmp rows.now }
+    requires changed { IsAscending row_cmp changed.now }
     ensures { result ≡ is_broken_at columns.now key.now (rows_after target.now.written.now target.now.rows.now)
-        (row_at id (rows_after source.now.written.now source.now.rows.now)) }
+        (row_at id (rows_after changed.now rows.now)) }
 {
-    match current_row_at(source.rows, source.written, id) {
-        Some(row) => is_broken(columns, key, target, index, row),
+    match current_row_at(rows, changed, id) {
+        Some(row) => is_broken(columns, key, target, row),
         None => false,
     }
 }
@@ -160,19 +144,19 @@ fn check_written(
     columns: &[u32],
     key: &[u32],
     target: &CurrentRows,
-    index: &Index,
-    source: &CurrentRows,
+    rows: &[Row],
+    changed: &[Row],
     number: u64,
     id: u64,
 ) -> Result<(), TableFault>
-    requires keyed { IsKeyed key.now target.now.rows.now index.now }
-    requires written { IsAscending row_cmp target.now.written.now }
-    requires source_rows { IsAscending row_cmp source.now.rows.now }
-    requires source_written { IsAscending row_cmp source.now.written.now }
+    requires keyed { IsKeyed key.now target.now.rows.now target.now.index.now }
+    requires written { IsKeyed key.now target.now.written.now target.now.written_index.now }
+    requires rows { IsAscending row_cmp rows.now }
+    requires changed { IsAscending row_cmp changed.now }
     ensures { result ≡ written_checked columns.now key.now (rows_after target.now.written.now target.now.rows.now)
-        (rows_after source.now.written.now source.now.rows.now) number id tt }
+        (rows_after changed.now rows.now) number id tt }
 {
-    if is_broken_at(columns, key, target, index, source, id) {
+    if is_broken_at(columns, key, target, rows, changed, id) {
         Err(TableFault::Foreign(number))
     } else {
         Ok(())
@@ -185,24 +169,24 @@ pub(crate) fn check_all(
     columns: &[u32],
     key: &[u32],
     target: &CurrentRows,
-    index: &Index,
-    source: &CurrentRows,
+    rows: &[Row],
+    changed: &[Row],
     written: &[u64],
 ) -> Result<(), TableFault>
-    requires keyed { IsKeyed key.now target.now.rows.now index.now }
-    requires written { IsAscending row_cmp target.now.written.now }
-    requires source_rows { IsAscending row_cmp source.now.rows.now }
-    requires source_written { IsAscending row_cmp source.now.written.now }
+    requires keyed { IsKeyed key.now target.now.rows.now target.now.index.now }
+    requires written { IsKeyed key.now target.now.written.now target.now.written_index.now }
+    requires rows { IsAscending row_cmp rows.now }
+    requires changed { IsAscending row_cmp changed.now }
     ensures { result ≡ foreign_checked columns.now key.now (rows_after target.now.written.now target.now.rows.now)
-        (rows_after source.now.written.now source.now.rows.now) written.now }
+        (rows_after changed.now rows.now) written.now }
 {
     for (record_index, id) in written.iter().enumerate() {
         check_written(
             columns,
             key,
             target,
-            index,
-            source,
+            rows,
+            changed,
             record_index as u64 + 1,
             *id,
         )?;
@@ -214,47 +198,41 @@ pub(crate) fn check_all(
 /// itself.
 pub(crate) fn check_self_references(
     schema: &Schema,
-    rows: &CurrentRows,
-    index: &Index,
+    current: &CurrentRows,
     written: &[u64],
 ) -> Result<(), TableFault>
-    requires keyed { IsKeyed schema.now.key rows.now.rows.now index.now }
-    requires written { IsAscending row_cmp rows.now.written.now }
-    ensures { result ≡ self_references_checked schema.now (rows_after rows.now.written.now rows.now.rows.now)
+    requires keyed { IsKeyed schema.now.key current.now.rows.now current.now.index.now }
+    requires written { IsKeyed schema.now.key current.now.written.now current.now.written_index.now }
+    ensures { result ≡ self_references_checked schema.now (rows_after current.now.written.now current.now.rows.now)
         written.now }
 {
     let key = schema.key().as_slice();
     for foreign in schema.foreign().as_slice() {
-        check_self_reference(key, rows, index, written, foreign)?;
+        check_self_reference(key, current, written, foreign)?;
     }
     Ok(())
 }
 
 fn check_self_reference(
     key: &[u32],
-    rows: &CurrentRows,
-    index: &Index,
+    current: &CurrentRows,
     written: &[u64],
     foreign: &Foreign,
 ) -> Result<(), TableFault>
-    requires keyed { IsKeyed key.now rows.now.rows.now index.now }
-    requires written { IsAscending row_cmp rows.now.written.now }
-    ensures { result ≡ self_reference_checked key.now (rows_after rows.now.written.now rows.now.rows.now) written.now 0
-        foreign.now tt }
+    requires keyed { IsKeyed key.now current.now.rows.now current.now.index.now }
+    requires written { IsKeyed key.now current.now.written.now current.now.written_index.now }
+    ensures { result ≡ self_reference_checked key.now (rows_after current.now.written.now current.now.rows.now)
+        written.now 0 foreign.now tt }
 {
     if !foreign.resource.is_empty() {
         return Ok(());
     }
-    let target = CurrentRows {
-        rows: rows.rows,
-        written: rows.written,
-    };
     check_all(
         foreign.fields.as_slice(),
         key,
-        &target,
-        index,
-        rows,
+        current,
+        current.rows,
+        current.written,
         written,
     )
 }

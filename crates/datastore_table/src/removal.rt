@@ -10,10 +10,10 @@ ghost use Rattle.datastore_table.specs.References.{refers};
 use crate::cells::copies_at;
 use crate::fault::TableFault;
 use crate::ids::Ids;
-use crate::index::Index;
 use crate::keys::{first_id, lesser};
 use crate::references::refers;
 use crate::row::Row;
+use digest_index::DigestIndex;
 use std::alloc::{AllocError, Global};
 use std::marker::Model;
 use table_schema::Foreign;
@@ -25,7 +25,7 @@ pub struct Removal {
     /// The rows to delete, each with only the cells of its key.
     pub(crate) keys: Vec<Row>,
     /// It leads to each of the keys.
-    pub(crate) index: Index,
+    pub(crate) index: DigestIndex<u64>,
 }
 
 impl Model for Removal {
@@ -70,7 +70,7 @@ pub(crate) fn removed_keys(
 pub(crate) fn check_referred_from(
     columns: &[u32],
     keys: &[Row],
-    index: &Index,
+    index: &DigestIndex<u64>,
     rows: &[Row],
     ids: &Ids,
 ) -> Result<(), TableFault>
@@ -87,7 +87,7 @@ pub(crate) fn check_referred_from(
 fn first_referred(
     columns: &[u32],
     keys: &[Row],
-    index: &Index,
+    index: &DigestIndex<u64>,
     rows: &[Row],
     ids: &Ids,
 ) -> Option<u64>
@@ -103,7 +103,13 @@ fn first_referred(
 }
 
 // The least `_id` of a key that this row refers to, if the row remains.
-fn referred_id(columns: &[u32], keys: &[Row], index: &Index, row: &Row, ids: &Ids) -> Option<u64>
+fn referred_id(
+    columns: &[u32],
+    keys: &[Row],
+    index: &DigestIndex<u64>,
+    row: &Row,
+    ids: &Ids,
+) -> Option<u64>
     requires { AreFound keys.now index.now }
     ensures { result
         ≡ id_of (find (λ key. not (is_among ids.now row.now.id) && refers_to columns.now key row.now) keys.now) }
@@ -127,7 +133,7 @@ fn does_refer(columns: &[u32], row: &Row, ids: &Ids) -> bool
 pub(crate) fn restrict_self_references(
     foreigns: &[Foreign],
     keys: &[Row],
-    index: &Index,
+    index: &DigestIndex<u64>,
     rows: &[Row],
     ids: &Ids,
 ) -> Result<(), TableFault>
@@ -143,7 +149,7 @@ pub(crate) fn restrict_self_references(
 fn restrict_self_reference(
     foreign: &Foreign,
     keys: &[Row],
-    index: &Index,
+    index: &DigestIndex<u64>,
     rows: &[Row],
     ids: &Ids,
 ) -> Result<(), TableFault>

@@ -1,4 +1,5 @@
-//! Look-ups among the current rows: the rows of a table, with those that a batch has written in their place.
+//! Look-ups among the current rows: the rows of a table, with those that a batch has written in their place. Each
+//! look-up goes through an index, or halves a list.
 ghost use Rattle.std.specs.Prelude.{◌≡◌, ◌<◌, ◌≤◌, ◌+◌, ◌&&◌, ◌||◌, not, length, option_copied, vec_len, vec_capacity};
 ghost use Rattle.std.specs.Prelude.{find, false, slice_get, Some, [], ◌∷◌};
 ghost use Rattle.std.specs.Prelude.{nat_lt, get_or};
@@ -12,20 +13,23 @@ ghost use Rattle.datastore_table.specs.Rows.{earlier, has_cells, has_like, is_ot
 ghost use Rattle.datastore_table.specs.Rows.{row_with};
 ghost use Rattle.datastore_table.specs.Rows.{rows_after, takes_cell};
 
-use crate::cells::{are_same_at, has_null, is_null_at, is_same_between};
-use crate::index::Index;
+use crate::cells::{has_null, is_null_at};
 use crate::lookup::find_by_index;
 use crate::lookup_key::LookupKey;
 use crate::row::Row;
+use digest_index::DigestIndex;
 use portal_base::ordered::Ordered;
 use std::mem;
 use table_schema::Cell;
 
-/// The current rows: `rows`, where each row of `written` replaces the row with its `_id` or is a new row.
-#[derive(Clone, Copy)]
+/// The current rows: `rows`, where each row of `written` replaces the row with its `_id` or is a new row. Each of the
+/// two lists has an index of its own.
+#[derive(Drop)]
 pub(crate) struct CurrentRows<'a> {
     pub rows: &'a [Row],
+    pub index: &'a DigestIndex<u64>,
     pub written: &'a [Row],
+    pub written_index: &'a DigestIndex<u64>,
 }
 
 /// Finds the row with this `_id`.
@@ -62,16 +66,10 @@ fn index_of_id(rows: &[Row], id: u64) -> usize
 
 /// Whether one of the rows has this `_id`.
 pub(crate) fn has_row(rows: &[Row], id: u64) -> bool
+    requires { IsAscending row_cmp rows.now }
     ensures { result ≡ list_any (λ row. is_eq (nat_cmp id row.id)) rows.now }
 {
-    rows.iter().any(|row| id.cmp(&row.id).is_eq())
-}
-
-// Whether the row has these cells in these columns.
-fn has_cells(row: &Row, columns: &[u32], cells: &[Cell]) -> bool
-    ensures { result ≡ has_cells columns.now cells.now row.now }
-{
-    are_same_at(row.cells.as_slice(), columns, cells)
+    row_at(rows, id).is_some()
 }
 
 // Whether no row can match: there is no column, or one of the cells is Null.
@@ -81,32 +79,43 @@ fn matches_nothing(columns: &[u32], cells: &[Cell]) -> bool
     columns.is_empty() || has_null(cells)
 }
 
-fn first_with<'a>(rows: &'a [Row], columns: &[u32], cells: &[Cell]) -> Option<&'a Row>
-    ensures { option_copied result ≡ find (has_cells columns.now cells.now) rows.now }
-{
-    rows.iter().find(|row| has_cells(row, columns, cells))
-}
-
-// The first match among the rows that no written row replaces.
-fn first_unwritten_with<'a>(
-    current: &CurrentRows<'a>,
-    index: &Index,
+// Finds the row that has these cells in these columns, which are those of the primary key.
+#[tactic(auto, using(crate::proofs::LookupLemmas::alone_key))]
+fn find_keyed<'a>(
+    rows: &'a [Row],
+    index: &DigestIndex<u64>,
     columns: &[u32],
     cells: &[Cell],
 ) -> Option<&'a Row>
-    requires keyed { IsKeyed columns.now current.now.rows.now index.now }
+    requires keyed { IsKeyed columns.now rows.now index.now }
+    requires some { is_empty columns.now ≡ false }
+    requires full { has_null cells.now ≡ false }
+    ensures { option_copied result ≡ find (has_cells columns.now cells.now) rows.now }
+{
+    find_by_index(rows, index, columns, LookupKey::OfKey(cells))
+}
+
+// The match among the rows that no written row replaces.
+fn first_unwritten_with<'a>(
+    current: &CurrentRows<'a>,
+    columns: &[u32],
+    cells: &[Cell],
+) -> Option<&'a Row>
+    requires keyed { IsKeyed columns.now current.now.rows.now current.now.index.now }
+    requires written { IsAscending row_cmp current.now.written.now }
     requires some { is_empty columns.now ≡ false }
     requires full { has_null cells.now ≡ false }
     ensures { option_copied result ≡ find
         (λ row. has_cells columns.now cells.now row && not (has_like current.now.written.now row))
         current.now.rows.now }
 {
-    let row = find_by_index(current.rows, index, columns, LookupKey::OfKey(cells));
+    let row = find_keyed(current.rows, current.index, columns, cells);
     unwritten(current.written, row)
 }
 
 // The row, unless a written row has its `_id`.
 fn unwritten<'a>(written: &[Row], row: Option<&'a Row>) -> Option<&'a Row>
+    requires { IsAscending row_cmp written.now }
     ensures { option_copied result ≡ unwritten written.now (option_copied row.entry) }
 {
     match row {
@@ -116,10 +125,9 @@ fn unwritten<'a>(written: &[Row], row: Option<&'a Row>) -> Option<&'a Row>
 }
 
 /// Finds the first row that has these cells in these columns, which are those of the primary key. Null matches no row.
-#[tactic(auto, using(crate::proofs::LookupLemmas::alone_key))]
 pub(crate) fn row_with<'a>(
     rows: &'a [Row],
-    index: &Index,
+    index: &DigestIndex<u64>,
     columns: &[u32],
     cells: &[Cell],
 ) -> Option<&'a Row>
@@ -129,7 +137,7 @@ pub(crate) fn row_with<'a>(
     if matches_nothing(columns, cells) {
         None
     } else {
-        find_by_index(rows, index, columns, LookupKey::OfKey(cells))
+        find_keyed(rows, index, columns, cells)
     }
 }
 
@@ -137,12 +145,11 @@ pub(crate) fn row_with<'a>(
 #[tactic(auto, using(crate::proofs::RowLemmas::find_current))]
 pub(crate) fn current_row_with<'a>(
     current: &CurrentRows<'a>,
-    index: &Index,
     columns: &[u32],
     cells: &[Cell],
 ) -> Option<&'a Row>
-    requires keyed { IsKeyed columns.now current.now.rows.now index.now }
-    requires written { IsAscending row_cmp current.now.written.now }
+    requires keyed { IsKeyed columns.now current.now.rows.now current.now.index.now }
+    requires written { IsKeyed columns.now current.now.written.now current.now.written_index.now }
     ensures { option_copied result ≡ row_with columns.now cells.now
         (rows_after current.now.written.now current.now.rows.now) }
 {
@@ -150,8 +157,8 @@ pub(crate) fn current_row_with<'a>(
         return None;
     }
     earlier(
-        first_with(current.written, columns, cells),
-        first_unwritten_with(current, index, columns, cells),
+        find_keyed(current.written, current.written_index, columns, cells),
+        first_unwritten_with(current, columns, cells),
     )
 }
 
@@ -185,13 +192,6 @@ pub(crate) fn current_row_at<'a>(rows: &'a [Row], written: &'a [Row], id: u64) -
     }
 }
 
-// Whether the row is not the excepted one and has, in this column, the same cell as `cells`.
-fn takes_cell(row: &Row, except: Option<u64>, column: u32, cells: &[Cell]) -> bool
-    ensures { result ≡ takes_cell except column (cell_at cells.now column) row.now }
-{
-    is_other(row, except) && is_same_between(row.cells.as_slice(), column, cells, column)
-}
-
 fn is_other(row: &Row, except: Option<u64>) -> bool
     ensures { result ≡ is_other except row.now }
 {
@@ -201,15 +201,9 @@ fn is_other(row: &Row, except: Option<u64>) -> bool
     }
 }
 
-fn is_taken_among(rows: &[Row], except: Option<u64>, column: u32, cells: &[Cell]) -> bool
-    ensures { result ≡ list_any (takes_cell except column (cell_at cells.now column)) rows.now }
-{
-    rows.iter()
-        .any(|row| takes_cell(row, except, column, cells))
-}
-
 // Whether there is a row, it is not the excepted one, and no written row has its `_id`.
 fn is_other_unwritten(except: Option<u64>, written: &[Row], row: Option<&Row>) -> bool
+    requires { IsAscending row_cmp written.now }
     ensures { result ≡ is_other_unwritten except written.now (option_copied row.entry) }
 {
     match row {
@@ -219,28 +213,25 @@ fn is_other_unwritten(except: Option<u64>, written: &[Row], row: Option<&Row>) -
 }
 
 // Whether another row than the excepted one has the cell in this column, among the rows that no written row replaces.
-fn is_taken_unwritten(
-    current: &CurrentRows,
-    index: &Index,
+fn is_taken_among(
+    rows: &[Row],
+    index: &DigestIndex<u64>,
+    written: &[Row],
     except: Option<u64>,
     column: u32,
     cells: &[Cell],
 ) -> bool
-    requires ascending { IsAscending row_cmp current.now.rows.now }
+    requires ascending { IsAscending row_cmp rows.now }
+    requires written { IsAscending row_cmp written.now }
     requires some { is_null (cell_at cells.now column) ≡ false }
-    requires alone { IsAlone (column ∷ []) (cell_at cells.now column ∷ []) current.now.rows.now }
-    requires indexed { IsIndexedAt (column ∷ []) current.now.rows.now index.now }
+    requires alone { IsAlone (column ∷ []) (cell_at cells.now column ∷ []) rows.now }
+    requires indexed { IsIndexedAt (column ∷ []) rows.now index.now }
     ensures { result ≡ list_any (λ row. takes_cell except column (cell_at cells.now column) row
-        && not (has_like current.now.written.now row)) current.now.rows.now }
+        && not (has_like written.now row)) rows.now }
 {
     let columns = [column];
-    let row = find_by_index(
-        current.rows,
-        index,
-        &columns,
-        LookupKey::OfRow(cells, &columns),
-    );
-    is_other_unwritten(except, current.written, row)
+    let row = find_by_index(rows, index, &columns, LookupKey::OfRow(cells, &columns));
+    is_other_unwritten(except, written, row)
 }
 
 /// Whether one of the current rows other than the excepted one has, in this column, the same cell as `cells`. Null
@@ -248,7 +239,6 @@ fn is_taken_unwritten(
 #[tactic(auto, using(crate::proofs::RowLemmas::taken_current))]
 pub(crate) fn is_taken(
     current: &CurrentRows,
-    index: &Index,
     except: Option<u64>,
     column: u32,
     cells: &[Cell],
@@ -257,13 +247,29 @@ pub(crate) fn is_taken(
     requires written { IsAscending row_cmp current.now.written.now }
     requires alone { is_null (cell_at cells.now column) ≡ false →
         IsAlone (column ∷ []) (cell_at cells.now column ∷ []) current.now.rows.now }
-    requires indexed { IsIndexedAt (column ∷ []) current.now.rows.now index.now }
+    requires alone_written { is_null (cell_at cells.now column) ≡ false →
+        IsAlone (column ∷ []) (cell_at cells.now column ∷ []) current.now.written.now }
+    requires indexed { IsIndexedAt (column ∷ []) current.now.rows.now current.now.index.now }
+    requires indexed_written { IsIndexedAt (column ∷ []) current.now.written.now current.now.written_index.now }
     ensures { result ≡ is_taken except column (cell_at cells.now column)
         (rows_after current.now.written.now current.now.rows.now) }
 {
     !is_null_at(cells, column as usize)
-        && (is_taken_among(current.written, except, column, cells)
-            || is_taken_unwritten(current, index, except, column, cells))
+        && (is_taken_among(
+            current.written,
+            current.written_index,
+            &[],
+            except,
+            column,
+            cells,
+        ) || is_taken_among(
+            current.rows,
+            current.index,
+            current.written,
+            except,
+            column,
+            cells,
+        ))
 }
 
 /// Replaces the item that compares equal to this one, and returns it, or inserts the item in order as a new one. There

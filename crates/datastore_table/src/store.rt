@@ -1,6 +1,6 @@
 //! The store of a table's rows, with their index.
 //!
-//! `reserve` prepares a change and is the only call that takes memory. `put` and `delete` make the change.
+//! `reserve` prepares a change and is the only call that takes memory. `put`, `put_all` and `delete` make the change.
 ghost use Rattle.std.specs.Prelude.{◌≡◌, ℕ, ◌+◌, ◌*◌, ◌<◌, ◌≤◌, ◌++◌, [], ◌∷◌, length, vec_len, vec_capacity};
 ghost use Rattle.std.specs.Prelude.{IfOk, OnOk, OnErr};
 ghost use Rattle.portal_base.specs.Ordered.{IsAscending, upserted};
@@ -8,18 +8,16 @@ ghost use Rattle.portal_base.proofs.Unique.{IsIn};
 ghost use Rattle.datastore_table.specs.declared.row.Row.{Row};
 ghost use Rattle.datastore_table.specs.Batch.{cut_rows};
 ghost use Rattle.datastore_table.specs.Index.{column_lists_of, key_column_lists, unique_column_lists, EntersAt};
-ghost use Rattle.datastore_table.specs.Index.{EntersRow, HasRoomFor};
-ghost use Rattle.datastore_table.specs.Index.{IsGone, IsIndexed, IsLedBeside, IsLeft, IsSound};
-ghost use Rattle.datastore_table.specs.Index.{Leaves, LeavesAll, LeavesRows};
+ghost use Rattle.datastore_table.specs.Index.{EntersRow, IsGone, IsIndexed, IsLeft, IsSound, LeavesAll, LeavesRow};
 ghost use Rattle.datastore_table.specs.Rows.{row_cmp, rows_after};
 
 use crate::cells::has_null_at;
 use crate::ids::Ids;
-use crate::index::Index;
 use crate::lookup_key::digest_at;
 use crate::removal::delete;
 use crate::row::Row;
 use crate::rows::{put_sorted, row_at};
+use digest_index::DigestIndex;
 use portal_base::seq::Seq;
 use std::alloc::{AllocError, Global};
 use table_schema::{Cell, Field, Schema};
@@ -28,7 +26,7 @@ use table_schema::{Cell, Field, Schema};
 #[derive(Drop)]
 pub(crate) struct RowStore {
     pub rows: Vec<Row>,
-    pub index: Index,
+    pub index: DigestIndex<u64>,
     /// The lists of columns that the index covers: the columns of the primary key, and the column of each unique field.
     pub column_lists: Vec<Seq<u32>>,
     /// The count of further rows for which there is memory.
@@ -75,9 +73,27 @@ impl RowStore {
         Ok(())
     }
 
-    /// Writes the changed rows: each replaces the row with its `_id` or is a new row. There is memory for them, so it
-    /// takes none and can't fail.
-    pub(crate) fn put(&mut self, changed: Vec<Row>)
+    /// Writes a row: it replaces the row with its `_id` or is a new row. There is memory for it, so it takes none and
+    /// can't fail.
+    pub fn put(&mut self, row: Row)
+        requires ascending { IsAscending row_cmp self.old.rows.items }
+        requires sound { IsSound self.old }
+        requires room { 1 ≤ self.old.ready }
+        ensures rows { self.new.rows.items ≡ upserted row_cmp row self.old.rows.items }
+        ensures ascending { IsAscending row_cmp self.new.rows.items }
+        ensures sound { IsSound self.new }
+        ensures column_lists { self.new.column_lists.items ≡ self.old.column_lists.items }
+        ensures ready { self.new.ready + 1 ≡ self.old.ready }
+    {
+        let column_lists = self.column_lists.as_slice();
+        leave_id(&mut self.index, column_lists, self.rows.as_slice(), row.id);
+        enter_row(&mut self.index, column_lists, &row);
+        put_row(&mut self.rows, row);
+        self.ready -= 1;
+    }
+
+    /// Writes the rows one after another. There is memory for them, so it takes none and can't fail.
+    pub fn put_all(&mut self, changed: Vec<Row>)
         requires ascending { IsAscending row_cmp self.old.rows.items }
         requires sound { IsSound self.old }
         requires room { length changed.items ≤ self.old.ready }
@@ -85,15 +101,9 @@ impl RowStore {
         ensures sound { IsSound self.new }
         ensures column_lists { self.new.column_lists.items ≡ self.old.column_lists.items }
     {
-        let column_lists = self.column_lists.as_slice();
-        leave_rows(
-            &mut self.index,
-            column_lists,
-            self.rows.as_slice(),
-            changed.as_slice(),
-        );
-        put_rows(&mut self.rows, &mut self.index, column_lists, changed);
-        self.ready = 0;
+        for row in changed {
+            self.put(row);
+        }
     }
 
     /// Deletes the rows with these `_id`s. It takes no memory and can't fail.
@@ -187,18 +197,22 @@ fn product(rows: usize, column_lists: usize) -> Result<usize, AllocError>
 }
 
 /// Creates the index of these rows.
-fn index_of(alloc: Global, column_lists: &[Seq<u32>], rows: &[Row]) -> Result<Index, AllocError>
+fn index_of(
+    alloc: Global,
+    column_lists: &[Seq<u32>],
+    rows: &[Row],
+) -> Result<DigestIndex<u64>, AllocError>
     ensures { IfOk result (λ index. IsIndexed column_lists.now rows.now index) }
 {
-    let mut index = Index::new(alloc);
+    let mut index = DigestIndex::new(alloc);
     index.reserve(product(rows.len(), column_lists.len())?)?;
     enter_all(&mut index, column_lists, rows);
     Ok(index)
 }
 
 /// Enters all rows into the index, which has room for them.
-fn enter_all(index: &mut Index, column_lists: &[Seq<u32>], rows: &[Row])
-    requires { HasRoomFor index.old (length rows.now * length column_lists.now) }
+fn enter_all(index: &mut DigestIndex<u64>, column_lists: &[Seq<u32>], rows: &[Row])
+    requires { length rows.now * length column_lists.now ≤ index.old.room }
     ensures { IsIndexed column_lists.now rows.now index.new }
 {
     for row in rows {
@@ -207,8 +221,8 @@ fn enter_all(index: &mut Index, column_lists: &[Seq<u32>], rows: &[Row])
 }
 
 /// Enters a row by each of these lists of columns.
-fn enter_row(index: &mut Index, column_lists: &[Seq<u32>], row: &Row)
-    requires { HasRoomFor index.old (length column_lists.now) }
+fn enter_row(index: &mut DigestIndex<u64>, column_lists: &[Seq<u32>], row: &Row)
+    requires { length column_lists.now ≤ index.old.room }
     ensures { EntersRow index.old index.new column_lists.now row.now }
 {
     for columns in column_lists {
@@ -217,8 +231,8 @@ fn enter_row(index: &mut Index, column_lists: &[Seq<u32>], row: &Row)
 }
 
 /// Enters a row by its cells in these columns, unless one of them is Null.
-fn enter_at(index: &mut Index, columns: &[u32], row: &Row)
-    requires { HasRoomFor index.old 1 }
+fn enter_at(index: &mut DigestIndex<u64>, columns: &[u32], row: &Row)
+    requires { 1 ≤ index.old.room }
     ensures { EntersAt index.old index.new columns.now row.now }
 {
     let cells = row.cells.as_slice();
@@ -227,19 +241,8 @@ fn enter_at(index: &mut Index, columns: &[u32], row: &Row)
     }
 }
 
-/// Removes the index entries of the rows that have the `_id` of a changed row.
-fn leave_rows(index: &mut Index, column_lists: &[Seq<u32>], rows: &[Row], changed: &[Row])
-    requires { IsAscending row_cmp rows.now }
-    ensures leaves { LeavesRows index.old index.new changed.now }
-    ensures left { (row : Row) → IsIn row changed.now → IsLeft column_lists.now rows.now row.id index.new }
-{
-    for row in changed {
-        leave_id(index, column_lists, rows, row.id);
-    }
-}
-
 /// Removes the index entries of the rows with these `_id`s.
-fn leave_all(index: &mut Index, column_lists: &[Seq<u32>], rows: &[Row], ids: &[u64])
+fn leave_all(index: &mut DigestIndex<u64>, column_lists: &[Seq<u32>], rows: &[Row], ids: &[u64])
     requires { IsAscending row_cmp rows.now }
     ensures leaves { LeavesAll index.old index.new ids.now }
     ensures left { (id : ℕ) → IsIn id ids.now → IsLeft column_lists.now rows.now id index.new }
@@ -249,9 +252,9 @@ fn leave_all(index: &mut Index, column_lists: &[Seq<u32>], rows: &[Row], ids: &[
     }
 }
 
-fn leave_id(index: &mut Index, column_lists: &[Seq<u32>], rows: &[Row], id: u64)
+fn leave_id(index: &mut DigestIndex<u64>, column_lists: &[Seq<u32>], rows: &[Row], id: u64)
     requires { IsAscending row_cmp rows.now }
-    ensures leaves { Leaves index.old index.new id }
+    ensures leaves { LeavesRow index.old index.new id }
     ensures left { IsLeft column_lists.now rows.now id index.new }
 {
     if let Some(row) = row_at(rows, id) {
@@ -259,30 +262,13 @@ fn leave_id(index: &mut Index, column_lists: &[Seq<u32>], rows: &[Row], id: u64)
     }
 }
 
-fn leave_row(index: &mut Index, column_lists: &[Seq<u32>], cells: &[Cell], id: u64)
-    ensures leaves { Leaves index.old index.new id }
+fn leave_row(index: &mut DigestIndex<u64>, column_lists: &[Seq<u32>], cells: &[Cell], id: u64)
+    ensures leaves { LeavesRow index.old index.new id }
     ensures gone { IsGone column_lists.now cells.now id index.new }
 {
-    index.forget(id);
     for columns in column_lists {
         let columns = columns.as_slice();
         index.leave(digest_at(columns, cells, columns), id);
-    }
-}
-
-/// Writes the changed rows among the others. There is room for them, so it takes no memory and can't fail.
-#[tactic(auto, using(crate::proofs::StoreLemmas::led_placed, crate::proofs::StoreLemmas::led_all))]
-fn put_rows(rows: &mut Vec<Row>, index: &mut Index, column_lists: &[Seq<u32>], changed: Vec<Row>)
-    requires ascending { IsAscending row_cmp rows.old.items }
-    requires room { vec_len rows.old + length changed.items ≤ vec_capacity rows.old }
-    requires index_room { HasRoomFor index.old (length changed.items * length column_lists.now) }
-    requires led { IsLedBeside column_lists.now changed.items rows.old.items index.old }
-    ensures rows { rows.new.items ≡ rows_after changed.items rows.old.items }
-    ensures indexed { IsIndexed column_lists.now rows.new.items index.new }
-{
-    for row in changed {
-        enter_row(index, column_lists, &row);
-        put_row(rows, row);
     }
 }
 

@@ -19,7 +19,6 @@ use crate::admission::admit;
 use crate::batch::Batch;
 use crate::fault::TableFault;
 use crate::ids::Ids;
-use crate::index::Index;
 use crate::keys::index_of_keys;
 use crate::meets::{are_related, do_all_meet, is_numbered};
 use crate::method::Method;
@@ -29,6 +28,7 @@ use crate::row::{Row, rows_of};
 use crate::rows::{CurrentRows, row_at, row_with};
 use crate::store::RowStore;
 use crate::work::{Work, put_all};
+use digest_index::DigestIndex;
 use portal_base::json_value::Json;
 use portal_base::seq::Seq;
 use std::alloc::{AllocError, Global};
@@ -191,7 +191,7 @@ impl Table {
         ensures schema { self.new.schema ≡ self.old.schema }
     {
         let next_id = batch.work.next_id();
-        self.store.put(batch.work.into_changed());
+        self.store.put_all(batch.work.into_changed());
         self.next_id = next_id;
     }
 
@@ -231,7 +231,7 @@ impl Table {
     }
 
     /// The index of its rows.
-    pub(crate) fn index(&self) -> &Index
+    pub(crate) fn index(&self) -> &DigestIndex<u64>
         ensures { IsKeyed self.now.schema.key self.now.rows result.now }
     {
         &self.store.index
@@ -247,7 +247,12 @@ impl Table {
     }
 
     // Checks that no remaining row refers by a self reference to a row with one of these `_id`s.
-    fn check_delete(&self, keys: &[Row], index: &Index, ids: &Ids) -> Result<(), TableFault>
+    fn check_delete(
+        &self,
+        keys: &[Row],
+        index: &DigestIndex<u64>,
+        ids: &Ids,
+    ) -> Result<(), TableFault>
         requires found { AreFound keys.now index.now }
         requires keys { keys.now ≡ removed_keys self.now.schema.key ids.now self.now.rows }
         ensures { result ≡ delete_checked ids.now self.now }
@@ -266,7 +271,7 @@ impl Table {
         let rows = self.store.rows.as_slice();
         let index = &self.store.index;
         admit(self.alloc, method, records, &self.schema, rows, index)?;
-        let work = put_all(
+        let draft = put_all(
             self.alloc,
             method,
             &self.schema,
@@ -277,10 +282,12 @@ impl Table {
         )?;
         let current = CurrentRows {
             rows,
-            written: work.changed(),
+            index,
+            written: draft.store.rows.as_slice(),
+            written_index: &draft.store.index,
         };
-        check_self_references(&self.schema, &current, index, work.written())?;
-        Ok(work)
+        check_self_references(&self.schema, &current, draft.written.as_slice())?;
+        Ok(Work::of_draft(draft))
     }
 }
 

@@ -1,18 +1,16 @@
 //! Validates one record against the current rows.
 ghost use Rattle.std.specs.Prelude.{◌≡◌, true, IfOk, Some, option_copied, slice_get};
-ghost use Rattle.portal_base.specs.Ordered.{IsAscending};
 ghost use Rattle.datastore_table.specs.Put.{checked, id_of, kept_cells, key_fault, missing_fault, validated_against};
 ghost use Rattle.datastore_table.specs.Put.{validated_record};
 ghost use Rattle.datastore_table.specs.Put.{unique_fault, unknown_fault};
 ghost use Rattle.datastore_table.specs.Record.{unknown_in};
 ghost use Rattle.datastore_table.specs.Results.{Answers, in_turn};
-ghost use Rattle.datastore_table.specs.Rows.{is_taken, row_cmp, rows_after};
+ghost use Rattle.datastore_table.specs.Rows.{is_taken, rows_after};
 ghost use Rattle.datastore_table.specs.Cells.{cell_at, has_null_at};
 ghost use Rattle.datastore_table.specs.Index.{IsSearchable};
 
 use crate::cells::has_null_at;
 use crate::fault::TableFault;
-use crate::index::Index;
 use crate::method::Method;
 use crate::reading::{cells_of, key_of, unknown_in};
 use crate::row::Row;
@@ -32,16 +30,15 @@ pub(crate) fn validated_record(
     number: u64,
     given: &Json,
     current: &CurrentRows,
-    index: &Index,
 ) -> Result<(Option<u64>, Seq<Cell>), TableFault>
-    requires searchable { IsSearchable schema.now current.now.rows.now index.now }
-    requires written { IsAscending row_cmp current.now.written.now }
+    requires searchable { IsSearchable schema.now current.now.rows.now current.now.index.now }
+    requires written { IsSearchable schema.now current.now.written.now current.now.written_index.now }
     ensures { Answers result (validated_record method schema.now number given.now
         (rows_after current.now.written.now current.now.rows.now)) }
 {
     let key = key_of(alloc, schema, given)?;
-    let row = current_row_with(current, index, schema.key().as_slice(), key.as_slice());
-    validated_against(alloc, method, schema, number, given, row, current, index)
+    let row = current_row_with(current, schema.key().as_slice(), key.as_slice());
+    validated_against(alloc, method, schema, number, given, row, current)
 }
 
 // Validates a record whose key this row has.
@@ -53,10 +50,9 @@ fn validated_against(
     given: &Json,
     row: Option<&Row>,
     current: &CurrentRows,
-    index: &Index,
 ) -> Result<(Option<u64>, Seq<Cell>), TableFault>
-    requires searchable { IsSearchable schema.now current.now.rows.now index.now }
-    requires written { IsAscending row_cmp current.now.written.now }
+    requires searchable { IsSearchable schema.now current.now.rows.now current.now.index.now }
+    requires written { IsSearchable schema.now current.now.written.now current.now.written_index.now }
     ensures { Answers result (validated_against method schema.now number given.now (option_copied row.entry)
         (rows_after current.now.written.now current.now.rows.now)) }
 {
@@ -66,7 +62,7 @@ fn validated_against(
     check_key(schema, number, cells.as_slice())?;
     check_method(method, number, row)?;
     let id = id_of(row);
-    check_unique(alloc, schema, number, id, cells.as_slice(), current, index)?;
+    check_unique(alloc, schema, number, id, cells.as_slice(), current)?;
     Ok((id, cells))
 }
 
@@ -129,18 +125,15 @@ fn check_unique(
     except: Option<u64>,
     cells: &[Cell],
     current: &CurrentRows,
-    index: &Index,
 ) -> Result<(), TableFault>
-    requires searchable { IsSearchable schema.now current.now.rows.now index.now }
-    requires written { IsAscending row_cmp current.now.written.now }
+    requires searchable { IsSearchable schema.now current.now.rows.now current.now.index.now }
+    requires written { IsSearchable schema.now current.now.written.now current.now.written_index.now }
     ensures { Answers result (in_turn (unique_fault number except cells.now
         (rows_after current.now.written.now current.now.rows.now)) 0 schema.now.fields tt) }
 {
     let fields = schema.fields().as_slice();
     for (column, field) in fields.iter().enumerate() {
-        check_field(
-            alloc, schema, field, number, except, column, cells, current, index,
-        )?;
+        check_field(alloc, schema, field, number, except, column, cells, current)?;
     }
     Ok(())
 }
@@ -154,17 +147,14 @@ fn check_field(
     column: usize,
     cells: &[Cell],
     current: &CurrentRows,
-    index: &Index,
 ) -> Result<(), TableFault>
-    requires searchable { IsSearchable schema.now current.now.rows.now index.now }
-    requires written { IsAscending row_cmp current.now.written.now }
+    requires searchable { IsSearchable schema.now current.now.rows.now current.now.index.now }
+    requires written { IsSearchable schema.now current.now.written.now current.now.written_index.now }
     requires at { slice_get schema.now.fields column ≡ Some field.now }
     ensures { Answers result (unique_fault number except cells.now
         (rows_after current.now.written.now current.now.rows.now) column field.now tt) }
 {
-    if !field.constraints().unique
-        || !is_taken_at(schema, field, current, index, except, column, cells)?
-    {
+    if !field.constraints().unique || !is_taken_at(schema, field, current, except, column, cells)? {
         return Ok(());
     }
     let name = field.name().try_clone(alloc)?;
@@ -178,20 +168,19 @@ fn is_taken_at(
     schema: &Schema,
     field: &Field,
     current: &CurrentRows,
-    index: &Index,
     except: Option<u64>,
     column: usize,
     cells: &[Cell],
 ) -> Result<bool, AllocError>
-    requires searchable { IsSearchable schema.now current.now.rows.now index.now }
-    requires written { IsAscending row_cmp current.now.written.now }
+    requires searchable { IsSearchable schema.now current.now.rows.now current.now.index.now }
+    requires written { IsSearchable schema.now current.now.written.now current.now.written_index.now }
     requires at { slice_get schema.now.fields column ≡ Some field.now }
     requires unique { field.now.constraints.unique ≡ true }
     ensures { IfOk result (λ taken. taken ≡ is_taken except column (cell_at cells.now column)
         (rows_after current.now.written.now current.now.rows.now)) }
 {
     match u32::try_from(column) {
-        Ok(column) => Ok(is_taken(current, index, except, column, cells)),
+        Ok(column) => Ok(is_taken(current, except, column, cells)),
         Err(_) => Err(AllocError),
     }
 }

@@ -1,24 +1,24 @@
 //! Applies the records of a batch one after another, and collects what they write.
-ghost use Rattle.std.specs.Prelude.{◌≡◌, ◌⊎◌, ◌+◌, List, [], length, IfOk, IfErr, OnOk, Ok, Err};
+ghost use Rattle.std.specs.Prelude.{◌≡◌, ◌⊎◌, ◌+◌, IfOk, IfErr, OnOk, Ok, Err};
 ghost use Rattle.portal_base.specs.Ordered.{IsAscending};
 ghost use Rattle.datastore_table.specs.declared.fault.TableFault.TheVariants.{OutOfMemory};
-ghost use Rattle.datastore_table.specs.declared.row.Row.{Row};
 ghost use Rattle.datastore_table.specs.Batch.{worked_on, AreThoseOf};
+ghost use Rattle.datastore_table.specs.Draft.{drafted, IsDraft};
 ghost use Rattle.datastore_table.specs.Index.{IsSearchable};
-ghost use Rattle.datastore_table.specs.Put.{begun, next_after, put_from, put_record, row_id, with_cells};
+ghost use Rattle.datastore_table.specs.Put.{begun, put_from, put_record};
 ghost use Rattle.datastore_table.specs.Rows.{row_cmp};
 
+use crate::draft::Draft;
 use crate::fault::TableFault;
-use crate::index::Index;
 use crate::method::Method;
 use crate::row::Row;
-use crate::rows::{CurrentRows, put_sorted};
+use crate::rows::CurrentRows;
 use crate::validation::validated_record;
+use digest_index::DigestIndex;
 use portal_base::json_value::Json;
-use portal_base::seq::Seq;
-use std::alloc::{AllocError, Global};
+use std::alloc::Global;
 use std::marker::Model;
-use table_schema::{Cell, Schema};
+use table_schema::Schema;
 
 /// The rows that a batch writes.
 #[derive(Drop)]
@@ -43,16 +43,20 @@ impl Model for Work {
 }
 
 impl Work {
-    /// Nothing written yet. `next_id` is the `_id` of the next new row.
-    pub(crate) fn new(alloc: Global, next_id: u64) -> Work
-        ensures changed { result.changed ≡ [] }
-        ensures next_id { result.next_id ≡ next_id }
-        ensures written { result.written ≡ [] }
+    /// The rows of a draft.
+    pub(crate) fn of_draft(draft: Draft) -> Work
+        requires { IsDraft draft }
+        ensures { result ≡ drafted draft }
     {
-        Work {
-            changed: Vec::new(alloc),
+        let Draft {
+            store,
             next_id,
-            written: Vec::new(alloc),
+            written,
+        } = draft;
+        Work {
+            changed: store.rows,
+            next_id,
+            written,
         }
     }
 
@@ -82,46 +86,6 @@ impl Work {
     {
         self.changed
     }
-
-    // Writes the cells to the row with this `_id`, or to a new row.
-    fn write(&mut self, id: Option<u64>, cells: Seq<Cell>) -> Result<(), TableFault>
-        ensures ok { OnOk result ((rows : List Row) → IsAscending row_cmp rows →
-            worked_on rows self.new ≡ with_cells id cells (worked_on rows self.old)) }
-        ensures err { IfErr result (λ fault. fault ≡ OutOfMemory) }
-    {
-        let next_id = next_after(id, self.next_id)?;
-        let id = row_id(id, self.next_id);
-        self.changed.reserve(1)?;
-        if self.written.push(id).is_err() {
-            return Err(TableFault::OutOfMemory);
-        }
-        let _replaced = put_sorted(&mut self.changed, Row { id, cells });
-        self.next_id = next_id;
-        Ok(())
-    }
-}
-
-// The `_id` of the row, or the next one for a new row.
-fn row_id(id: Option<u64>, next_id: u64) -> u64
-    ensures { result ≡ row_id id next_id }
-{
-    match id {
-        Some(id) => id,
-        None => next_id,
-    }
-}
-
-// A new row uses up an `_id`. If no `_id` is left, the call is out of memory.
-fn next_after(id: Option<u64>, next_id: u64) -> Result<u64, AllocError>
-    ensures { IfOk result (λ next. next ≡ next_after id next_id) }
-{
-    match id {
-        Some(_) => Ok(next_id),
-        None => match next_id.checked_add(1) {
-            Some(next_id) => Ok(next_id),
-            None => Err(AllocError),
-        },
-    }
 }
 
 // Applies the record with this number to the rows.
@@ -132,21 +96,27 @@ fn put_record(
     number: u64,
     given: &Json,
     rows: &[Row],
-    index: &Index,
-    work: &mut Work,
+    index: &DigestIndex<u64>,
+    draft: &mut Draft,
 ) -> Result<(), TableFault>
-    requires { IsSearchable schema.now rows.now index.now }
-    ensures ok { OnOk result (put_record method schema.now number given.now (worked_on rows.now work.old)
-        ≡ Ok (worked_on rows.now work.new)) }
+    requires rows { IsSearchable schema.now rows.now index.now }
+    requires found { IsSearchable schema.now draft.old.store.rows.items draft.old.store.index }
+    requires draft { IsDraft draft.old }
+    ensures ok { OnOk result (put_record method schema.now number given.now (worked_on rows.now (drafted draft.old))
+        ≡ Ok (worked_on rows.now (drafted draft.new))) }
+    ensures draft { OnOk result (IsDraft draft.new) }
+    ensures column_lists { OnOk result (draft.new.store.column_lists.items ≡ draft.old.store.column_lists.items) }
     ensures err { IfErr result (λ fault. (fault ≡ OutOfMemory)
-        ⊎ (put_record method schema.now number given.now (worked_on rows.now work.old) ≡ Err fault)) }
+        ⊎ (put_record method schema.now number given.now (worked_on rows.now (drafted draft.old)) ≡ Err fault)) }
 {
     let current = CurrentRows {
         rows,
-        written: work.changed(),
+        index,
+        written: draft.store.rows.as_slice(),
+        written_index: &draft.store.index,
     };
-    let (id, cells) = validated_record(alloc, method, schema, number, given, &current, index)?;
-    work.write(id, cells)
+    let (id, cells) = validated_record(alloc, method, schema, number, given, &current)?;
+    draft.write(id, cells)
 }
 
 /// Applies the records to the rows one after another.
@@ -156,16 +126,18 @@ pub(crate) fn put_all(
     schema: &Schema,
     records: &[Json],
     rows: &[Row],
-    index: &Index,
+    index: &DigestIndex<u64>,
     next_id: u64,
-) -> Result<Work, TableFault>
+) -> Result<Draft, TableFault>
     requires { IsSearchable schema.now rows.now index.now }
-    ensures ok { IfOk result (λ work. put_from method schema.now 1 records.now (begun rows.now next_id)
-        ≡ Ok (worked_on rows.now work)) }
+    ensures ok { IfOk result (λ draft. put_from method schema.now 1 records.now (begun rows.now next_id)
+        ≡ Ok (worked_on rows.now (drafted draft))) }
+    ensures draft { IfOk result IsDraft }
+    ensures found { IfOk result (λ draft. IsSearchable schema.now draft.store.rows.items draft.store.index) }
     ensures err { IfErr result (λ fault. (fault ≡ OutOfMemory)
         ⊎ (put_from method schema.now 1 records.now (begun rows.now next_id) ≡ Err fault)) }
 {
-    let mut work = Work::new(alloc, next_id);
+    let mut draft = Draft::new(alloc, schema, next_id)?;
     for (record_index, given) in records.iter().enumerate() {
         put_record(
             alloc,
@@ -175,8 +147,8 @@ pub(crate) fn put_all(
             given,
             rows,
             index,
-            &mut work,
+            &mut draft,
         )?;
     }
-    Ok(work)
+    Ok(draft)
 }

@@ -3,4 +3,4 @@ use Rattle.datastore_table.specs.Put.{new_keys}
 use Rattle.datastore_table.proofs.admission.new_keys.Given as goal
 
 abbrev pub invariant-loop-given : goal.invariant-loop-given
-invariant-loop-given l = l.keys.items ≡ new_keys l.schema l.rows (take l.given-index l.records)
+invariant-loop-given l = l.keys ≡ new_keys l.schema l.rows (take l.given-index l.records)

@@ -6,7 +6,7 @@ use Rattle.datastore_table.proofs.references.check_all.Given as goal
 
 abbrev pub invariant-loop-record_index : goal.invariant-loop-record_index
 invariant-loop-record_index l =
-    foreign_checked l.columns l.key (rows_after l.target.written.now l.target.rows.now)
-    (rows_after l.source.written.now l.source.rows.now) l.written
+    foreign_checked l.columns l.key (rows_after l.target.written.now l.target.rows.now) (rows_after l.changed l.rows)
+    l.written
     ≡ in_turn (written_checked l.columns l.key (rows_after l.target.written.now l.target.rows.now)
-    (rows_after l.source.written.now l.source.rows.now)) (l.record_index + 1) (drop l.record_index l.written) tt
+    (rows_after l.changed l.rows)) (l.record_index + 1) (drop l.record_index l.written) tt

@@ -9,8 +9,8 @@ use Rattle.datastore_table.proofs.references.exists_by_index.Goals as goal
 pub returns : goal.returns
 returns c =
     let key = c.args.key.now in
-    let rows = c.args.target.now.rows.now in
-    let written = c.args.target.now.written.now in
+    let rows = c.args.rows.now in
+    let written = c.args.written.now in
     let cells = cells_at c.args.columns.now c.args.row.now.cells in
     c.is_unwritten.ensures
     ∙ ap (λ o. is_some (unwritten written o)) (c.find_by_index-other.ensures
@@ -20,5 +20,5 @@ returns c =
 
 pub find_by_index-other-requires-clause-alone : goal.find_by_index-other-requires-clause-alone
 find_by_index-other-requires-clause-alone c =
-    alone_key c.args.key.now (cells_at c.args.columns.now c.as_slice.result.now) c.args.target.now.rows.now
+    alone_key c.args.key.now (cells_at c.args.columns.now c.as_slice.result.now) c.args.rows.now
     c.requires.keyed.apart c.requires.some

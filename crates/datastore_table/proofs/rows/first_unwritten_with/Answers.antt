@@ -9,10 +9,6 @@ returns c =
     let cells = c.args.cells.now in
     let rows = c.args.current.now.rows.now in
     let written = c.args.current.now.written.now in
-    c.unwritten.ensures ∙ ap (unwritten written) c.find_by_index-row.ensures
+    c.unwritten.ensures ∙ ap (unwritten written) c.find_keyed-row.ensures
     ∙ sym (find_unwritten columns cells written rows c.requires.keyed.ascending
     (alone_key columns cells rows c.requires.keyed.apart c.requires.some))
-
-pub find_by_index-row-requires-clause-alone : goal.find_by_index-row-requires-clause-alone
-find_by_index-row-requires-clause-alone c =
-    alone_key c.args.columns.now c.args.cells.now c.args.current.now.rows.now c.requires.keyed.apart c.requires.some

@@ -1,11 +1,11 @@
-use Rattle.std.proofs.Common.{ℕ, get_or, inl}
+use Rattle.std.proofs.Common.{ℕ, arith, get_or, inl}
 use Rattle.datastore_table.specs.Index.{IsLeft}
 use Rattle.datastore_table.proofs.StoreLemmas.{all_but_end, item_at, leave_next_at, left_more}
 use Rattle.datastore_table.proofs.store.leave_all.Goals as goal
 
 pub loop-id-init : goal.loop-id-init
 loop-id-init c = record {
-  leaves = record { kept = λ d i apart candidate. candidate; room = λ more room. room };
+  leaves = record { kept = λ d i apart under. under; room = omega arith };
   left = λ id m. inl m;
 }
 

@@ -1,8 +1,8 @@
-use Rattle.std.proofs.Common.{◌≡◌, ◌*◌, ℕ, List, arith, length, rules, subst, sym}
+use Rattle.std.proofs.Common.{◌≡◌, ℕ, List, arith, rules, subst, sym}
 use Rattle.datastore_table.specs.declared.row.Row.{Row}
 use Rattle.datastore_table.specs.Batch.{cut_rows}
 use Rattle.datastore_table.specs.Index.{IsIndexed, LeavesAll}
-use Rattle.datastore_table.proofs.StoreLemmas.{delete_indexed, room_times}
+use Rattle.datastore_table.proofs.StoreLemmas.{delete_indexed}
 use Rattle.datastore_table.proofs.store.RowStore.delete.Goals as goal
 
 pub returns-clause-sound : goal.returns-clause-sound
@@ -18,8 +18,6 @@ returns-clause-sound c =
           c.requires.sound.indexed leaves);
       ready = record {
         rows = search rules;
-        index = leaves.room (0 * length old.column_lists.items)
-            (room_times old.index 0 old.ready (length old.column_lists.items) (omega arith)
-            c.requires.sound.ready.index);
+        index = omega arith;
       };
     }

@@ -8,9 +8,9 @@ returns-in_err-reserve-2-clause-sound c =
     record {
       indexed = indexed_same old.column_lists.items old.rows.items c.reserve.new.self.items old.index
           c.reserve-2.new.self
-          c.reserve.ensures.items c.reserve-2.ensures.same c.reserve-2.ensures.colliding c.requires.indexed;
+          c.reserve.ensures.items c.reserve-2.ensures.first c.reserve-2.ensures.further c.requires.indexed;
       ready = record {
         rows = omega (arith, c.requires.ready.rows, c.reserve.ensures.capacity, c.reserve.ensures.len);
-        index = c.reserve-2.ensures.kept _ c.requires.ready.index;
+        index = omega (arith, c.requires.ready.index, c.reserve-2.ensures.kept);
       };
     }
