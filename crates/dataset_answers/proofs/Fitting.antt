@@ -17,11 +17,10 @@ use Rattle.packages.specs.Body.{built_dataset, body_errors}
 use Rattle.packages.specs.Named.{Located, has_address, is_named, position_of, located_at, resource_in, resource_named}
 use Rattle.packages.specs.Numbered.{AreNumbered}
 use Rattle.packages.specs.Resources.{resource_for, resource_errors}
-use Rattle.packages.specs.Texts.{text_given}
+use Rattle.packages.specs.Texts.{longest_name, text_given}
 use Rattle.packages.specs.Errors.{message_unless}
 use Rattle.packages.specs.declared.package.Package.{Package}
 use Rattle.packages.specs.declared.package.Resource.{Resource}
-use Rattle.packages.specs.declared.package.TheConstants.{LONGEST_NAME}
 use Rattle.packages.proofs.Built.{built_id, built_name, built_numbered, built_owner_org, built_source}
 use Rattle.packages.proofs.Built.{built_tags, new_name, new_organization}
 use Rattle.packages.proofs.NoErrors.{message_unless-none}
@@ -128,7 +127,7 @@ like-sound : (people : PeopleLists) (old new : Package) → IsLike old new → I
 like-sound people old new like sound = record {
   not_harvested = ap is_source like.source ∙ sound.not_harvested;
   id = subst IsId (sym like.id) sound.id;
-  name = ap (λ n. is_name n LONGEST_NAME) like.name ∙ sound.name;
+  name = ap (λ n. is_name n longest_name) like.name ∙ sound.name;
   org = subst (OrgExists people) (sym like.org) sound.org;
   resources = like.resources sound.resources;
   tags = like.tags sound.tags;

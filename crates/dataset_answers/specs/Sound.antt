@@ -7,7 +7,7 @@ use Rattle.portal_base.specs.Name.{is_name}
 use Rattle.portal_base.specs.Ordered.{IsAscending}
 use Rattle.org_roles.specs.PeopleLists.{PeopleLists, org_in}
 use Rattle.packages.specs.Numbered.{AreNumbered}
-use Rattle.packages.specs.declared.package.TheConstants.{LONGEST_NAME}
+use Rattle.packages.specs.Texts.{longest_name}
 use Rattle.packages.specs.declared.package.Package.{Package}
 use Rattle.visibility.specs.Visibility.{is_harvested}
 
@@ -25,7 +25,7 @@ OrgExists people org = is_some (org_in people org) ≡ true
 pub record IsSound (people : PeopleLists) (dataset : Package) : Type 0 where
   pub not_harvested : is_harvested dataset ≡ false
   pub id : IsId dataset.id
-  pub name : is_name dataset.name LONGEST_NAME ≡ true
+  pub name : is_name dataset.name longest_name ≡ true
   pub org : OrgExists people dataset.owner_org
   pub resources : AreNumbered dataset
   pub tags : IsAscending (slice_cmp nat_cmp) dataset.tags

@@ -20,11 +20,10 @@ use Rattle.packages.specs.Resources.{items_error, next_after_items, next_after_i
 use Rattle.packages.specs.Resources.{resources_given, resources_or, resources_error, resources_key_error}
 use Rattle.packages.specs.Tags.{tag_names, tags_or, text_set}
 use Rattle.packages.specs.Texts.{dataset_name_error, name_error, organization_change_error, text_given}
-use Rattle.packages.specs.Texts.{fixed_text_error, name_key_error, organization_key_error}
+use Rattle.packages.specs.Texts.{fixed_text_error, longest_name, name_key_error, organization_key_error}
 use Rattle.packages.specs.Errors.{optional_error}
 use Rattle.packages.specs.declared.package.Package.{Package}
 use Rattle.packages.specs.declared.package.Resource.{Resource}
-use Rattle.packages.specs.declared.package.TheConstants.{LONGEST_NAME}
 use Rattle.packages.proofs.NoErrors.{with_rule_errors-none, option_map-none}
 use Rattle.packages.proofs.ResourceNumbers.{Keeps, KeepsBelow, KeepsBelow-new, KeepsBelow-old, TakesNext, found-number}
 use Rattle.packages.proofs.ResourceNumbers.{items_error-apart, kept-id, next_after_items-le, next_after_item-le}
@@ -55,8 +54,8 @@ fixed-given rules (Ok None) e = absurd (cc)
 fixed-given rules (Ok (Some text)) e = (text, (refl, e))
 fixed-given rules (Err fault) e = absurd (cc)
 
-is_name-no_error : (text : List ℕ) → name_error text ≡ None → IsTrue (is_name text LONGEST_NAME)
-is_name-no_error text e = ap is_none (option_map-none _ (name_fault text 100) e)
+is_name-no_error : (text : List ℕ) → name_error text ≡ None → IsTrue (is_name text longest_name)
+is_name-no_error text e = ap is_none (option_map-none _ (name_fault text longest_name) e)
 
 -- So the text that is read is the one that a new dataset gets.
 fixed-read : (rules : List ℕ → Option (List ℕ)) (read : Result (Option (List ℕ)) KindFault)
@@ -74,12 +73,12 @@ new_name_at body whole no_errors = fixed-read (dataset_name_error None) (text_at
 
 -- That name has the form of a name.
 pub new_name : (body : Json) (whole : Bool) → body_errors body None ≡ []
-    → IsTrue (is_name (built_dataset body None whole).name LONGEST_NAME)
+    → IsTrue (is_name (built_dataset body None whole).name longest_name)
 new_name body whole no_errors =
     let given = fixed-given (dataset_name_error None) (text_at (codes "name") body)
     (name-no_errors body None no_errors) in
     let P : Result (Option (List ℕ)) KindFault → Type 0 =
-    λ read. IsTrue (is_name (unwrap_or (found_value read) []) LONGEST_NAME) in
+    λ read. IsTrue (is_name (unwrap_or (found_value read) []) longest_name) in
     subst P (sym given.1.0) (is_name-no_error given.0 given.1.1)
 
 -- A new dataset has the organization that the body gives.

@@ -56,9 +56,13 @@ fixed_text_error old rules (Err fault) = Some (message_of fault)
 abbrev pub change_error : List ℕ → List ℕ → List ℕ → Option (List ℕ)
 change_error message old text = message_unless (bytes_eq text old) message
 
+-- the most characters of the name of a dataset or of an organization
+abbrev pub longest_name : ℕ
+longest_name = 100
+
 -- the error of a text that has to be a name
 abbrev pub name_error : List ℕ → Option (List ℕ)
-name_error text = option_map (name_fault_message 100) (name_fault text 100)
+name_error text = option_map (name_fault_message longest_name) (name_fault text longest_name)
 
 abbrev pub dataset_name_error : Option Package → List ℕ → Option (List ℕ)
 dataset_name_error None text = name_error text

@@ -12,16 +12,15 @@ ghost use Rattle.packages.specs.Body.{body_errors, built_dataset};
 ghost use Rattle.packages.specs.Numbered.{AreNumbered};
 ghost use Rattle.packages.specs.Resources.{resource_errors};
 ghost use Rattle.packages.specs.Tags.{text_set};
+ghost use Rattle.packages.specs.Texts.{longest_name};
 ghost use Rattle.packages.specs.declared.package.Package.{Package};
-
-use crate::package::LONGEST_NAME;
 
 /// A new dataset that is built from a faultless body has the name that the body gives. The name has the form of names.
 pub fn a_new_dataset_has_a_name()
     ensures given { (body : Json) (whole : Bool) → body_errors body None ≡ [] →
         text_at (codes "name") body ≡ Ok (Some (built_dataset body None whole).name) }
     ensures form { (body : Json) (whole : Bool) → body_errors body None ≡ [] →
-        IsTrue (is_name (built_dataset body None whole).name LONGEST_NAME) }
+        IsTrue (is_name (built_dataset body None whole).name longest_name) }
 {}
 
 /// A new dataset that is built from a faultless body has the organization that the body gives.

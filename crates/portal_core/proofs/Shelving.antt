@@ -16,8 +16,8 @@ use Rattle.org_roles.specs.Order.{user_cmp, org_cmp, membership_cmp}
 use Rattle.packages.specs.Named.{is_named}
 use Rattle.packages.specs.Order.{dataset_cmp}
 use Rattle.packages.specs.Shelf.{ShelfState, IsValidShelf, package_at, number_in, datasets_of}
+use Rattle.packages.specs.Texts.{longest_name}
 use Rattle.packages.specs.declared.package.Package.{Package}
-use Rattle.packages.specs.declared.package.TheConstants.{LONGEST_NAME}
 use Rattle.packages.proofs.FindLemmas.{IsIn-find, find-none, list_any-map}
 use Rattle.packages.proofs.EntryLemmas.{IsIn-package_at, package_at-IsIn}
 use Rattle.packages.proofs.ShelfLemmas.{number_of_member}
@@ -52,11 +52,11 @@ unequal a b differ = by (bytes_eq a b) refl
     by true is = absurd (differ ((bytes_eq-Decides a b).0 is))
 
 -- a name is no id
-name_is_no_id : (name id : List ℕ) → is_name name LONGEST_NAME ≡ true → IsId id → bytes_eq id name ≡ false
+name_is_no_id : (name id : List ℕ) → is_name name longest_name ≡ true → IsId id → bytes_eq id name ≡ false
 name_is_no_id name id named formed =
     unequal id name
-    (λ same. let not_named : is_name name LONGEST_NAME ≡ false =
-    ap (λ (t : List ℕ). is_name t LONGEST_NAME) (sym same ∙ formed.1) ∙ id_is_no_name formed.0 LONGEST_NAME in
+    (λ same. let not_named : is_name name longest_name ≡ false =
+    ap (λ (t : List ℕ). is_name t longest_name) (sym same ∙ formed.1) ∙ id_is_no_name formed.0 longest_name in
     cc)
 
 turned : (a b : List ℕ) → bytes_eq a b ≡ false → bytes_eq b a ≡ false
