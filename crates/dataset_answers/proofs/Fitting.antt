@@ -1,11 +1,15 @@
--- The changes that the answers on datasets and resources accept can be made.
+-- The changes that the answers on datasets and resources accept can be made, and the caller has the right to make them.
 use Rattle.std.proofs.Common.{◌≡◌, ◌⊎◌, inl, inr, ℕ, Bool, true, false, List, [], ◌∷◌, Option, Some, None, Ok}
-use Rattle.std.proofs.Common.{refl, sym, ap, ◌∙◌, subst}
+use Rattle.std.proofs.Common.{refl, sym, ap, ◌∙◌, ◌||◌, subst}
 use Rattle.std.specs.Prelude.{codes, option_and_then, option_map, slice_get, is_some, find, not, ◌&&◌}
 use Rattle.std.specs.List.{Contains}
 use Rattle.std.specs.Ordering.{nat_cmp}
 use Rattle.std.specs.Cmp.Lexicographic.{slice_cmp}
+use Rattle.std.specs.Str.{bytes_eq}
+use Rattle.std.proofs.lemmas.Bool.{and_parts, not-true}
 use Rattle.std.proofs.lemmas.Option.{option_and_then_some, same_Some}
+use Rattle.std.proofs.lemmas.Slice.Eq.{bytes_eq-Decides}
+use Rattle.portal_base.specs.declared.caller.Caller.{Caller}
 use Rattle.portal_base.specs.declared.json_value.Json.{Json}
 use Rattle.portal_base.specs.KeyErrors.{KeyError, with_errors, kind_message, with_error, error_if}
 use Rattle.portal_base.specs.Kinds.{count_at}
@@ -13,6 +17,8 @@ use Rattle.portal_base.specs.Name.{is_name}
 use Rattle.portal_base.specs.Ordered.{IsAscending}
 use Rattle.portal_base.proofs.Unique.{Contains-IsIn}
 use Rattle.org_roles.specs.PeopleLists.{PeopleLists, org_in, is_sysadmin_in}
+use Rattle.org_roles.specs.Rights.{rights_for}
+use Rattle.org_roles.specs.declared.entry.Org.{Org}
 use Rattle.packages.specs.Body.{built_dataset, body_errors}
 use Rattle.packages.specs.Named.{Located, has_address, is_named, position_of, located_at, resource_in, resource_named}
 use Rattle.packages.specs.Numbered.{AreNumbered}
@@ -29,7 +35,7 @@ use Rattle.packages.proofs.ResourceNumbers.{numbered_with_one_more, numbered_wit
 use Rattle.packages.proofs.ResourceNumbers.{numbered_with_same_numbers}
 use Rattle.packages.proofs.ResourceNumbers.{numbered_without_resource_at}
 use Rattle.visibility.specs.CallView.{CallView}
-use Rattle.visibility.specs.Visibility.{is_harvested, is_source, may_edit_in}
+use Rattle.visibility.specs.Visibility.{caller_role, is_harvested, is_source, may_edit_in}
 use Rattle.portal_calls.specs.Answer.{AcceptsOnly, denial_of}
 use Rattle.portal_calls.specs.declared.answer.Kind.TheVariants as kind
 use Rattle.portal_calls.specs.declared.answer.Right.TheVariants.{CreateDataset, EditDataset, PurgeDataset}
@@ -46,7 +52,7 @@ use Rattle.dataset_answers.specs.Answers.{answer_to_package_update, answer_to_pa
 use Rattle.dataset_answers.specs.Answers.{answer_to_dataset_purge, answer_to_package_show, answer_to_package_list}
 use Rattle.dataset_answers.specs.Answers.{answer_to_resource_create, answer_to_resource_update}
 use Rattle.dataset_answers.specs.Answers.{answer_to_resource_delete, answer_to_resource_show}
-use Rattle.dataset_answers.specs.Answers.{may_create, purgeable_dataset}
+use Rattle.dataset_answers.specs.Answers.{can_create_in, may_create, purgeable_dataset}
 use Rattle.visibility.specs.TableSummary.{TableSummary, breaks_references}
 use Rattle.dataset_answers.proofs.TableSummaryLemmas.{all-keep, more-keep, position-keeps, no_table_lost}
 use Rattle.dataset_answers.specs.Fit.{IsFitDataset, IsReplacement, KeepsResources}
@@ -112,7 +118,39 @@ created-sound view none =
       tags = built_tags body None true tt;
     }
 
+-- who may create datasets in an organization of this name that exists may edit its datasets
+edits-there : (people : PeopleLists) (caller : Caller) (name : List ℕ) (sysadmin : Bool) → OrgExists people name
+    → (sysadmin || can_create_in people caller (org_in people name)) ≡ true
+    → (sysadmin || (rights_for (caller_role people caller name)).edit) ≡ true
+edits-there people caller name sysadmin exists may = by (org_in people name) refl exists may
+  where
+    by : (found : Option Org) → org_in people name ≡ found → is_some found ≡ true
+        → (sysadmin || can_create_in people caller found) ≡ true
+        → (sysadmin || (rights_for (caller_role people caller name)).edit) ≡ true
+    by None is there can = absurd (cc)
+    by (Some org) is there can =
+        let same : org.name ≡ name =
+        (bytes_eq-Decides org.name name).0 (IsIn-find (λ (o : Org). bytes_eq o.name name) org people.orgs is).1 in
+        ap (λ (n : List ℕ). sysadmin || (rights_for (caller_role people caller n)).edit) (sym same) ∙ can
+
+-- whoever may create a dataset may edit it
+created-own : (view : CallView) → may_create view ≡ true
+    → dataset_errors view.people view.call.request.body None ≡ []
+    → may_edit_in view.people view.call.caller (created_dataset view.call) ≡ true
+created-own view may none =
+    let body = view.call.request.body in
+    let given = new_organization body true (dataset-no_errors view.people body None none).no_body_errors in
+    edits-there view.people view.call.caller (built_dataset body None true).owner_org
+    (is_sysadmin_in view.people view.call.caller) (created-sound view none).org
+    (ap (λ (o : Option (List ℕ)). is_sysadmin_in view.people view.call.caller
+    || can_create_in view.people view.call.caller (option_and_then (org_in view.people) o)) (sym given) ∙ may)
+
 -- ---- a dataset that replaces one in the view
+
+-- a dataset in the view that the caller may edit
+pub record IsOwn (view : CallView) (dataset : Package) : Type 0 where
+  pub is_present : Contains view.datasets dataset
+  pub may : may_edit_in view.people view.call.caller dataset ≡ true
 
 -- what no change of a dataset changes, and what stays sound
 record IsLike (old new : Package) : Type 0 where
@@ -133,12 +171,13 @@ like-sound people old new like sound = record {
   tags = like.tags sound.tags;
 }
 
-like-replacement : (view : CallView) (summaries : List TableSummary) (old new : Package) → Contains view.datasets old
+like-replacement : (view : CallView) (summaries : List TableSummary) (old new : Package) → IsOwn view old
     → IsLike old new → KeepsResources old new ⊎ (breaks_references summaries new.id new.resources ≡ false)
     → IsReplacement view summaries new
-like-replacement view summaries old new is_present like keeps_references = record {
+like-replacement view summaries old new own like keeps_references = record {
   old = old;
-  is_present = is_present;
+  is_present = own.is_present;
+  own = own.may;
   id = sym like.id;
   name = sym like.name;
   sound = like-sound view.people old new like;
@@ -185,11 +224,12 @@ at-is_present key view dataset is =
     let named = thing_at-ok key view.call.request.body kind.Dataset (dataset_named view.datasets) dataset is in
     found-is_present (is_named named.name) view.datasets dataset named.looked
 
-pub editable-is_present : (key : List ℕ) (view : CallView) (dataset : Package) → editable_dataset_at key view ≡ Ok dataset
-    → Contains view.datasets dataset
-editable-is_present key view dataset is =
-    at-is_present key view dataset
-    (authorized_thing-ok (may_edit_in view.people view.call.caller) EditDataset (dataset_at key view) dataset is).1
+pub editable-own : (key : List ℕ) (view : CallView) (dataset : Package) → editable_dataset_at key view ≡ Ok dataset
+    → IsOwn view dataset
+editable-own key view dataset is =
+    let authorized =
+    authorized_thing-ok (may_edit_in view.people view.call.caller) EditDataset (dataset_at key view) dataset is in
+    record { is_present = at-is_present key view dataset authorized.1; may = authorized.0 }
 
 -- a resource at its position in a dataset among these
 pub record IsLocated (datasets : List Package) (located : Located) : Type 0 where
@@ -223,12 +263,18 @@ at-located view located is =
     thing_at-ok (codes "id") view.call.request.body kind.Resource (resource_named view.datasets) located is in
     named-located view.datasets named.name located named.looked
 
+-- a resource at its position in a dataset in the view, which the caller may edit
+pub record IsOwnLocated (view : CallView) (located : Located) : Type 0 where
+  pub own : IsOwn view located.dataset
+  pub there : slice_get located.dataset.resources located.position ≡ Some located.resource
+
 pub editable-located : (view : CallView) (located : Located) → editable_resource_at view ≡ Ok located
-    → IsLocated view.datasets located
+    → IsOwnLocated view located
 editable-located view located is =
-    at-located view located
-    (authorized_thing-ok (λ (p : Located). may_edit_in view.people view.call.caller p.dataset) EditDataset
-    (resource_at (codes "id") view) located is).1
+    let authorized = authorized_thing-ok (λ (p : Located). may_edit_in view.people view.call.caller p.dataset)
+    EditDataset (resource_at (codes "id") view) located is in
+    let found = at-located view located authorized.1 in
+    record { own = record { is_present = found.is_present; may = authorized.0 }; there = found.there }
 
 -- ---- the answers
 
@@ -237,7 +283,8 @@ create_fit : (view : CallView) (summaries : List TableSummary)
 create_fit view summaries =
     AcceptsOnly-answer_if_authorized (IsFitDataset view summaries) (may_create view) CreateDataset _
     (λ may. AcceptsOnly-answer_if_valid (IsFitDataset view summaries) view.quota
-    (dataset_errors view.people view.call.request.body None) _ (created-sound view))
+    (dataset_errors view.people view.call.request.body None) _
+    (λ none. record { sound = created-sound view none; own = created-own view may none }))
 
 change-fit : (whole : Bool) (view : CallView) (summaries : List TableSummary)
     → AcceptsOnly (IsFitDataset view summaries) (answer_to_package_change whole view summaries)
@@ -249,7 +296,7 @@ change-fit whole view summaries =
     (λ none. let changed = changed_dataset view.call whole dataset in
     let parts = error_if-none (codes "resources") (lost_table_error summaries changed)
     (dataset_errors view.people body (Some dataset)) none in
-    like-replacement view summaries dataset changed (editable-is_present (naming_key body) view dataset own)
+    like-replacement view summaries dataset changed (editable-own (naming_key body) view dataset own)
     (changed-like view.call whole dataset (dataset-no_errors view.people body (Some dataset) parts.0).no_body_errors)
     (inr (no_table_lost summaries changed parts.1))))
 
@@ -267,7 +314,7 @@ delete_fit view summaries =
     AcceptsOnly-answer_if_found (IsFitDataset view summaries) (editable_dataset_at (codes "id") view) _
     (λ dataset own. AcceptsOnly-answer_if_valid (IsFitDataset view summaries) view.quota [] _
     (λ none. let deleted = deleted_dataset view.call dataset in
-    like-replacement view summaries dataset deleted (editable-is_present (codes "id") view dataset own)
+    like-replacement view summaries dataset deleted (editable-own (codes "id") view dataset own)
     (numbered-like dataset deleted refl refl refl refl refl
     (λ is_present. numbered_with_same_numbers dataset deleted is_present refl refl))
     (inl (all-keep dataset))))
@@ -280,7 +327,14 @@ purge_fit view summaries =
     (λ none. let found =
     authorized_thing-ok (λ (d : Package). is_sysadmin_in view.people view.call.caller && not (is_harvested d)) PurgeDataset
     (dataset_at (codes "id") view) dataset purgeable in
-    record { old = dataset; is_present = at-is_present (codes "id") view dataset found.1; id = refl }))
+    let rights = and_parts (is_sysadmin_in view.people view.call.caller) (not (is_harvested dataset)) found.0 in
+    record {
+      old = dataset;
+      is_present = at-is_present (codes "id") view dataset found.1;
+      id = refl;
+      not_harvested = not-true (is_harvested dataset) rights.1;
+      sysadmin = rights.0;
+    }))
 
 resource_create_fit : (view : CallView) (summaries : List TableSummary)
     → AcceptsOnly (IsFitDataset view summaries) (answer_to_resource_create view summaries)
@@ -290,7 +344,7 @@ resource_create_fit view summaries =
     (λ dataset own. AcceptsOnly-answer_if_valid (IsFitDataset view summaries) view.quota (new_resource_errors dataset body) _
     (λ none. let resource = resource_for dataset.next_resource body in
     let more = with_new_resource view.call dataset resource in
-    like-replacement view summaries dataset more (editable-is_present (codes "package_id") view dataset own)
+    like-replacement view summaries dataset more (editable-own (codes "package_id") view dataset own)
     (numbered-like dataset more refl refl refl refl refl
     (λ is_present. numbered_with_one_more dataset more resource is_present refl refl refl))
     (inl (more-keep dataset more resource refl))))
@@ -304,7 +358,7 @@ resource_update_fit view summaries =
     (λ none. let resource = resource_for located.resource.number body in
     let changed = with_resource_at view.call located.dataset located.position resource in
     let found = editable-located view located own in
-    like-replacement view summaries located.dataset changed found.is_present
+    like-replacement view summaries located.dataset changed found.own
     (numbered-like located.dataset changed refl refl refl refl refl
     (λ is_present. numbered_with_replacement_at located.dataset changed located.position located.resource resource
     is_present
@@ -317,7 +371,7 @@ resource_delete_fit view summaries =
     AcceptsOnly-answer_if_found (IsFitDataset view summaries) (editable_resource_at view) _
     (λ located own. let less = without_resource_at view.call located.dataset located.position in
     AcceptsOnly-answer_if_valid (IsFitDataset view summaries) view.quota (error_if (codes "id") (lost_table_error summaries less) []) _
-    (λ none. like-replacement view summaries located.dataset less (editable-located view located own).is_present
+    (λ none. like-replacement view summaries located.dataset less (editable-located view located own).own
     (numbered-like located.dataset less refl refl refl refl refl
     (λ is_present. numbered_without_resource_at located.dataset less located.position is_present refl refl))
     (inr (no_table_lost summaries less (error_if-none (codes "id") (lost_table_error summaries less) [] none).1))))

@@ -23,7 +23,7 @@ use Rattle.dataset_answers.specs.Bodies.{changed_dataset, new_resource_errors, w
 use Rattle.dataset_answers.specs.Bodies.{with_resource_at, without_resource_at}
 use Rattle.dataset_answers.specs.declared.change.DatasetChange.{DatasetChange}
 use Rattle.dataset_answers.specs.declared.change.DatasetChange.TheVariants.{Replace}
-use Rattle.dataset_answers.proofs.Fitting.{at-located, at-is_present, editable-located, editable-is_present}
+use Rattle.dataset_answers.proofs.Fitting.{at-located, at-is_present, editable-located, editable-own}
 use Rattle.dataset_answers.proofs.TableSummaryLemmas.{id-among, lost_table_error-view, package-view, resource-view}
 use Rattle.dataset_answers.proofs.TableSummaryLemmas.{change_errors-view}
 
@@ -71,7 +71,7 @@ change_same whole view summaries =
     (λ dataset own. let changed = changed_dataset view.call whole dataset in
     let among : IsIdAmong changed.id view.datasets =
     subst (λ (id : List ℕ). IsIdAmong id view.datasets) (sym (built_id body dataset whole))
-    (id-among dataset view.datasets (editable-is_present (naming_key body) view dataset own)) in
+    (id-among dataset view.datasets (editable-own (naming_key body) view dataset own).is_present) in
     answer_if_valid-alike view.quota _ _ _ _ (Replace changed)
     (change_errors-view view.people view.datasets summaries body dataset changed among)
     (package-view view.people view.datasets summaries changed among))
@@ -95,7 +95,7 @@ resource_create_same view summaries =
     answer_if_valid-alike view.quota (new_resource_errors dataset body) (new_resource_errors dataset body) _ _
     (Replace (with_new_resource view.call dataset resource)) refl
     (resource-view view.datasets summaries dataset.id (length dataset.resources) resource
-    (id-among dataset view.datasets (editable-is_present (codes "package_id") view dataset own))))
+    (id-among dataset view.datasets (editable-own (codes "package_id") view dataset own).is_present)))
 
 pub resource_update_same : (view : CallView) (summaries : List TableSummary)
     → answer_to_resource_update view summaries ≡ answer_to_resource_update view (summaries_seen view.datasets summaries)
@@ -106,7 +106,7 @@ resource_update_same view summaries =
     answer_if_valid-alike view.quota (resource_errors body) (resource_errors body) _ _
     (Replace (with_resource_at view.call located.dataset located.position resource)) refl
     (resource-view view.datasets summaries located.dataset.id located.position resource
-    (id-among located.dataset view.datasets (editable-located view located own).is_present)))
+    (id-among located.dataset view.datasets (editable-located view located own).own.is_present)))
 
 pub resource_delete_same : (view : CallView) (summaries : List TableSummary)
     → answer_to_resource_delete view summaries ≡ answer_to_resource_delete view (summaries_seen view.datasets summaries)
@@ -116,4 +116,4 @@ resource_delete_same view summaries =
     answer_if_valid-alike view.quota _ _ json.Null json.Null (Replace less)
     (ap (λ (error : Option (List ℕ)). error_if (codes "id") error [])
     (lost_table_error-view view.datasets summaries less
-    (id-among located.dataset view.datasets (editable-located view located own).is_present))) refl)
+    (id-among located.dataset view.datasets (editable-located view located own).own.is_present))) refl)

@@ -8,8 +8,10 @@ ghost use Rattle.dataset_answers.specs.Answers.{answer_to_action, answer_to_pack
 ghost use Rattle.dataset_answers.specs.Answers.{answer_to_resource_show};
 ghost use Rattle.dataset_answers.specs.Fit.{IsFitDataset};
 
-/// The changes that the answers accept can be made. A new dataset is sound. A dataset that is replaced or removed is in
-/// the caller's view. No table that stays refers to a table that a replacement removes.
+/// The changes that the answers accept can be made, and the caller has the right to make them. A new dataset is sound,
+/// and the caller may edit it. A dataset that is replaced is in the caller's view, and the caller may edit it. No table
+/// that stays refers to a table that a replacement removes. A dataset that is removed is in the view of the caller, who
+/// is a sysadmin, and wasn't harvested.
 pub fn what_is_accepted_is_fit()
     ensures { (action : DatasetAction) (view : CallView) (summaries : List TableSummary) →
         AcceptsOnly (IsFitDataset view summaries) (answer_to_action action view summaries) }

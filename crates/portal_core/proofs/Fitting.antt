@@ -141,10 +141,14 @@ datasets-fit : (change : DatasetChange) (call : Call) (state : State)
     → IsFitDataset (call_view_of call (view_of call.caller state)) (summaries_of (view_of call.caller state).tables)
     change
     → IsFitDataset (call_view_of call state) (summaries_of state.tables) change
-datasets-fit (dataset.Create d) call state fit = sound-there call.caller state.people d fit
+datasets-fit (dataset.Create d) call state fit = record {
+  sound = sound-there call.caller state.people d fit.sound;
+  own = sym (may_edit_in_seen call.caller state.people d) ∙ fit.own;
+}
 datasets-fit (dataset.Replace d) call state fit = record {
   old = fit.old;
   is_present = seen-stands call.caller state.people state.datasets fit.old fit.is_present;
+  own = sym (may_edit_in_seen call.caller state.people fit.old) ∙ fit.own;
   id = fit.id;
   name = fit.name;
   sound = λ was. sound-there call.caller state.people d
@@ -167,6 +171,8 @@ datasets-fit (dataset.Remove id) call state fit = record {
   old = fit.old;
   is_present = seen-stands call.caller state.people state.datasets fit.old fit.is_present;
   id = fit.id;
+  not_harvested = fit.not_harvested;
+  sysadmin = sym (is_sysadmin_in_seen call.caller state.people) ∙ fit.sysadmin;
 }
 
 -- ---- tables

@@ -421,7 +421,7 @@ datasets-valid : (change : DatasetChange) (call : Call) (state : State) → IsVa
 datasets-valid (dataset.Create d) call state valid fit unused =
     let unnamed : has_name d.name state.datasets ≡ false =
     (first_unused (is_in_use state) (DatasetName d.name) (DatasetId d.id ∷ []) unused).0 in
-    placed-valid d state.tables state valid fit
+    placed-valid d state.tables state valid fit.sound
     (λ e within named. let taken : bytes_eq e.name d.name ≡ true = same_text e.name d.name named in
     let free : bytes_eq e.name d.name ≡ false =
     none_passes (λ (x : Package). bytes_eq x.name d.name) e state.datasets unnamed

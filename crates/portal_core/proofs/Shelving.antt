@@ -169,7 +169,7 @@ taken : (change : DatasetChange) (parts : Parts) (call : Call) → IsConsistent 
     → IsUnused (state_of parts) (Datasets change)
     → IsTakenBy change parts.shelf
 unfolding on_shelf led
-taken (dataset.Create d) parts call consistent fit unused = free parts call d consistent fit unused
+taken (dataset.Create d) parts call consistent fit unused = free parts call d consistent fit.sound unused
 taken (dataset.Replace d) parts call consistent fit unused =
     let within = IsIn-Contains fit.old (datasets_of parts.shelf) fit.is_present in
     let place = led parts.shelf consistent.shelved fit.old within in
