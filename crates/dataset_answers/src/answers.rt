@@ -37,7 +37,7 @@ use packages::resources::{resource_errors, resource_for};
 use portal_base::copy::TryClone;
 use portal_base::json_value::Json;
 use portal_base::key_errors::KeyErrors;
-use portal_calls::answer::{Answer, Right};
+use portal_calls::answer::{Answer, Denial, Right, with_quota_error};
 use portal_calls::stop::{Stop, answer_or_refusal, authorize, validate, validate_change};
 use portal_calls::topic::DatasetAction;
 use std::alloc::{AllocError, Global};
@@ -229,10 +229,8 @@ fn refusal(context: &CallContext<'_>, faults: KeyErrors) -> Result<Answer<Datase
     ensures { (answer : Answer DatasetChange) →
         Answers result (answer_if_valid context.now.quota faults answer) }
 {
-    match validate_change(context.quota, faults) {
-        Ok(()) => unreachable!(),
-        Err(stop) => Err(stop),
-    }
+    let errors = with_quota_error(context.quota, faults)?;
+    Err(Stop::Refused(Denial::Validation(errors.into_list())))
 }
 
 /// The answer to a call that changes a dataset to `changed`, where the body has these errors and its list of resources

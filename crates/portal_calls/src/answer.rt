@@ -93,10 +93,17 @@ pub fn denial_with_quota(quota: Quota, faults: KeyErrors) -> Result<Option<Denia
     ensures { IfOk result (λ denial.
         denial ≡ denial_of (error_if (codes "body") (quota_error quota) faults)) }
 {
+    Ok(denial_of(with_quota_error(quota, faults)?))
+}
+
+/// The errors of a change, with that of a quota that is used up.
+pub fn with_quota_error(quota: Quota, faults: KeyErrors) -> Result<KeyErrors, AllocError>
+    ensures { IfOk result (λ errors. errors ≡ error_if (codes "body") (quota_error quota) faults) }
+{
     let mut faults = faults;
     if quota == Quota::UsedUp {
         let message = Text::from_static("Quota of accepted bytes is used up");
         faults.add_error(Text::from_static("body"), message)?;
     }
-    Ok(denial_of(faults))
+    Ok(faults)
 }
