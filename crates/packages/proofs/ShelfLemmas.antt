@@ -1,22 +1,17 @@
 -- What a shelf's contracts imply about its datasets by id, for the crates above.
-use Rattle.std.proofs.Common.{◌≡◌, ◌≢◌, ℕ, Bool, true, false, List, Option, Some, None, refl, sym, ap, ◌∙◌}
+use Rattle.std.proofs.Common.{◌≡◌, ℕ, Bool, true, false, List, Option, Some, None, refl, sym, ap, ◌∙◌}
 use Rattle.std.specs.Bool.{then_some}
 use Rattle.std.specs.Prelude.{filter, find, is_some, IsTrue}
 use Rattle.std.specs.Option.{option_and_then, option_map}
-use Rattle.portal_base.specs.Ordered.{IsAscending}
-use Rattle.portal_base.proofs.Upserted.{found-dropped, found-dropped_other, found-upserted, found-upserted_other}
 use Rattle.portal_base.proofs.Unique.{IsIn}
 use Rattle.packages.specs.Named.{has_address, is_named, position_of, located_at, resource_in, resource_named}
-use Rattle.packages.specs.Order.{dataset_cmp}
-use Rattle.packages.specs.Shelf.{ShelfState, IsValidShelf, at_number, number_cmp, package_at, number_in, datasets_of}
-use Rattle.packages.specs.Shelf.{with_package, without_number}
+use Rattle.packages.specs.Shelf.{ShelfState, IsValidShelf, package_at, number_in, datasets_of}
 use Rattle.packages.specs.declared.package.Package.{Package}
-use Rattle.packages.proofs.DatasetLemmas.{IsAscending-datasets, datasets-IsIn, IsIn-datasets}
+use Rattle.packages.proofs.DatasetLemmas.{datasets-IsIn, IsIn-datasets}
 use Rattle.packages.proofs.FindLemmas.{IsIn-find, find-none, none-find, find-alone, find-kept_alone, find-narrowed}
 use Rattle.packages.proofs.FindLemmas.{IsAlone, IsAlone-filter}
-use Rattle.packages.proofs.ShelfInvariantLemmas.{id_named, same_some}
-use Rattle.packages.proofs.EntryLemmas.{IsIn-package_at, package_at-IsIn, at_number-IsKey, number_cmp_total}
-use Rattle.packages.proofs.EntryLemmas.{apart-nat_cmp, nat_cmp-same, same-nat_cmp}
+use Rattle.packages.proofs.ShelfInvariantLemmas.{same_some}
+use Rattle.packages.proofs.EntryLemmas.{package_at-IsIn}
 
 -- entries with the same key are at the same number
 one_entry : (s : ShelfState) → IsValidShelf s → (key : List ℕ) (x y : ℕ × Package) → IsIn x s.entries → IsIn y s.entries

@@ -1,8 +1,8 @@
 -- A number that isn't the first one of the digest is searched for among the further ones.
-use Rattle.std.proofs.Common.{◌≡◌, ◌∙◌, ap, map, subst, sym, inl, inr, Contains}
+use Rattle.std.proofs.Common.{◌≡◌, ◌∙◌, map, subst, sym, inl, inr, Contains}
 use Rattle.packages.specs.Digest.{digest_of}
 use Rattle.packages.specs.ShelfInvariant.{is_named_at}
-use Rattle.digest_index.specs.Index.{IsUnder, first_under, further_under}
+use Rattle.digest_index.specs.Index.{IsUnder}
 use Rattle.packages.proofs.FindLemmas.{find-IfSome, find-IfNone, IfNone-from}
 use Rattle.packages.proofs.shelf.find_number.Goals as goal
 
