@@ -10,17 +10,21 @@ use Rattle.org_roles.specs.declared.role.Role.TheVariants.{Member, Editor, Admin
 use Rattle.packages.specs.declared.package.Package.{Package}
 use Rattle.visibility.specs.View.{public_count}
 
--- an organization, with the count of its public datasets among these
-abbrev pub organization_dictionary : List Package → Org → Json
-organization_dictionary datasets org = json.Map (
+-- an organization with this count of public datasets
+abbrev pub counted_dictionary : ℕ → Org → Json
+counted_dictionary count org = json.Map (
     (codes "created", json.Text (moment_text org.created))
     ∷ (codes "description", json.Text org.description)
     ∷ (codes "id", json.Text org.name)
     ∷ (codes "name", json.Text org.name)
-    ∷ (codes "package_count", json.Whole (pos (public_count org.name datasets)))
+    ∷ (codes "package_count", json.Whole (pos count))
     ∷ (codes "title", json.Text org.title)
     ∷ (codes "type", json.Text (codes "organization"))
     ∷ [])
+
+-- an organization, with the count of its public datasets among these
+abbrev pub organization_dictionary : List Package → Org → Json
+organization_dictionary datasets org = counted_dictionary (public_count org.name datasets) org
 
 abbrev pub role_name : Role → List ℕ
 role_name Member = codes "member"

@@ -1,6 +1,7 @@
 //! The dictionaries of organizations, roles and users.
 ghost use Rattle.std.specs.Prelude.{◌≡◌, IfOk};
 ghost use Rattle.organization_answers.specs.Dictionary.{role_name, organization_dictionary, capacity_dictionary};
+ghost use Rattle.organization_answers.specs.Dictionary.{counted_dictionary};
 ghost use Rattle.organization_answers.specs.Dictionary.{member_dictionary, member_entry};
 ghost use Rattle.visibility.specs.CallView.{context_view};
 
@@ -33,7 +34,13 @@ pub fn organization_json(
 ) -> Result<Json, AllocError>
     ensures { IfOk result (λ json. json ≡ organization_dictionary (context_view context.now).datasets org.now) }
 {
-    let count = context.public_count(&org.name);
+    counted_json(alloc, org, context.public_count(&org.name))
+}
+
+/// The dictionary of an organization with this count of public datasets.
+pub fn counted_json(alloc: Global, org: &Org, count: usize) -> Result<Json, AllocError>
+    ensures { IfOk result (λ json. json ≡ counted_dictionary count org.now) }
+{
     Json::dictionary(
         alloc,
         [

@@ -8,9 +8,10 @@ ghost use Rattle.visibility.specs.View.{administers};
 ghost use Rattle.organization_answers.specs.Answers.{capacity, capacity_item, organization_item};
 ghost use Rattle.organization_answers.specs.Dictionary.{member_entry};
 
-use crate::dictionary::{capacity_json, member_entry_json, organization_json};
+use crate::dictionary::{capacity_json, counted_json, member_entry_json};
 use org_roles::entry::{Membership, Org, User};
 use org_roles::role::Role;
+use packages::owners::count_at;
 use portal_base::copy::TryClone;
 use portal_base::json_value::Json;
 use portal_base::seq::Seq;
@@ -50,14 +51,16 @@ fn member_entries_json(
     Ok(Seq::from(list))
 }
 
-/// The dictionaries of the organizations, ordered by name.
+/// The dictionaries of the organizations, ordered by name. Their datasets are counted in one walk.
 pub fn organizations_json(alloc: Global, context: &CallContext<'_>) -> Result<Seq<Json>, AllocError>
     ensures { IfOk result (λ list. list
         ≡ map (organization_item true (context_view context.now).datasets) (context_view context.now).people.orgs) }
 {
+    let counts = context.public_counts(alloc)?;
     let mut list = Vec::new(alloc);
     for org in context.people.orgs() {
-        list.push(organization_json(alloc, context, org)?)?;
+        let count = count_at(&counts, &org.name);
+        list.push(counted_json(alloc, org, count)?)?;
     }
     Ok(Seq::from(list))
 }

@@ -6,6 +6,7 @@ pub mod EntryLemmas
 pub mod ErrorLemmas
 pub mod FindLemmas
 pub mod NoErrors
+pub mod OwnerCounts
 pub mod ResourceNumbers
 pub mod ShelfInvariantLemmas
 pub mod ShelfLemmas

@@ -5,6 +5,7 @@ pub mod LocatedResource
 pub mod Named
 pub mod Numbered
 pub mod Order
+pub mod Owners
 pub mod Package
 pub mod Resources
 pub mod Shelf

@@ -7,6 +7,7 @@ pub mod errors;
 pub mod laws;
 pub mod named;
 mod order;
+pub mod owners;
 pub mod package;
 mod resource_list;
 pub mod resources;

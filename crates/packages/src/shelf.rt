@@ -3,12 +3,14 @@
 //! A dataset keeps its number until it is removed. Afterwards another dataset may get the number. `prepare` makes room
 //! for a new dataset and is the only call that takes memory. `put`, `replace` and `remove` change the shelf.
 ghost use Rattle.std.specs.Prelude.{◌≡◌, ◌+◌, ◌<◌, ◌^◌, [], None, Some, ℕ, IsTrue, false, IsOk, IsSome, IfSome, IfNone};
-ghost use Rattle.std.specs.Prelude.{IfOk, OnErr, filter, find, is_some, length, map};
+ghost use Rattle.std.specs.Prelude.{◌&&◌, List, IfOk, OnErr, filter, find, is_some, length, map};
 ghost use Rattle.std.specs.List.{list_any};
 ghost use Rattle.std.specs.Option.{option_copied, option_map};
+ghost use Rattle.std.specs.Str.{bytes_eq};
 ghost use Rattle.portal_base.specs.Ordered.{upserted, dropped};
 ghost use Rattle.packages.specs.Named.{is_named};
 ghost use Rattle.packages.specs.Order.{dataset_cmp};
+ghost use Rattle.packages.specs.Owners.{count_at};
 ghost use Rattle.packages.specs.Shelf.{package_at, number_in, with_package, without_number, with_room, datasets_of};
 ghost use Rattle.packages.specs.Shelf.{IsValidShelf};
 ghost use Rattle.packages.specs.Tags.{text_set};
@@ -27,6 +29,7 @@ use portal_base::steps::Steps;
 use portal_base::text::Text;
 use slab::Slab;
 use std::alloc::{AllocError, Global};
+use std::collections::BTreeMap;
 use std::marker::Model;
 use std::mem;
 use std::sync::ledger::Ledger;
@@ -180,6 +183,18 @@ impl Shelf {
         ensures { result ≡ length (filter (T.test test.now) (datasets_of self.now)) }
     {
         walk::count_of(&self.datasets, test)
+    }
+
+    /// The counts of datasets that pass the test, by the organizations that own them. It walks the datasets once.
+    pub fn counts_by_owner<T: Test>(
+        &self,
+        alloc: Global,
+        test: &T,
+    ) -> Result<BTreeMap<Text, usize>, AllocError>
+        ensures { IfOk result (λ counts. (owner : List ℕ) → count_at owner counts
+            ≡ length (filter (λ d. bytes_eq d.owner_org owner && T.test test.now d) (datasets_of self.now))) }
+    {
+        walk::counts_by_owner(alloc, &self.datasets, test)
     }
 
     /// Whether any dataset passes the test.

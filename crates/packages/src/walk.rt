@@ -1,15 +1,20 @@
 //! Walks over all datasets, in an order that callers can't rely on.
-ghost use Rattle.std.specs.Prelude.{◌≡◌, ◌∷◌, ◌++◌, [], IfOk, OnOk, filter, if◌then◌else◌, length, map};
+ghost use Rattle.std.specs.Prelude.{◌≡◌, ◌∷◌, ◌++◌, ◌+◌, ◌<◌, ◌^◌, ◌&&◌, [], ℕ, List, IfOk, OnOk, IsTrue};
+ghost use Rattle.std.specs.Prelude.{filter, if◌then◌else◌, length, map};
 ghost use Rattle.std.specs.List.{list_any};
+ghost use Rattle.std.specs.Str.{bytes_eq};
 ghost use Rattle.slab.specs.Slab.{entries};
+ghost use Rattle.packages.specs.Owners.{count_at};
 ghost use Rattle.packages.specs.Tags.{text_set};
 
+use crate::owners::count_one;
 use crate::package::Package;
 use crate::tags::sort_and_dedup;
 use portal_base::copy::TryClone;
 use portal_base::text::Text;
 use slab::Slab;
 use std::alloc::{AllocError, Global};
+use std::collections::BTreeMap;
 
 /// A test of datasets.
 pub trait Test {
@@ -34,6 +39,41 @@ pub(crate) fn count_of<T: Test>(datasets: &Slab<Package>, test: &T) -> usize
         }
     }
     count
+}
+
+/// The counts of datasets that pass, by owner. The count of all datasets bounds each of them.
+pub(crate) fn counts_by_owner<T: Test>(
+    alloc: Global,
+    datasets: &Slab<Package>,
+    test: &T,
+) -> Result<BTreeMap<Text, usize>, AllocError>
+    ensures { IfOk result (λ counts. (owner : List ℕ) → count_at owner counts
+        ≡ length (filter (λ e. bytes_eq e.1.owner_org owner && T.test test.now e.1) (entries datasets.now))) }
+{
+    let _all = datasets.len();
+    let mut counts = BTreeMap::new(alloc);
+    for entry in datasets.iter() {
+        count_dataset(alloc, &mut counts, entry.1, test)?;
+    }
+    Ok(counts)
+}
+
+/// Counts the dataset for its owner, if it passes.
+fn count_dataset<T: Test>(
+    alloc: Global,
+    counts: &mut BTreeMap<Text, usize>,
+    dataset: &Package,
+    test: &T,
+) -> Result<(), AllocError>
+    requires { IsTrue (T.test test.now dataset.now) → count_at dataset.now.owner_org counts.old + 1 < 2 ^ 64 }
+    ensures { OnOk result ((owner : List ℕ) → count_at owner counts.new
+        ≡ (if bytes_eq dataset.now.owner_org owner && T.test test.now dataset.now then 1 else 0)
+        + count_at owner counts.old) }
+{
+    if test.passes(dataset) {
+        count_one(alloc, counts, &dataset.owner_org)?;
+    }
+    Ok(())
 }
 
 /// Whether any dataset passes.

@@ -1,5 +1,5 @@
 //! A call and the state that it reads. Each look-up returns what the caller's view contains, and builds no view.
-ghost use Rattle.std.specs.Prelude.{◌≡◌, ◌<◌, IfOk, IfSome, IsTrue, find, length, option_map};
+ghost use Rattle.std.specs.Prelude.{◌≡◌, ◌<◌, ℕ, List, IfOk, IfSome, IsTrue, find, length, option_map};
 ghost use Rattle.std.specs.Option.{option_copied};
 ghost use Rattle.org_roles.specs.PeopleLists.{is_sysadmin_in, is_user_in, org_in, role_in};
 ghost use Rattle.visibility.specs.CallView.{context_view};
@@ -9,6 +9,7 @@ ghost use Rattle.visibility.specs.View.{public_names};
 ghost use Rattle.visibility.specs.Visibility.{caller_role, is_public_if_harvested, may_edit_in};
 ghost use Rattle.packages.specs.Named.{is_named, resource_named};
 ghost use Rattle.packages.specs.LocatedResource.{located_now};
+ghost use Rattle.packages.specs.Owners.{count_at};
 ghost use Rattle.packages.specs.Shelf.{IsValidShelf, datasets_of};
 
 use crate::permissions;
@@ -26,6 +27,7 @@ use portal_base::text::Text;
 use portal_calls::answer::Quota;
 use portal_calls::call::Call;
 use std::alloc::{AllocError, Global};
+use std::collections::BTreeMap;
 
 /// A call, whether its quota is used up, and the people and datasets that it reads.
 #[derive(Drop)]
@@ -138,6 +140,15 @@ impl<'a> CallContext<'a> {
         ensures { result ≡ public_count org.now (context_view self.now).datasets }
     {
         self.shelf.count_of(&IsPublicIn { org })
+    }
+
+    /// The numbers of the organizations' public datasets, by the organizations' names. It walks the datasets once.
+    #[tactic(auto, using(crate::proofs::PublicLemmas::public_count_seen))]
+    pub fn public_counts(&self, alloc: Global) -> Result<BTreeMap<Text, usize>, AllocError>
+        ensures { IfOk result (λ counts. (org : List ℕ) → count_at org counts
+            ≡ public_count org (context_view self.now).datasets) }
+    {
+        self.shelf.counts_by_owner(alloc, &IsPublic)
     }
 
     /// Whether an organization that the caller administers has a dataset, in any state.
