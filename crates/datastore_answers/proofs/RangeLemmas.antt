@@ -1,8 +1,8 @@
 -- The range of one dataset's tables, and the tables that are left if those of some of its resources are removed.
 use Rattle.std.proofs.Common.{◌≡◌, ◌∙◌, ◌<◌, ◌≤◌, ℕ, zero, suc, ◌+◌, Bool, true, false, not, ◌||◌, cond, List, []}
 use Rattle.std.proofs.Common.{◌∷◌, ◌++◌, ◌⊎◌, inl, inr, refl, sym, ap, subst, map, length, get_or, take, drop, arith}
-use Rattle.std.proofs.Common.{append_assoc, add-one}
-use Rattle.std.specs.Prelude.{filter}
+use Rattle.std.proofs.Common.{append_assoc, add-one, ◌-◌}
+use Rattle.std.specs.Prelude.{filter, slice_range}
 use Rattle.std.specs.Cmp.Lexicographic.{slice_cmp}
 use Rattle.std.specs.List.{Contains, prefix_len}
 use Rattle.std.specs.List.Sorted.{IsPartitionedBy}
@@ -12,7 +12,7 @@ use Rattle.std.specs.declared.cmp.Ordering.{Ordering}
 use Rattle.std.specs.declared.cmp.Ordering.TheVariants.{Less, Equal, Greater}
 use Rattle.std.proofs.lemmas.Cmp.{alike_right, nat_list_cmp_total}
 use Rattle.std.proofs.lemmas.List.{drop_more, get_or-drop, get_or-take, length-drop, length-take, take-append-drop}
-use Rattle.std.proofs.lemmas.List.{take_more}
+use Rattle.std.proofs.lemmas.List.{append-nil, take_more}
 use Rattle.std.proofs.lemmas.List.Elements.{Contains-get_or, filter-append}
 use Rattle.std.proofs.lemmas.List.Sums.{prefix_len_passes, prefix_len_stops}
 use Rattle.std.proofs.lemmas.Map.Text.{is_eq-slice_cmp}
@@ -23,7 +23,7 @@ use Rattle.portal_base.proofs.Filtered.{filter-all}
 use Rattle.portal_base.proofs.Unique.{Contains-IsIn, IsIn, IsIn-Contains, below_in}
 use Rattle.datastore_table.proofs.KeyLemmas.{true_false}
 use Rattle.datastore_answers.specs.Order.{table_cmp}
-use Rattle.datastore_answers.specs.Tables.{without_room, tables_kept}
+use Rattle.datastore_answers.specs.Tables.{without_room, tables_in, tables_kept}
 use Rattle.datastore_answers.specs.declared.resource_table.ResourceTable.{ResourceTable}
 use Rattle.datastore_answers.proofs.DropLemmas.{stays}
 
@@ -172,6 +172,71 @@ own_between dataset ts up k d le lt within =
     (fails_after (λ t. is_lt (to_dataset dataset t)) ts (below_before dataset ts up) k d le within)
     (prefix_len_passes (λ t. is_le (to_dataset dataset t)) ts k d lt))
 
+-- If no item passes, none is left.
+filter-none : {X : Type 0} (p : X → Bool) (xs : List X) → ((x : X) → IsIn x xs → p x ≡ false) → filter p xs ≡ []
+filter-none p [] fails = refl
+filter-none p (x ∷ xs) fails =
+    ap (λ b. cond b (x ∷ filter p xs) (filter p xs)) (fails x (inl refl)) ∙ filter-none p xs (λ y m. fails y (inr m))
+
+-- An item of the rest of a list stands in the list from that index on.
+IsIn-drop : {X : Type 0} (ts : List X) (n : ℕ) (x : X) → IsIn x (drop n ts)
+    → (k : ℕ) × (n ≤ k) × (k < length ts) × (get_or ts k x ≡ x)
+IsIn-drop ts n x m =
+    let at : Contains (drop n ts) x = Contains-IsIn x (drop n ts) m in
+    (n + at.0, omega arith, omega (arith, at.1, length-drop n ts), sym (get_or-drop n ts at.0 x) ∙ at.2)
+
+-- One of the first items stands before that index.
+IsIn-take : {X : Type 0} (ts : List X) (n : ℕ) (x : X) → IsIn x (take n ts)
+    → (k : ℕ) × (k < n) × (k < length ts) × (get_or ts k x ≡ x)
+IsIn-take ts n x m =
+    let at : Contains (take n ts) x = Contains-IsIn x (take n ts) m in
+    let lt : at.0 < n = omega (arith, at.1, length-take n ts) in
+    (at.0, lt, omega (arith, at.1, length-take n ts), sym (get_or-take n ts at.0 x lt) ∙ at.2)
+
+-- The tables in the range are the dataset's, and no others are.
+pub range_has_tables : (dataset : List ℕ) (ts : List ResourceTable) → IsAscending table_cmp ts
+    → slice_range ts (from_index dataset ts) (to_index dataset ts) ≡ tables_in dataset ts
+range_has_tables dataset ts up =
+    sym (ap (filter own) (sym (take-append-drop from ts))
+    ∙ filter-append own (take from ts) (drop from ts)
+    ∙ ap (λ l. l ++ filter own (drop from ts)) (filter-none own (take from ts) before)
+    ∙ ap (filter own) (sym (take-append-drop count (drop from ts)))
+    ∙ filter-append own (take count (drop from ts)) (drop count (drop from ts))
+    ∙ ap (λ l. l ++ filter own (drop count (drop from ts))) (filter-all own (take count (drop from ts)) within)
+    ∙ ap (λ l. take count (drop from ts) ++ l) (filter-none own (drop count (drop from ts)) after)
+    ∙ append-nil (take count (drop from ts)))
+  where
+    from : ℕ
+    from = from_index dataset ts
+
+    to : ℕ
+    to = to_index dataset ts
+
+    count : ℕ
+    count = to - from
+
+    own : ResourceTable → Bool
+    own t = bytes_eq t.address.dataset dataset
+
+    before : (x : ResourceTable) → IsIn x (take from ts) → own x ≡ false
+    before x m =
+        let at = IsIn-take ts from x m in
+        ap own (sym at.3) ∙ other_before dataset ts at.0 x at.1
+
+    within : (x : ResourceTable) → IsIn x (take count (drop from ts)) → own x ≡ true
+    within x m =
+        let at = IsIn-take (drop from ts) count x m in
+        ap own (sym at.3 ∙ get_or-drop from ts at.0 x)
+        ∙ own_between dataset ts up (from + at.0) x (omega arith) (omega (arith, at.1))
+        (omega (arith, at.2, length-drop from ts))
+
+    after : (x : ResourceTable) → IsIn x (drop count (drop from ts)) → own x ≡ false
+    after x m =
+        let at = IsIn-drop (drop from ts) count x m in
+        ap own (sym at.3 ∙ get_or-drop from ts at.0 x)
+        ∙ other_after dataset ts up (from + at.0) x (omega (arith, at.1, places_ordered dataset ts))
+        (omega (arith, at.2, length-drop from ts))
+
 -- ---- lists that are walked backwards
 
 get_front : {X : Type 0} (ts rest : List X) (k : ℕ) (d : X) → k < length ts
@@ -226,12 +291,6 @@ removed_before {X} p ts k d lt fails = rw add-one (
 
 -- ---- the tables that are kept
 
-IsIn-drop : {X : Type 0} (ts : List X) (n : ℕ) (x : X) → IsIn x (drop n ts)
-    → (k : ℕ) × (n ≤ k) × (k < length ts) × (get_or ts k x ≡ x)
-IsIn-drop ts n x m =
-    let at : Contains (drop n ts) x = Contains-IsIn x (drop n ts) m in
-    (n + at.0, omega arith, omega (arith, at.1, length-drop n ts), sym (get_or-drop n ts at.0 x) ∙ at.2)
-
 other_stays : (dataset : List ℕ) (resources : List Resource) (t : ResourceTable)
     → bytes_eq t.address.dataset dataset ≡ false → stays dataset resources t ≡ true
 other_stays dataset resources t other = rw other refl
@@ -266,11 +325,10 @@ keep-end dataset resources ts =
 
     front : (x : ResourceTable) → IsIn x (take from ts) → stays dataset resources x ≡ true
     front x m =
-        let at : Contains (take from ts) x = Contains-IsIn x (take from ts) m in
-        let lt : at.0 < from = omega (arith, at.1, length-take from ts) in
+        let at = IsIn-take ts from x m in
         other_stays dataset resources x
-        (subst (λ (t : ResourceTable). bytes_eq t.address.dataset dataset ≡ false)
-        (sym (get_or-take from ts at.0 x lt) ∙ at.2) (other_before dataset ts at.0 x lt))
+        (subst (λ (t : ResourceTable). bytes_eq t.address.dataset dataset ≡ false) at.3
+        (other_before dataset ts at.0 x at.1))
 
 -- ---- one table after another, backwards
 

@@ -19,18 +19,15 @@ use Rattle.datastore_answers.specs.declared.address.Address.{Address}
 use Rattle.datastore_answers.specs.declared.resource_table.ResourceTable.{ResourceTable}
 use Rattle.datastore_answers.proofs.TableLemmas.{table_found}
 
--- One of the dataset's tables references a number just if one of all tables is the dataset's and references it.
+-- The memory that the dataset's tables have ready changes nothing of what they reference.
 pub any_in : (dataset : List ℕ) (number : ℕ) (ts : List ResourceTable)
-    → list_any (λ t. bytes_eq t.address.dataset dataset && refers_to number t) ts
-    ≡ is_referenced number (tables_in dataset (map without_room ts))
+    → is_referenced number (tables_in dataset ts) ≡ is_referenced number (tables_in dataset (map without_room ts))
 any_in dataset number [] = refl
 any_in dataset number (t ∷ ts) = by (bytes_eq t.address.dataset dataset) (any_in dataset number ts)
   where
     by : (b : Bool)
-        → list_any (λ t. bytes_eq t.address.dataset dataset && refers_to number t) ts
-        ≡ is_referenced number (tables_in dataset (map without_room ts))
-        → ((b && refers_to number t)
-        || list_any (λ t. bytes_eq t.address.dataset dataset && refers_to number t) ts)
+        → is_referenced number (tables_in dataset ts) ≡ is_referenced number (tables_in dataset (map without_room ts))
+        → is_referenced number (cond b (t ∷ tables_in dataset ts) (tables_in dataset ts))
         ≡ is_referenced number (cond b (without_room t ∷ tables_in dataset (map without_room ts))
         (tables_in dataset (map without_room ts)))
     by true rest = ap (λ r. refers_to number t || r) rest

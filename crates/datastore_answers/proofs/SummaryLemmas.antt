@@ -31,13 +31,15 @@ some-summary found dataset number ts is = there found ∙ ap is_some is ∙ foun
     there None = refl
     there (Some t) = refl
 
--- The summaries break a reference just if the tables do.
+-- The summaries break a reference just if the dataset's tables do.
 pub any-breaks_reference : (dataset : List ℕ) (resources : List Resource) (ts : List ResourceTable)
-    → list_any (λ (t : ResourceTable). bytes_eq t.address.dataset dataset
-    && (is_among resources t.address.number && refers_outside resources t.targets)) ts
+    → list_any (λ (t : ResourceTable). is_among resources t.address.number && refers_outside resources t.targets)
+    (tables_in dataset ts)
     ≡ breaks_references (summaries_of (map without_room ts)) dataset resources
 any-breaks_reference dataset resources ts =
-    sym (list_any-map without_room (λ (t : ResourceTable). bytes_eq t.address.dataset dataset
+    any-filter (λ (t : ResourceTable). is_among resources t.address.number && refers_outside resources t.targets)
+    (λ (t : ResourceTable). bytes_eq t.address.dataset dataset) ts
+    ∙ sym (list_any-map without_room (λ (t : ResourceTable). bytes_eq t.address.dataset dataset
     && (is_among resources t.address.number && refers_outside resources t.targets)) ts)
     ∙ sym (list_any-map summary_of (λ (h : TableSummary). bytes_eq h.dataset dataset
     && (is_among resources h.number && refers_outside resources h.targets)) (map without_room ts))

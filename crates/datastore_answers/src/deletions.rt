@@ -1,7 +1,6 @@
 //! Deletions of tables and of rows, and the references to them from other tables of the dataset.
 ghost use Rattle.std.specs.Prelude.{◌≡◌, ◌⊎◌, ◌&&◌, ◌==◌, Ok, Err, IfOk, IfErr, OnOk, IsSome, None, Some, slice_get};
 ghost use Rattle.std.specs.List.{list_any};
-ghost use Rattle.std.specs.Str.{bytes_eq};
 ghost use Rattle.portal_base.specs.Ordered.{found};
 ghost use Rattle.datastore_table.specs.Batch.{delete_checked, removed_keys};
 ghost use Rattle.datastore_table.specs.declared.fault.TableFault.TheVariants.{OutOfMemory};
@@ -14,7 +13,7 @@ ghost use Rattle.datastore_answers.specs.Tables.{without_room, table_at, tables_
 ghost use Rattle.datastore_answers.specs.Errors.{delete_rows_error};
 
 use crate::resource_table::ResourceTable;
-use crate::table_index::find_index;
+use crate::table_index::{find_index, tables_in};
 use crate::tables::Tables;
 use datastore_table::{Removal, TableFault, check_referred};
 use portal_base::seq::Seq;
@@ -37,11 +36,11 @@ fn refers_to(table: &ResourceTable, number: u32) -> bool
     !(table.address.number == number) && has(table.targets.as_slice(), number)
 }
 
-// Whether such a table is one of the dataset's.
-fn any_refers(tables: &[ResourceTable], dataset: &Text, number: u32) -> bool
-    ensures { result ≡ list_any (λ t. bytes_eq t.address.dataset dataset.now && refers_to number t) tables.now }
+// Whether one of the tables is such a table.
+fn any_refers(tables: &[ResourceTable], number: u32) -> bool
+    ensures { result ≡ is_referenced number tables.now }
 {
-    tables.iter().any(|table| table.address.dataset == *dataset && refers_to(table, number))
+    tables.iter().any(|table| refers_to(table, number))
 }
 
 impl Tables {
@@ -51,7 +50,7 @@ impl Tables {
     pub(crate) fn is_referenced(&self, dataset: &Text, number: u32) -> bool
         ensures { result ≡ is_referenced number (tables_in dataset.now (tables_of self.now)) }
     {
-        any_refers(self.tables.as_slice(), dataset, number)
+        any_refers(tables_in(self.tables.as_slice(), dataset), number)
     }
 }
 // ---- rows
@@ -110,22 +109,18 @@ fn check_table(table: &ResourceTable, number: u32, removal: &Removal) -> Result<
     Ok(())
 }
 
-// Checks all tables of the dataset.
+// Checks each of the tables.
 fn check_tables(
     tables: &[ResourceTable],
-    dataset: &Text,
     number: u32,
     removal: &Removal,
 ) -> Result<(), TableFault>
-    ensures ok { OnOk result
-        (tables_restrict removal.now.keys number (tables_in dataset.now tables.now) ≡ Ok tt) }
+    ensures ok { OnOk result (tables_restrict removal.now.keys number tables.now ≡ Ok tt) }
     ensures err { IfErr result (λ fault. (fault ≡ OutOfMemory)
-        ⊎ (tables_restrict removal.now.keys number (tables_in dataset.now tables.now) ≡ Err fault)) }
+        ⊎ (tables_restrict removal.now.keys number tables.now ≡ Err fault)) }
 {
     for table in tables {
-        if table.address.dataset == *dataset {
-            check_table(table, number, removal)?;
-        }
+        check_table(table, number, removal)?;
     }
     Ok(())
 }
@@ -150,7 +145,8 @@ impl Tables {
             ⊎ (delete_at (tables_in dataset.now (tables_of self.old)) number ids.now ≡ Err fault)) }
     {
         let removal = self.removal_at(dataset, number, ids)?;
-        check_tables(self.tables.as_slice(), dataset, number, &removal)?;
+        let tables = tables_in(self.tables.as_slice(), dataset);
+        check_tables(tables, number, &removal)?;
         Ok(removal)
     }
 

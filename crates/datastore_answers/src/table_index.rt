@@ -5,6 +5,7 @@ ghost use Rattle.std.specs.Cmp.Lexicographic.{slice_cmp};
 ghost use Rattle.std.specs.Ordering.{is_le, is_lt, nat_cmp};
 ghost use Rattle.portal_base.specs.Ordered.{IsAscending, found};
 ghost use Rattle.datastore_answers.specs.Order.{at_address, table_cmp};
+ghost use Rattle.datastore_answers.specs.Tables.{tables_in};
 
 use crate::resource_table::ResourceTable;
 use portal_base::text::Text;
@@ -31,6 +32,16 @@ pub(crate) fn find_range(tables: &[ResourceTable], dataset: &Text) -> (usize, us
     let from = tables.partition_point(|table| table.address.dataset.cmp(dataset).is_lt());
     let to = tables.partition_point(|table| table.address.dataset.cmp(dataset).is_le());
     (from, to)
+}
+
+/// The dataset's tables, by two binary searches.
+#[tactic(auto, using(crate::proofs::RangeLemmas::range_has_tables))]
+pub(crate) fn tables_in<'a>(tables: &'a [ResourceTable], dataset: &Text) -> &'a [ResourceTable]
+    requires { IsAscending table_cmp tables.now }
+    ensures { result.now ≡ tables_in dataset.now tables.now }
+{
+    let (from, to) = find_range(tables, dataset);
+    &tables[from..to]
 }
 
 /// The count of tables before this address, by a binary search.

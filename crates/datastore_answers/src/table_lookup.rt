@@ -1,10 +1,10 @@
 //! Look-ups of tables for the answers on datasets.
 ghost use Rattle.std.specs.Prelude.{◌≡◌, ◌&&◌};
 ghost use Rattle.std.specs.List.{list_any};
-ghost use Rattle.std.specs.Str.{bytes_eq};
 ghost use Rattle.visibility.specs.TableSummary.{is_among, refers_outside};
 
 use crate::resource_table::ResourceTable;
+use crate::table_index::tables_in;
 use crate::tables::Tables;
 use packages::package::Resource;
 use portal_base::text::Text;
@@ -32,13 +32,14 @@ fn breaks_reference(table: &ResourceTable, resources: &[Resource]) -> bool
     is_among(resources, table.address.number) && refers_outside(resources, table.targets.as_slice())
 }
 
-// Whether one of the dataset's tables does so.
-fn any_breaks_reference(tables: &[ResourceTable], dataset: &Text, resources: &[Resource]) -> bool
-    ensures { result ≡ list_any (λ t. bytes_eq t.address.dataset dataset.now
-        && (is_among resources.now t.address.number && refers_outside resources.now t.targets)) tables.now }
+// Whether one of the tables does so.
+fn any_breaks_reference(tables: &[ResourceTable], resources: &[Resource]) -> bool
+    ensures { result ≡ list_any (λ t. is_among resources.now t.address.number
+        && refers_outside resources.now t.targets) tables.now }
 {
-    tables.iter().any(|table| table.address.dataset == *dataset
-        && breaks_reference(table, resources))
+    tables
+        .iter()
+        .any(|table| breaks_reference(table, resources))
 }
 
 impl TableLookup for Tables {
@@ -52,6 +53,7 @@ impl TableLookup for Tables {
     }
 
     fn breaks_references(&self, dataset: &Text, resources: &[Resource]) -> bool {
-        any_breaks_reference(self.tables.as_slice(), dataset, resources)
+        let tables = tables_in(self.tables.as_slice(), dataset);
+        any_breaks_reference(tables, resources)
     }
 }

@@ -1,9 +1,8 @@
 use Rattle.std.proofs.Common.{◌≡◌, drop}
 use Rattle.datastore_answers.specs.Restrict.{tables_restrict}
-use Rattle.datastore_answers.specs.Tables.{tables_in}
 use Rattle.datastore_answers.proofs.deletions.check_tables.Given as goal
 
 abbrev pub invariant-loop-table : goal.invariant-loop-table
 invariant-loop-table l =
-    tables_restrict l.removal.keys l.number (tables_in l.dataset l.tables)
-    ≡ tables_restrict l.removal.keys l.number (tables_in l.dataset (drop l.table-index l.tables))
+    tables_restrict l.removal.keys l.number l.tables
+    ≡ tables_restrict l.removal.keys l.number (drop l.table-index l.tables)

@@ -6,6 +6,7 @@ use Rattle.datastore_answers.proofs.tables.Tables.is_referenced.Goals as goal
 
 pub returns : goal.returns
 returns c =
-    (rw c.as_slice.ensures.value at c.any_refers.ensures)
+    c.any_refers.ensures
+    ∙ ap (is_referenced c.args.number) (rw c.as_slice.ensures.value at c.tables_in.ensures)
     ∙ any_in c.args.dataset.now c.args.number c.self.inside.tables.items
     ∙ ap (λ (s : Stored). is_referenced c.args.number (tables_in c.args.dataset.now (tables_of s))) c.self.view_is

@@ -28,12 +28,13 @@ returns-in_err-check_tables-clause-fault c =
     let address : Address = record { dataset = c.args.dataset.now; number = c.args.number } in
     let keys = c.in_ok-removal.removal.keys in
     let reading = delete_at (tables_in c.args.dataset.now (tables_of c.args.self.now)) c.args.number c.args.ids.now in
-    let checked = tables_restrict keys c.args.number (tables_in c.args.dataset.now c.as_slice.result.now) in
+    let checked = tables_restrict keys c.args.number c.tables_in-tables.result.now in
     let same_check : reading ≡ checked =
     delete_rows-there c.args.self.now c.removal_at.new.self address c.args.ids.now c.in_ok-removal.removal
     c.removal_at.ensures.same c.in_ok-removal.ensures.removal
-    ∙ ap (λ ts. tables_restrict keys c.args.number (tables_in c.args.dataset.now ts))
-    (sym (c.as_slice.ensures.value ∙ ap (λ (s : Stored). s.tables) c.self.view_is)) in
+    ∙ ap (tables_restrict keys c.args.number)
+    (sym (c.tables_in-tables.ensures
+    ∙ ap (tables_in c.args.dataset.now) (c.as_slice.ensures.value ∙ ap (λ (s : Stored). s.tables) c.self.view_is))) in
     err_of c.from_residual-in_err-check_tables.result c.in_err-check_tables.field-0.0 reading
     c.from_residual-in_err-check_tables.ensures.1
     (through reading checked c.in_err-check_tables.field-0.0 same_check c.in_err-check_tables.ensures.err)
@@ -45,8 +46,9 @@ returns-clause-keeps_references c =
     ap delete_rows_error
     (delete_rows-there c.args.self.now c.removal_at.new.self address c.args.ids.now c.in_ok-removal.removal
     c.removal_at.ensures.same c.in_ok-removal.ensures.removal
-    ∙ ap (λ ts. tables_restrict keys c.args.number (tables_in c.args.dataset.now ts))
-    (sym (c.as_slice.ensures.value ∙ ap (λ (s : Stored). s.tables) c.self.view_is))
+    ∙ ap (tables_restrict keys c.args.number)
+    (sym (c.tables_in-tables.ensures
+    ∙ ap (tables_in c.args.dataset.now) (c.as_slice.ensures.value ∙ ap (λ (s : Stored). s.tables) c.self.view_is)))
     ∙ c.in_ok-check_tables.ensures.ok)
 
 pub returns-clause-ready : goal.returns-clause-ready
