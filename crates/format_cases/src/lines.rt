@@ -46,7 +46,7 @@ fn bounds_of(case: &Case) -> io::Result<Bounds> {
 }
 
 /// Writes the answer of the next call, and says whether it is the last: a line in brackets, `!` for one that is too
-/// long, `.` at the end, `F` for a fault, `M` where the source gave too much.
+/// long, `.` at the end, `F` for a fault, `M` where the source gave too much, `E` where an earlier call had a fault.
 fn push_next<S: Source>(answer: &mut Buffer, reader: &mut LineReader, source: &mut S) -> bool {
     let (text, is_last) = match reader.next(source) {
         Ok(NextLine::Line) => {
@@ -56,8 +56,9 @@ fn push_next<S: Source>(answer: &mut Buffer, reader: &mut LineReader, source: &m
         Ok(NextLine::TooLong) => ("!", false),
         Ok(NextLine::End) => (".", true),
         Err(LineFault::Failed) => ("F", false),
-        Err(LineFault::TooMuch) => ("M", true),
+        Err(LineFault::TooMuch) => ("M", false),
         Err(LineFault::OutOfMemory) => ("out of memory", true),
+        Err(LineFault::EarlierFault) => ("E", true),
     };
     answer.push(text);
     is_last
@@ -79,45 +80,6 @@ fn push_lines<S: Source>(
     Ok(())
 }
 
-/// A source of the text that fails at these calls.
-fn source_of(alloc: Global, text: &[u8], failing: Seq<u64>) -> Result<MemorySource, AllocError> {
-    Ok(MemorySource::new(Seq::from(text.to_vec(alloc)?), failing))
-}
-
-/// Writes the answers over the text, where these calls fail.
-fn push_whole(
-    alloc: Global,
-    answer: &mut Buffer,
-    text: &[u8],
-    failing: Seq<u64>,
-    bounds: Bounds,
-) -> Result<(), AllocError> {
-    let mut source = source_of(alloc, text, failing)?;
-    push_lines(alloc, answer, &mut source, bounds)
-}
-
-/// The answers where the text is read byte by byte.
-fn read_singly(alloc: Global, text: &[u8], bounds: Bounds) -> Result<Buffer, AllocError> {
-    let inner = source_of(alloc, text, Seq::new(alloc))?;
-    let mut answer = Buffer::new(alloc);
-    push_lines(alloc, &mut answer, &mut OneByOne { inner }, bounds)?;
-    Ok(answer)
-}
-
-/// Writes the answers where no call fails, which are the same byte by byte unless the text is too long.
-fn push_both(
-    alloc: Global,
-    answer: &mut Buffer,
-    text: &[u8],
-    bounds: Bounds,
-) -> Result<(), AllocError> {
-    push_whole(alloc, answer, text, Seq::new(alloc), bounds)?;
-    if text.len() as u64 <= bounds.most {
-        answer.push_difference(", but byte by byte ", &read_singly(alloc, text, bounds)?);
-    }
-    Ok(())
-}
-
 /// The numbers of the calls that fail, divided by commas; none where the column is empty.
 fn failing_calls(alloc: Global, case: &Case) -> io::Result<Seq<u64>> {
     let mut numbers = Vec::new(alloc);
@@ -132,15 +94,28 @@ fn failing_calls(alloc: Global, case: &Case) -> io::Result<Seq<u64>> {
     Ok(Seq::from(numbers))
 }
 
+/// A source of the case's text that fails at the case's calls.
+fn source_of(alloc: Global, case: &Case) -> io::Result<MemorySource> {
+    let failing = failing_calls(alloc, case)?;
+    Ok(MemorySource::new(Seq::from(case.bytes(3).to_vec(alloc)?), failing))
+}
+
+/// The answers where the text is read byte by byte.
+fn read_singly(alloc: Global, case: &Case, bounds: Bounds) -> io::Result<Buffer> {
+    let inner = source_of(alloc, case)?;
+    let mut answer = Buffer::new(alloc);
+    push_lines(alloc, &mut answer, &mut OneByOne { inner }, bounds)?;
+    Ok(answer)
+}
+
 /// The most bytes of a line, the most of the source, the calls that fail, and the text: the answers of a reader's
-/// calls. They are the same byte by byte, where no call fails and the text isn't too long.
+/// calls, and, unless the text is too long, those over a source that gives one byte at a time, where they differ.
 pub fn read(alloc: Global, case: &Case, answer: &mut Buffer) -> io::Result<()> {
     let bounds = bounds_of(case)?;
-    let failing = failing_calls(alloc, case)?;
-    if failing.is_empty() {
-        push_both(alloc, answer, case.bytes(3), bounds)?;
-    } else {
-        push_whole(alloc, answer, case.bytes(3), failing, bounds)?;
+    let mut source = source_of(alloc, case)?;
+    push_lines(alloc, answer, &mut source, bounds)?;
+    if case.bytes(3).len() as u64 <= bounds.most {
+        answer.push_difference(", but byte by byte ", &read_singly(alloc, case, bounds)?);
     }
     Ok(())
 }

@@ -1,19 +1,20 @@
 -- Reading lines from a source of bytes. The lines are those of std's `str::lines`: a line feed ends a line, one
 -- carriage return before it is no part of the line, and the last line may lack its line feed.
-use Rattle.std.specs.Prelude.{◌≡◌, ◌⊎◌, ℕ, ◌+◌, ◌-◌, ◌<◌, List, [], ◌∷◌, ◌++◌, length, Option}
+use Rattle.std.specs.Prelude.{◌≡◌, ◌⊎◌, ℕ, ◌+◌, ◌-◌, ◌<◌, Bool, List, [], ◌∷◌, ◌++◌, length, Option}
 use Rattle.std.specs.Str.Lines.{lines}
 use Rattle.portal_base.specs.Outside.{Gives, IsAtEnd}
 use Rattle.portal_lines.specs.PartialLines.{HasNoFeed}
 
 -- The state of a reader of lines: the bytes that the source gave and that belong to no line returned so far, the line
--- returned last, the count of bytes that the source gave so far, the limit of bytes of a line without its end, and the
--- limit of bytes that the source may give.
+-- returned last, the count of bytes that the source gave so far, the limit of bytes of a line without its end, the limit
+-- of bytes that the source may give, and whether a call had a fault.
 pub record ReaderState : Type 0 where
   pub buffered : List ℕ
   pub line : List ℕ
   pub received : ℕ
   pub longest : ℕ
   pub limit : ℕ
+  pub has_failed : Bool
 
 -- Whatever comes after front, the lines of both are this line and then the lines of what comes after.
 abbrev pub EndsLine : List ℕ → List ℕ → Type 0

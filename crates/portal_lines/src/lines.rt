@@ -1,6 +1,6 @@
 //! Lines of a source of bytes, each of bounded length.
 ghost use Rattle.std.specs.Prelude.{◌≡◌, ◌↔◌, ◌<◌, ◌≤◌, ◌+◌, ◌≢◌, ◌==◌, ℕ, List, [], ◌++◌, ◌∷◌, length, drop};
-ghost use Rattle.std.specs.Prelude.{position, false, Ok, Err, IfOk, OnOk, OnErr};
+ghost use Rattle.std.specs.Prelude.{position, true, false, Ok, Err, IfOk, OnOk, OnErr, is_err};
 ghost use Rattle.std.specs.Str.Lines.{strip_carriage_return};
 ghost use Rattle.portal_base.specs.Outside.{Gives, Rose, IsAtEnd};
 ghost use Rattle.portal_lines.specs.Lines.{TakesLine, SkipsLine, FindsEnd, Receives, ReceivesNoEnd, LosesStart};
@@ -33,6 +33,8 @@ pub enum LineFault {
     /// The source gave more bytes than it may.
     TooMuch,
     OutOfMemory,
+    /// An earlier call had a fault, and the reader reads nothing more.
+    EarlierFault,
 }
 
 impl From<Failed> for LineFault {
@@ -223,7 +225,7 @@ impl PartialLine {
 }
 
 /// Reads lines. A line feed ends a line, one carriage return before it is no part of the line, and the last line may
-/// lack its line feed.
+/// lack its line feed. After a fault, which may lose the start of a line, it reads nothing more.
 #[derive(Drop)]
 pub struct LineReader {
     window: Window,
@@ -231,6 +233,7 @@ pub struct LineReader {
     received: u128,
     longest: usize,
     limit: u64,
+    has_failed: bool,
 }
 
 impl Model for LineReader {
@@ -244,6 +247,7 @@ impl Model for LineReader {
       received = r.received;
       longest = r.longest;
       limit = r.limit;
+      has_failed = r.has_failed;
     } };
 }
 
@@ -257,6 +261,7 @@ impl LineReader {
           received = 0;
           longest = longest;
           limit = limit;
+          has_failed = false;
         }) }
     {
         let window = Window::new(alloc)?;
@@ -269,6 +274,7 @@ impl LineReader {
             received: 0,
             longest,
             limit,
+            has_failed: false,
         })
     }
 
@@ -280,8 +286,8 @@ impl LineReader {
     }
 
     /// Reads to the end of the next line, and keeps at most `longest` + 1 bytes of it. A fault may lose the bytes of
-    /// the line that were read so far, and a later call goes on after them. After `TooMuch` each later call fails with
-    /// `TooMuch`.
+    /// the line that were read so far. So the reader is spent with its first fault: each later call reads nothing and
+    /// fails with `EarlierFault`, and no line lacks its start.
     pub fn next<S: Source>(&mut self, source: &mut S) -> Result<NextLine, LineFault>
         ensures longest { self.new.longest ≡ self.old.longest }
         ensures limit { self.new.limit ≡ self.old.limit }
@@ -306,20 +312,34 @@ impl LineReader {
         // The reader holds no complete line back.
         ensures unended { result ≡ Err LineFault.Failed →
             ReceivesNoEnd self.old (S.to_come source.old) self.new (S.to_come source.new) }
-        ensures too_much { (result ≡ Err LineFault.TooMuch) ↔ (self.new.limit < self.new.received) }
+        ensures too_much { (result ≡ Err LineFault.TooMuch)
+            ↔ ((self.old.has_failed ≡ false) × (self.new.limit < self.new.received)) }
         ensures within { OnOk result (self.new.received ≤ self.new.limit) }
+
+        // A call fails with `EarlierFault` exactly if a call before it failed, and then it reads nothing.
+        ensures fails { self.new.has_failed ≡ is_err result }
+        ensures earlier { (self.old.has_failed ≡ true) ↔ (result ≡ Err LineFault.EarlierFault) }
+        ensures unread { self.old.has_failed ≡ true →
+            (source.new ≡ source.old) × (self.new ≡ record self.old { line = [] }) }
     {
         self.partial.clear();
+        if self.has_failed {
+            return Err(LineFault::EarlierFault);
+        }
+        // Every way out of the loop is a fault, but for the two that take this back.
+        self.has_failed = true;
         loop {
             if self.received > u128::from(self.limit) {
                 return Err(LineFault::TooMuch);
             }
             if self.partial.take_from(self.longest, &mut self.window)? {
                 self.partial.strip();
+                self.has_failed = false;
                 return Ok(self.partial.measure(self.longest));
             }
             let count = self.window.fill(source)?;
             if count == 0 {
+                self.has_failed = false;
                 return Ok(self.partial.measure_last(self.longest));
             }
             self.received += count as u128;

@@ -149,11 +149,12 @@ fails_between state after before reading old new bytes gives counts unended begu
 }
 
 -- playing ended by a read fault, since the reader of lines failed
-pub read_failed : (fault : LineFault) (end : PlayEnd) → end ≡ end_of_fault fault → Some end ≡ Some playing.ReadFault
-    → fault ≡ line_fault.Failed
-read_failed line_fault.Failed end is ended = refl
-read_failed line_fault.TooMuch end is ended = absurd (cc)
-read_failed line_fault.OutOfMemory end is ended = absurd (cc)
+pub read_failed : (fault : LineFault) (end : PlayEnd) → (fault ≡ line_fault.EarlierFault → ⊥) → end ≡ end_of_fault fault
+    → Some end ≡ Some playing.ReadFault → fault ≡ line_fault.Failed
+read_failed line_fault.Failed end first is ended = refl
+read_failed line_fault.TooMuch end first is ended = absurd (cc)
+read_failed line_fault.OutOfMemory end first is ended = absurd (cc)
+read_failed line_fault.EarlierFault end first is ended = absurd (first refl)
 
 -- processing a line stopped, and with it the turn
 pub stops_turn : (limit : ℕ) (state after : State) (before reading : ReaderState) (old new : DeviceTrace)
@@ -370,24 +371,36 @@ plays_all first whole old mid new state after before reading r t few =
 pub record Keeps (first : State) (old new : DeviceTrace) (state : State) (reading : ReaderState) : Type 0 where
   pub longest : reading.longest ≡ LONGEST_LINE
   pub limit : reading.limit ≡ input_limit
+  pub goes_on : reading.has_failed ≡ false
   pub running : (whole : List ℕ) → old.to_come ≡ Some whole → Running first whole old new state reading
 
 pub keeps_start : (first : State) (old : DeviceTrace) (reading : ReaderState)
-    → reading ≡ record { buffered = []; line = []; received = 0; longest = LONGEST_LINE; limit = input_limit }
+    → reading
+    ≡ record {
+      buffered = [];
+      line = [];
+      received = 0;
+      longest = LONGEST_LINE;
+      limit = input_limit;
+      has_failed = false;
+    }
     → Keeps first old old first reading
 keeps_start first old reading new = record {
   longest = ap (λ (r : ReaderState). r.longest) new;
   limit = ap (λ (r : ReaderState). r.limit) new;
+  goes_on = ap (λ (r : ReaderState). r.has_failed) new;
   running = λ whole observed. running_start first whole old reading observed (ap (λ (r : ReaderState). r.buffered) new)
       (ap (λ (r : ReaderState). r.received) new);
 }
 
 pub keeps_turn : (first : State) (old mid new : DeviceTrace) (state after : State) (before reading : ReaderState)
     → Keeps first old mid state before → TakesTurn state after before reading mid new
-    → reading.longest ≡ before.longest → reading.limit ≡ before.limit → Keeps first old new after reading
-keeps_turn first old mid new state after before reading k t longest limit = record {
+    → reading.longest ≡ before.longest → reading.limit ≡ before.limit → reading.has_failed ≡ false
+    → Keeps first old new after reading
+keeps_turn first old mid new state after before reading k t longest limit goes_on = record {
   longest = longest ∙ k.longest;
   limit = limit ∙ k.limit;
+  goes_on = goes_on;
   running = λ whole observed. running_turn first whole old mid new state after before reading (k.running whole observed)
       t;
 }
@@ -489,7 +502,7 @@ plays_nothing limit first old whole observed =
     (begins_no_line first (stage_trace_of old) (stage_trace_of old) refl))
   where
     unread : ReaderState
-    unread = record { buffered = []; line = []; received = 0; longest = 0; limit = 0 }
+    unread = record { buffered = []; line = []; received = 0; longest = 0; limit = 0; has_failed = false }
 
     gives : Gives old.to_come [] old.to_come
     gives = subst (λ o. Gives o [] o) (sym observed) (whole, refl, refl)

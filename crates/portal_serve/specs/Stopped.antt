@@ -1,6 +1,6 @@
 -- How playing a script ends.
 use Rattle.portal_lines.specs.declared.lines.LineFault.{LineFault}
-use Rattle.portal_lines.specs.declared.lines.LineFault.TheVariants.{Failed, TooMuch}
+use Rattle.portal_lines.specs.declared.lines.LineFault.TheVariants.{Failed, TooMuch, EarlierFault}
 use Rattle.portal_lines.specs.declared.lines.LineFault.TheVariants.{OutOfMemory as no_memory}
 use Rattle.std.specs.Prelude.{ℕ}
 use Rattle.portal_serve.specs.declared.calls.CallStop.{CallStop}
@@ -13,11 +13,12 @@ abbrev pub end_of_call : CallStop → PlayEnd
 end_of_call call_stop.WriteFault = WriteFault
 end_of_call call_stop.OutOfMemory = OutOfMemory
 
--- the end of playing, where the next line can't be read
+-- The end of playing, where the next line can't be read. Playing ends with the first fault, so none is an earlier one.
 abbrev pub end_of_fault : LineFault → PlayEnd
 end_of_fault Failed = ReadFault
 end_of_fault TooMuch = TooLong
 end_of_fault no_memory = OutOfMemory
+end_of_fault EarlierFault = ReadFault
 
 -- The limit of lines that were begun and not processed at this end. Output can fail, and memory can run out, within a
 -- line. Input ends, fails or exceeds its limit between two lines.

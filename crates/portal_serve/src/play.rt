@@ -1,6 +1,6 @@
 //! Playing a script: the loop over its lines, which holds one line and the portal.
 ghost use Rattle.std.specs.Prelude.{◌≡◌, ◌≢◌, ◌↔◌, ◌<◌, ◌≤◌, ℕ, List, [], ◌∷◌, Some, None, Ok, Err, length};
-ghost use Rattle.std.specs.Prelude.{IfSome, OnOk, OnErr};
+ghost use Rattle.std.specs.Prelude.{IfSome, OnOk, OnErr, false};
 ghost use Rattle.portal_base.specs.Outside.{Rose, Takes, TakesPrefix};
 ghost use Rattle.portal_serve.specs.Played.{ProcessesLines, StopsLines, TakesTurn, EndsTurn, StopsTurn, FailsTurn};
 ghost use Rattle.portal_serve.specs.Played.{unless_empty};
@@ -130,6 +130,7 @@ fn end_of_fault(fault: LineFault) -> PlayEnd
         LineFault::Failed => PlayEnd::ReadFault,
         LineFault::TooMuch => PlayEnd::TooLong,
         LineFault::OutOfMemory => PlayEnd::OutOfMemory,
+        LineFault::EarlierFault => PlayEnd::ReadFault,
     }
 }
 
@@ -141,9 +142,11 @@ fn play_next<S: Source, O: Sink, C: Clock, N: Nonces>(
     input: &mut S,
     stage: &mut Stage<'_, '_, '_, O, C, N>,
 ) -> Option<PlayEnd>
-    requires { reader.old.longest ≡ LONGEST_LINE }
+    requires longest { reader.old.longest ≡ LONGEST_LINE }
+    requires goes_on { reader.old.has_failed ≡ false }
     ensures longest { reader.new.longest ≡ reader.old.longest }
     ensures limit { reader.new.limit ≡ reader.old.limit }
+    ensures goes_on { result ≡ None → reader.new.has_failed ≡ false }
 
     ensures more { result ≡ None → TakesTurn portal.old portal.new reader.old reader.new
         (with_input (S.to_come input.old) (trace_of O.taken C.given N.given stage.old))

@@ -19,7 +19,7 @@ lines-init g c = record {
 pub lines-preserved : goal.lines-preserved
 lines-preserved g c = record {
   kept = keeps_turn _ _ _ _ _ _ _ _ c.lines.invariant.kept (c.play_next.ensures.more c.in_default.is)
-      c.play_next.ensures.longest c.play_next.ensures.limit;
+      c.play_next.ensures.longest c.play_next.ensures.limit (c.play_next.ensures.goes_on c.in_default.is);
   reads = omega (arith, c.lines.invariant.reads, c.play_next.ensures.reads);
   writes = omega (arith, c.lines.invariant.writes, c.play_next.ensures.writes);
   loans = same_loans_on _ _ _ c.lines.invariant.loans c.play_next.ensures.loans;

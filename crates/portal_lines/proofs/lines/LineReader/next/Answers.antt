@@ -1,4 +1,4 @@
-use Rattle.std.proofs.Common.{◌≡◌, ◌∙◌, ◌<◌, ◌+◌, sym, ap, subst, arith, Ok, Err, Result, OnErr, length}
+use Rattle.std.proofs.Common.{◌≡◌, ◌∙◌, ◌<◌, ◌+◌, sym, ap, subst, arith, Ok, Err, Result, OnErr, length, true, false}
 use Rattle.portal_lines.specs.declared.lines.NextLine.TheVariants.{Line, TooLong, End}
 use Rattle.portal_lines.proofs.LineLemmas.{UnderWay-read, TakesLine-ended, SkipsLine-ended, AtLast, AtLast-read}
 use Rattle.portal_lines.proofs.LineLemmas.{SomeLine-last, TakesLine-last, SkipsLine-last, FindsEnd-last}
@@ -44,6 +44,7 @@ returns-in_err-count-clause-lost g c =
       received = c.loop-self.self-inside.received;
       longest = c.loop-self.self-inside.longest;
       limit = c.loop-self.self-inside.limit;
+      has_failed = true;
     }) (g.S.Source.to_come c.args.source.now) (g.S.Source.to_come c.loop-self.source)
     c.loop-self.self-inside.window c.loop-self.self-inside.partial.kept.items c.loop-self.self-inside.partial.is_over
     c.in_ok-take_from.field-0 taken.0 c.take_from.new.window (g.S.Source.to_come c.fill.new.source)
@@ -70,6 +71,7 @@ loop-self-preserved g c =
       bound = c.in_ok-take_from.ensures.bound inv.bound;
       counts = omega (arith, inv.counts, c.in_ok-count.ensures.counts);
       loan = c.in_ok-count.ensures.loan ∙ inv.loan;
+      spent = inv.spent;
     }
 
 -- what came is all
@@ -80,6 +82,7 @@ last : (g : _) (c : goal.After-measure_last g)
       received = c.loop-self.self-inside.received;
       longest = c.loop-self.self-inside.longest;
       limit = c.loop-self.self-inside.limit;
+      has_failed = false;
     }) (g.S.Source.to_come c.args.source.now)
     (g.S.Source.to_come c.fill.new.source) c.take_from.new.self.kept.items c.take_from.new.self.is_over
 last g c =

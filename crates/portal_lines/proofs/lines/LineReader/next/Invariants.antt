@@ -1,4 +1,4 @@
-use Rattle.std.proofs.Common.{◌≡◌, ◌+◌, ◌-◌, ◌≤◌, length}
+use Rattle.std.proofs.Common.{◌≡◌, ◌+◌, ◌-◌, ◌≤◌, length, true}
 use Rattle.portal_lines.proofs.LineLemmas.{UnderWay}
 use Rattle.portal_lines.proofs.lines.LineReader.next.Given as goal
 
@@ -13,6 +13,7 @@ invariant-loop-self g l = record {
   bound : length l.self-inside.partial.kept.items ≤ l.self-inside.longest + 1;
   counts : g.S.Source.faults l.fn.source ≤ g.S.Source.faults l.source;
   loan : g.S.Source.loan l.source ≡ g.S.Source.loan l.fn.source;
+  spent : l.self-inside.has_failed ≡ true;
 }
 
 abbrev pub decreases-loop-self : goal.decreases-loop-self
