@@ -3,13 +3,13 @@ use Rattle.std.proofs.Common.{◌≡◌, ℕ, zero, suc, ◌+◌, ◌≤◌, Lis
 use Rattle.std.proofs.Common.{Result, Option, Some, None, Ok, Err}
 use Rattle.std.proofs.Common.{map, refl, sym, ap, subst, ◌∙◌, append_assoc, append-nil, length-append, arith}
 use Rattle.std.proofs.Common.{inl, inr}
-use Rattle.std.specs.Prelude.{option_map, IsTrue}
+use Rattle.std.specs.Prelude.{option_map, IsTrue, OnOk}
 use Rattle.std.proofs.lemmas.List.{map-append}
 use Rattle.portal_base.specs.Counted.{next_count}
 use Rattle.portal_base.specs.Outside.{GivesOne, Rose}
 use Rattle.portal_base.specs.declared.outside.Failed.{Failed}
 use Rattle.portal_core.specs.State.{State}
-use Rattle.portal_serve.proofs.Working.{DrawsAll-none, DrawsAll-more, Rose-before}
+use Rattle.portal_serve.proofs.Working.{DrawsAll-none, DrawsAll-more}
 use Rattle.portal_serve.specs.Desk.{Visit, DeskTrace, ServesAll, ServesLinks, ServesNext, ServesDesk, GivesAll}
 use Rattle.portal_serve.specs.Desk.{TakesAll}
 use Rattle.portal_serve.specs.Desk.{counted}
@@ -165,6 +165,7 @@ next_failed trace digests state old new fault to_come taken_back count moments n
   served = (serves_none trace digests state 1 old new to_come taken_back count moments nonces).0;
   one = λ is. absurd (cc);
   ended = λ is. absurd (cc);
+  quiet = tt;
   failed = rose;
 }
 
@@ -172,11 +173,12 @@ next_failed trace digests state old new fault to_come taken_back count moments n
 pub next_none : {Peer : Type 0} (trace : Peer → LinkTrace) (digests : Digests) (state : State)
     (old new : DeskTrace Peer) → new.to_come ≡ old.to_come → new.taken_back ≡ old.taken_back
     → new.count ≡ old.count → new.moments ≡ old.moments → new.nonces ≡ old.nonces → IsTrue new.is_at_end
-    → ServesNext trace digests state old new state (Ok false)
-next_none trace digests state old new to_come taken_back count moments nonces at_end = record {
+    → new.faults ≡ old.faults → ServesNext trace digests state old new state (Ok false)
+next_none trace digests state old new to_come taken_back count moments nonces at_end quiet = record {
   served = (serves_none trace digests state 1 old new to_come taken_back count moments nonces).0;
   one = λ is. absurd (cc);
   ended = λ is. at_end;
+  quiet = quiet;
   failed = tt;
 }
 
@@ -188,43 +190,58 @@ pub next_one : {Peer : Type 0} (trace : Peer → LinkTrace) (digests : Digests) 
     → taken_back ≡ old.taken_back → TakesAll taken_back (v.back ∷ []) new.taken_back
     → count ≡ old.count → new.count ≡ next_count count
     → DrawsAll old.moments (v.moment ∷ []) new.moments → DrawsAll old.nonces (v.nonce ∷ []) new.nonces
-    → ServesNext trace digests state old new after (Ok true)
+    → new.faults ≡ old.faults → ServesNext trace digests state old new after (Ok true)
 next_one trace digests state after end old new v to_come taken_back count serves gave left kept back same one clock
-    numbers =
+    numbers quiet =
     let served = serves_one trace digests state after end old new v serves
     (subst (λ o. GivesAll old.to_come (v.link ∷ []) o) (sym left) (gives_one old.to_come to_come v.link gave))
     (subst (λ o. TakesAll o (v.back ∷ []) new.taken_back) kept back) (one ∙ ap next_count same) clock numbers in
-    record { served = served.0; one = λ is. served.1; ended = λ is. absurd (cc); failed = tt }
+    record { served = served.0; one = λ is. served.1; ended = λ is. absurd (cc); quiet = quiet; failed = tt }
 
 -- ---- the turns of a desk
+
+-- a turn that ended well had no fault
+turn_quiet : {P : Type 0} (result : Result Bool Failed) (b : Bool) → result ≡ Ok b → OnOk result P → P
+turn_quiet (Ok x) b is quiet = quiet
+turn_quiet (Err fault) b is quiet = absurd (cc)
 
 -- there was no further link
 pub desk_ends : {Peer : Type 0} (trace : Peer → LinkTrace) (digests : Digests) (first state after : State)
     (limit m : ℕ) (a b c : DeskTrace Peer) (result : Result Bool Failed) → result ≡ Ok false → suc m ≤ limit
-    → Counted trace digests first m a b state m → ServesNext trace digests state b c after result
+    → b.faults ≡ a.faults → Counted trace digests first m a b state m
+    → ServesNext trace digests state b c after result
     → ServesDesk trace digests first limit a c after (Ok tt)
-desk_ends trace digests first state after limit m a b c result none more so_far next =
+desk_ends trace digests first state after limit m a b c result none more quiet so_far next =
     let within : m + length next.served.visits ≤ limit = omega (arith, more, next.served.few) in
     record {
       served = (serves_more trace digests first state after m 1 limit m (length next.served.visits) a b c within so_far
           (next.served, refl)).0;
       ended = λ is. inl (next.ended none);
+      quiet = turn_quiet result false none next.quiet ∙ quiet;
       failed = tt;
     }
 
 -- the listener failed
 pub desk_fails : {Peer : Type 0} (trace : Peer → LinkTrace) (digests : Digests) (first state after : State)
-    (limit m : ℕ) (a b c : DeskTrace Peer) (fault : Failed) → suc m ≤ limit → a.faults ≤ b.faults
+    (limit m : ℕ) (a b c : DeskTrace Peer) (fault : Failed) → suc m ≤ limit → b.faults ≡ a.faults
     → Counted trace digests first m a b state m
     → ServesNext trace digests state b c after (Err fault) → ServesDesk trace digests first limit a c after (Err fault)
-desk_fails trace digests first state after limit m a b c fault more faults so_far next =
+desk_fails trace digests first state after limit m a b c fault more quiet so_far next =
     let within : m + length next.served.visits ≤ limit = omega (arith, more, next.served.few) in
     record {
       served = (serves_more trace digests first state after m 1 limit m (length next.served.visits) a b c within so_far
           (next.served, refl)).0;
       ended = λ is. absurd (cc);
-      failed = Rose-before a.faults b.faults c.faults faults next.failed;
+      quiet = tt;
+      failed = subst (λ n. Rose n c.faults) quiet next.failed;
     }
+
+-- one link more had no fault
+pub goes_on_quiet : {Peer : Type 0} (trace : Peer → LinkTrace) (digests : Digests) (state after : State) (faults : ℕ)
+    (b c : DeskTrace Peer) (result : Result Bool Failed) → result ≡ Ok true → b.faults ≡ faults
+    → ServesNext trace digests state b c after result → c.faults ≡ faults
+goes_on_quiet trace digests state after faults b c result one quiet next =
+    turn_quiet result true one next.quiet ∙ quiet
 
 -- one link more
 pub desk_goes_on : {Peer : Type 0} (trace : Peer → LinkTrace) (digests : Digests) (first state after : State)
@@ -236,8 +253,8 @@ desk_goes_on trace digests first state after m a b c result one so_far next =
 
 -- as many links as the limit were served
 pub desk_is_full : {Peer : Type 0} (trace : Peer → LinkTrace) (digests : Digests) (first after : State)
-    (limit m : ℕ) (a b : DeskTrace Peer) → m ≡ limit → Counted trace digests first m a b after m
-    → ServesDesk trace digests first limit a b after (Ok tt)
-desk_is_full trace digests first after limit m a b full so_far =
+    (limit m : ℕ) (a b : DeskTrace Peer) → m ≡ limit → b.faults ≡ a.faults
+    → Counted trace digests first m a b after m → ServesDesk trace digests first limit a b after (Ok tt)
+desk_is_full trace digests first after limit m a b full quiet so_far =
     let all = serves_within trace digests first after m limit m a b (omega (arith, full)) so_far in
-    record { served = all.0; ended = λ is. inr (all.1 ∙ full); failed = tt }
+    record { served = all.0; ended = λ is. inr (all.1 ∙ full); quiet = quiet; failed = tt }

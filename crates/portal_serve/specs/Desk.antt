@@ -1,6 +1,6 @@
 -- A desk: the links that its listener gave are served one after another, and go back to it.
 use Rattle.std.specs.Prelude.{◌≡◌, ◌⊎◌, ℕ, zero, suc, ℤ, ◌≤◌, Bool, true, false, IsTrue, List, [], ◌∷◌, ◌++◌, length}
-use Rattle.std.specs.Prelude.{map, Option, Some, None, MatchOption, option_map, Result, Ok, OnErr}
+use Rattle.std.specs.Prelude.{map, Option, Some, None, MatchOption, option_map, Result, Ok, OnOk, OnErr}
 use Rattle.portal_base.specs.Counted.{next_count}
 use Rattle.portal_base.specs.Outside.{Rose}
 use Rattle.portal_base.specs.declared.outside.Failed.{Failed}
@@ -73,18 +73,20 @@ pub record ServesLinks {Peer : Type 0} (trace : Peer → LinkTrace) (digests : D
   pub clock : DrawsAll old.moments (map (λ v. v.moment) visits) new.moments
   pub numbers : DrawsAll old.nonces (map (λ v. v.nonce) visits) new.nonces
 
--- The next link was served, or there was none, or the listener failed.
+-- The next link was served, or there was none, and the listener had no fault. Or the listener failed.
 pub record ServesNext {Peer : Type 0} (trace : Peer → LinkTrace) (digests : Digests) (state : State)
     (old new : DeskTrace Peer) (after : State) (result : Result Bool Failed) : Type 0 where
   pub served : ServesLinks trace digests state 1 old new after
   pub one : result ≡ Ok true → length served.visits ≡ 1
   pub ended : result ≡ Ok false → IsTrue new.is_at_end
+  pub quiet : OnOk result (new.faults ≡ old.faults)
   pub failed : OnErr result (Rose old.faults new.faults)
 
--- A desk served its links to the end: its listener is at its end, or `limit` links were served. Or it stopped where the
--- listener failed.
+-- A desk served its links to the end: its listener is at its end, or `limit` links were served, and the listener had no
+-- fault meanwhile. Or it stopped where the listener failed.
 pub record ServesDesk {Peer : Type 0} (trace : Peer → LinkTrace) (digests : Digests) (state : State) (limit : ℕ)
     (old new : DeskTrace Peer) (after : State) (result : Result Unit Failed) : Type 0 where
   pub served : ServesLinks trace digests state limit old new after
   pub ended : (let r : Result Unit Failed = Ok tt in result ≡ r) → IsTrue new.is_at_end ⊎ (length served.visits ≡ limit)
+  pub quiet : OnOk result (new.faults ≡ old.faults)
   pub failed : OnErr result (Rose old.faults new.faults)

@@ -9,6 +9,7 @@ use Rattle.action_api.specs.declared.early.Early.{Early}
 use Rattle.action_api.specs.declared.early.Early.TheVariants as early
 use Rattle.http_front.specs.Request.{IsReceived, UnlessFails}
 use Rattle.http_front.specs.Response.{response_bytes}
+use Rattle.http_front.specs.Taken.{Leaves}
 use Rattle.http_front.specs.declared.fault.FrontFault.{FrontFault}
 use Rattle.http_front.specs.declared.fault.FrontFault.TheVariants.{BadHead, NoLength, TooLong, NoRoute, Method}
 use Rattle.http_front.specs.declared.fault.FrontFault.TheVariants.{EndedEarly, LinkFault, OutOfMemory}
@@ -134,9 +135,10 @@ abbrev pub IsReadingAnswer : List ℕ → Option Bool → Type 0
 IsReadingAnswer name answer = answer ≡ is_reading_action name
 
 -- A connection was served: a request or a fault was received, which is the one of the link's bytes where they are
--- observable, and its response was written.
+-- observable, its response was written, and no byte was taken but those of what was received.
 pub record Serves (digests : Digests) (state : State) (moment : ℤ) (nonce : ℕ) (old new : LinkTrace) (end : Served)
     (after : State) : Type 0 where
   pub received : Result Incoming FrontFault
   pub receives : IfSome old.to_come (λ bytes. UnlessFails received (IsReceived IsReadingAnswer bytes received))
+  pub leaves : Leaves IsReadingAnswer old.to_come new.to_come received
   pub processes : Processes digests state moment nonce received old new end after

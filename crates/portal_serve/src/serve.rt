@@ -191,6 +191,7 @@ fn write<K: Link>(link: &mut K, status: u16, text: &[u8]) -> Served
     ensures writes { Writes (status, text.now)
         (link_trace (K.to_come link.old) (K.taken link.old) (K.faults link.old))
         (link_trace (K.to_come link.new) (K.taken link.new) (K.faults link.new)) result }
+    ensures to_come { K.to_come link.new ≡ K.to_come link.old }
     ensures counts { K.faults link.old ≤ K.faults link.new }
 {
     match send(link, status, text) {
@@ -213,6 +214,7 @@ fn answer<K: Link>(
         (outcome_of_incoming tokens.now portal.old moment nonce.0 incoming.now) portal.old
         (link_trace (K.to_come link.old) (K.taken link.old) (K.faults link.old))
         (link_trace (K.to_come link.new) (K.taken link.new) (K.faults link.new)) result portal.new }
+    ensures to_come { K.to_come link.new ≡ K.to_come link.old }
     ensures counts { K.faults link.old ≤ K.faults link.new }
 {
     match process(alloc, portal, tokens, incoming, moment, nonce) {
@@ -230,6 +232,7 @@ fn answer_fault<K: Link>(link: &mut K, fault: FrontFault) -> Served
         (link_trace (K.to_come link.old) (K.taken link.old) (K.faults link.old))
         (link_trace (K.to_come link.new) (K.taken link.new) (K.faults link.new)) result }
     ensures failed { fault ≡ FrontFault.LinkFault → (result ≡ Served.LinkFault) × (link.new ≡ link.old) }
+    ensures to_come { K.to_come link.new ≡ K.to_come link.old }
     ensures counts { K.faults link.old ≤ K.faults link.new }
 {
     match fault_reply(fault) {
@@ -239,8 +242,9 @@ fn answer_fault<K: Link>(link: &mut K, fault: FrontFault) -> Served
     }
 }
 
-/// Reads one request off the link, makes its call for the token's user with this moment and nonce, and writes the
-/// reply. Where memory runs out, the reply is 507, and its bytes take no memory.
+/// Reads one request off the link, and nothing after it but the rest of the piece in which it ends. It makes the call for
+/// the token's user with this moment and nonce, and writes the reply. Where memory runs out, the reply is 507, and its
+/// bytes take no memory.
 pub fn serve_link<K: Link>(
     alloc: Global,
     portal: &mut Portal,

@@ -1,10 +1,10 @@
-use Rattle.std.proofs.Common.{◌≡◌, ◌≤◌, false}
+use Rattle.std.proofs.Common.{◌≡◌, false}
 use Rattle.portal_serve.proofs.Desking.{Counted}
 use Rattle.portal_serve.specs.Desk.{desk_trace}
 use Rattle.portal_serve.specs.Served.{link_trace}
 use Rattle.portal_serve.proofs.desk.serve_desk.Given as goal
 
--- each turn so far served a link, and none is out
+-- each turn so far served a link and had no fault, and none is out
 abbrev pub invariant-loop : goal.invariant-loop
 invariant-loop g l = record {
   home : g.L.Listener.is_out l.desk.listener ≡ false;
@@ -18,5 +18,5 @@ invariant-loop g l = record {
       (g.L.Listener.count l.desk.listener) (g.L.Listener.is_at_end l.desk.listener)
       (g.L.Listener.faults l.desk.listener) (g.C.Clock.given l.desk.clock) (g.N.Nonces.given l.desk.nonces))
       l.portal l.counter;
-  counts : g.L.Listener.faults l.fn.desk.listener ≤ g.L.Listener.faults l.desk.listener;
+  quiet : g.L.Listener.faults l.desk.listener ≡ g.L.Listener.faults l.fn.desk.listener;
 }

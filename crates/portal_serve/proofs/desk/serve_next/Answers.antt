@@ -10,6 +10,7 @@ returns-in-Ok-None-clause-next g c =
     let home = c.accept.ensures.out ∙ ap is_some_link (c.in-Ok-None.is ∙ ap (λ p. Ok p) c.in-Ok-None.field-0-is) in
     next_none _ _ _ _ _ (c.accept.ensures.kept home) c.accept.ensures.taken_back c.accept.ensures.count refl refl
     (c.accept.ensures.end_kept home ∙ c.in-Ok-None.ensures.end.0 (ap is_some c.in-Ok-None.field-0-is))
+    c.in-Ok-None.ensures.quiet
 
 pub returns-in-Err-clause-next : goal.returns-in-Err-clause-next
 returns-in-Err-clause-next g c =
@@ -30,4 +31,4 @@ returns-clause-next g c =
     (subst (λ o. IfSome o (λ link. GivesOne (g.L.Listener.to_come c.args.desk.now.listener) link
     (g.L.Listener.to_come c.accept.new.self))) c.in-Ok-Some.field-0-is c.in-Ok-Some.ensures.link)
     c.finish.ensures.to_come c.accept.ensures.taken_back c.finish.ensures.taken_back c.accept.ensures.count
-    c.finish.ensures.count c.now-moment.ensures c.next-nonce.ensures
+    c.finish.ensures.count c.now-moment.ensures c.next-nonce.ensures (c.finish.ensures.faults ∙ c.in-Ok-Some.ensures.quiet)

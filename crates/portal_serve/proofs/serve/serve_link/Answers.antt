@@ -1,6 +1,6 @@
 -- The request is the one of the link's bytes, and what was written after it was written after the start of serving.
 use Rattle.std.proofs.Common.{Err, Ok, ap, refl}
-use Rattle.portal_serve.proofs.Serving.{answers_since, fault_since, receives_reading}
+use Rattle.portal_serve.proofs.Serving.{answers_since, fault_since, leaves_reading, receives_reading}
 use Rattle.portal_serve.specs.Served.{LinkTrace, link_trace}
 use Rattle.portal_serve.proofs.serve.serve_link.Goals as goal
 
@@ -15,6 +15,8 @@ returns-in-Ok-clause-served g c =
     record {
       received = Ok c.in-Ok.incoming;
       receives = receives_reading _ (λ name answer is. is) _ (Ok c.in-Ok.incoming) c.in-Ok.ensures.request;
+      leaves = leaves_reading _ (λ name answer is. is) _ _ _ (Ok c.in-Ok.incoming) c.answer.ensures.to_come
+          c.in-Ok.ensures.leaves;
       processes = answers_since c.in-Ok.incoming _ _ old middle new _ _ c.in-Ok.ensures.taken c.in-Ok.ensures.counts
           c.answer.ensures.answers;
     }
@@ -30,6 +32,8 @@ returns-in-Err-clause-served g c =
     record {
       received = Err c.in-Err.fault;
       receives = receives_reading _ (λ name answer is. is) _ (Err c.in-Err.fault) c.in-Err.ensures.request;
+      leaves = leaves_reading _ (λ name answer is. is) _ _ _ (Err c.in-Err.fault) c.answer_fault.ensures.to_come
+          c.in-Err.ensures.leaves;
       processes = (
         fault_since c.in-Err.fault old middle new _ c.in-Err.ensures.taken c.in-Err.ensures.counts
             (λ is. c.in-Err.ensures.failed (ap (λ f. Err f) is)) c.answer_fault.ensures.writes
