@@ -12,7 +12,10 @@ use Rattle.portal_base.specs.declared.json_value.Json.{Json, Map}
 use Rattle.action_api.specs.Request.{early_of, if_dictionary}
 use Rattle.action_api.specs.declared.early.Early.{Early}
 use Rattle.action_api.specs.declared.early.Early.TheVariants.{TooLong, NotJson}
-use Rattle.portal_serve.specs.declared.script.TheConstants.{LONGEST_LINE}
+
+-- The most bytes of a script's line without its end: 256 KiB, as many as those of a call's body.
+abbrev pub longest_line : ℕ
+longest_line = 262144
 
 abbrev pub is_nonempty : List ℕ → Bool
 is_nonempty line = nat_lt 0 (length line)
@@ -63,7 +66,7 @@ call_of_json json = do
 
 -- the line, where it isn't too long
 abbrev pub if_short : List ℕ → Result (List ℕ) Early
-if_short line = if nat_lt LONGEST_LINE (length line) then Err TooLong else Ok line
+if_short line = if nat_lt longest_line (length line) then Err TooLong else Ok line
 
 -- the JSON value of a line, where it is JSON and each of its numbers is an `i64` or a `u64`
 abbrev pub json_of_line : List ℕ → Result Json Early
