@@ -28,7 +28,7 @@ use Rattle.portal_load.proofs.Passing.{makes_on_append, makes_on_none, makes_on_
 use Rattle.portal_load.proofs.Passing.{refuses_on_within, stops_on_after, stops_on_one}
 use Rattle.portal_load.proofs.Passing.{stops_on_append, stops_on_none, stops_on_within}
 use Rattle.portal_load.specs.Load.{call_of, create_body, create_call, insert_call}
-use Rattle.portal_load.specs.Progress.{CallsEnd, InsertsEnd, MakesOn, RefusesOn, StopsOn, inserts_for}
+use Rattle.portal_load.specs.Progress.{CallsEnd, InsertsEnd, MakesOn, RefusesOn, StopsOn, StopsReading, inserts_for}
 use Rattle.portal_load.specs.Progress.{pieces_until_fault}
 use Rattle.portal_load.specs.Stop.{fault_for_stop, stop_for_fault}
 use Rattle.portal_load.specs.declared.load.Task.{Task}
@@ -159,6 +159,40 @@ goes_on_insert task resource state after insert body remaining left old new same
       (insert_is task resource given.0 insert body same is given.1) makes,
 )
 
+refused_is : (fault : CallFault) → stop_for_fault fault ≡ Refused → fault ≡ call_fault.Refused
+refused_is call_fault.Refused is = refl
+refused_is call_fault.WriteFault is = absurd (cc)
+refused_is call_fault.OutOfMemory is = absurd (cc)
+
+-- an insert that was refused
+pub refuses_insert : (r : Result Bool LoadStop) (fault : CallFault) (task : Task) (resource : List ℕ)
+    (state after : State)
+    (insert : Insert) (body : Json) (remaining left : Option Pieces) (old new : StageTrace)
+    → (stop : LoadStop) × (r ≡ Err stop) × (stop ≡ stop_for_fault fault) → resource ≡ task.resource.now
+    → body ≡ insert.body → Answers resource remaining (Ok (Some insert)) left
+    → CallsEnd state (call_of task.caller.now (codes "datastore_upsert") body ∷ []) after old new fault
+    → r ≡ Err Refused → StopsReading task state remaining after left old new
+refuses_insert r fault task resource state after insert body remaining left old new exit same is given ended refused
+    pieces observed =
+    let rest = remaining_more remaining left given.0 pieces observed given.2 in
+    let stopped : stop_for_fault fault ≡ Refused = cc (exit.1, exit.2, refused) in (
+      rest.0,
+      rest.1,
+      record {
+        granted = [];
+        refused = given.0;
+        splits = ap (λ (p : Pieces). p.pieces) rest.2;
+        middle = state;
+        on = old;
+        makes = makes_on_none state old;
+        refuses = subst (λ (call : ScriptCall). RefusesOn state (call ∷ []) after old new)
+            (insert_is task resource given.0 insert body same is given.1)
+            (subst (λ (f : CallFault). CallsEnd state
+            (call_of task.caller.now (codes "datastore_upsert") body ∷ []) after old new f)
+            (refused_is fault stopped) ended);
+      },
+    )
+
 -- ---- the end of inserts by a fault of the rows
 
 -- where a fault of the CSV stops a load
@@ -167,6 +201,14 @@ pub record ReportsFault (why : LoadFault) (stop : LoadStop) : Type 0 where
   pub too_long : (why ≡ fault.TooLong) ↔ (stop ≡ DataFault (codes "input too long"))
   pub reported : stop ≢ ReadFault → (stop ≡ DataFault (load_fault_text why)) ⊎ (stop ≡ OutOfMemory)
   pub memory : why ≡ fault.OutOfMemory → stop ≡ OutOfMemory
+
+-- a fault of the CSV is no refusal
+pub fault_is_no_refusal : (why : LoadFault) (stop : LoadStop) → ReportsFault why stop → stop ≢ Refused
+fault_is_no_refusal why stop reports is = by (reports.reported (λ read. absurd (cc)))
+  where
+    by : (stop ≡ DataFault (load_fault_text why)) ⊎ (stop ≡ OutOfMemory) → ⊥
+    by (inl other) = absurd (cc)
+    by (inr other) = absurd (cc)
 
 -- a fault of a row or of the reading ends the inserts before its piece
 ends_faulty : (task : Task) (state : State) (why : LoadFault) (pieces : Pieces) (on : StageTrace) (stop : LoadStop)
@@ -361,6 +403,31 @@ pub plays_end : (task : Task) (state mid after : State) (first now : Option Piec
 plays_end task state mid after first now old on new stop plays ended pieces observed =
     let to = plays pieces observed in
     to_end task state mid after pieces to.0 old on new stop to.2 (ended to.0 to.1)
+
+-- one more was refused
+pub plays_refused : (task : Task) (state mid after : State) (first now next : Option Pieces) (old on new : StageTrace)
+    → PlaysTo task state first mid now old on → StopsReading task mid now after next on new
+    → StopsReading task state first after next old new
+plays_refused task state mid after first now next old on new plays stops pieces observed =
+    let to = plays pieces observed in
+    let more = stops to.0 to.1 in
+    let r = more.2 in (
+      more.0,
+      more.1,
+      record {
+        granted = to.2.first ++ r.granted;
+        refused = r.refused;
+        splits = to.2.splits ∙ ap (λ (p : List (List Json)). to.2.first ++ p) r.splits
+            ∙ sym (append_assoc to.2.first r.granted (r.refused ∷ more.0.pieces));
+        middle = r.middle;
+        on = r.on;
+        makes = subst (λ (calls : List ScriptCall). MakesOn state calls r.middle old r.on)
+            (sym (inserts-append task to.2.first r.granted))
+            (makes_on_append state mid r.middle (inserts_for task to.2.first) (inserts_for task r.granted) old on r.on
+            to.2.makes r.makes);
+        refuses = r.refuses;
+      },
+    )
 
 -- no further one was begun
 pub plays_stop : (most : ℕ) (task : Task) (state mid : State) (first now : Option Pieces) (old on : StageTrace)

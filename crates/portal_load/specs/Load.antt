@@ -132,7 +132,8 @@ FindsFault text task state whole after old new =
     ⊎ (((why : LoadFault) × LoadsToFault why task state whole after old new × (text ≡ load_fault_text why))
     ⊎ (LoadsPart 0 task state whole after old new × (text ≡ codes "input too long")))
 
--- What a load of a CSV did from a state, by its end. Input fails, or exceeds its limit, between two calls.
+-- What a load of a CSV did from a state, by its end. Input fails, or exceeds its limit, between two calls; then the bytes
+-- that were read may hold further pieces, for which no call was made.
 abbrev pub Loads : LoadTask → State → List ℕ → State → DeviceTrace → DeviceTrace → Result Unit LoadStop → Type 0
 Loads task state whole after old new (Ok loaded) = LoadsAll task state whole after old new
 Loads task state whole after old new (Err stop.ReadFault) = LoadsPart 0 task state whole after old new

@@ -1,5 +1,5 @@
 -- What the parts of a load did: the calls that were made, and what passed the devices.
-use Rattle.std.specs.Prelude.{◌≡◌, ◌⊎◌, ℕ, ℤ, List, map, Some, Result, Ok, Err, codes}
+use Rattle.std.specs.Prelude.{◌≡◌, ◌⊎◌, ℕ, ℤ, List, [], ◌∷◌, ◌++◌, map, Option, Some, Result, Ok, Err, codes}
 use Rattle.portal_base.specs.Outside.{Takes}
 use Rattle.portal_base.specs.declared.json_value.Json.{Json}
 use Rattle.portal_core.specs.State.{State}
@@ -71,3 +71,21 @@ InsertsEnd task state pieces after old new (stop.DataFault text) =
     × MakesOn state (inserts_for task pieces.pieces) after old new)
     ⊎ ((text ≡ codes "input too long") × StopsOn 0 state (inserts_for task pieces.pieces) after old new)
 InsertsEnd task state pieces after old new stop.Refused = RefusesOn state (inserts_for task pieces.pieces) after old new
+
+-- A refusal ended the inserts: those of the first pieces were granted, and that of the next one was refused. `left` is
+-- what the reader of inserts has left, which is all after it: no insert was read after the refused one.
+pub record RefusesInsert (task : Task) (state : State) (pieces : Pieces) (after : State) (left : Pieces)
+    (old new : StageTrace) : Type 0 where
+  pub granted : List (List Json)
+  pub refused : List Json
+  pub splits : pieces.pieces ≡ granted ++ refused ∷ left.pieces
+  pub middle : State
+  pub on : StageTrace
+  pub makes : MakesOn state (inserts_for task granted) middle old on
+  pub refuses : RefusesOn middle (inserts_for task (refused ∷ [])) after on new
+
+-- The same where the pieces are observable: what the reader had left before, and what it has left now.
+abbrev pub StopsReading : Task → State → Option Pieces → State → Option Pieces → StageTrace → StageTrace → Type 0
+StopsReading task state first after now old new =
+    (pieces : Pieces) → first ≡ Some pieces
+    → (left : Pieces) × (now ≡ Some left) × RefusesInsert task state pieces after left old new

@@ -13,7 +13,8 @@ ghost use Rattle.portal_serve.specs.Run.{device_trace, with_input, GaveTooMuch};
 ghost use Rattle.portal_serve.specs.Stage.{AreSameLoans, trace_of};
 ghost use Rattle.portal_load.specs.Load.{Loads, LoadsWith, ReportsSchema, call_of, create_call, load_task};
 ghost use Rattle.portal_load.specs.Load.{schema_text};
-ghost use Rattle.portal_load.specs.Progress.{CallsEnd, InsertsEnd, MakesOn, inserts_for, pieces_until_fault};
+ghost use Rattle.portal_load.specs.Progress.{CallsEnd, InsertsEnd, MakesOn, StopsReading, inserts_for};
+ghost use Rattle.portal_load.specs.Progress.{pieces_until_fault};
 ghost use Rattle.portal_load.specs.Stop.{fault_for_stop, status_for_load};
 
 use crate::stop::{CallFault, LoadStop};
@@ -192,7 +193,7 @@ fn play_create<O: Sink, C: Clock, N: Nonces>(
     play_call(alloc, portal, task, "datastore_create", body, size, stage)
 }
 
-/// Plays the next insert, and returns whether there was one.
+/// Plays the next insert, and returns whether there was one. If it is refused, no further one is read.
 fn play_insert<S: Source, O: Sink, C: Clock, N: Nonces>(
     alloc: Global,
     portal: &mut Portal,
@@ -213,6 +214,9 @@ fn play_insert<S: Source, O: Sink, C: Clock, N: Nonces>(
     ensures ended { IfErr result (λ stop. (pieces : Pieces) → inserts.old.remaining ≡ Some pieces
         → InsertsEnd task.now portal.old pieces portal.new
         (trace_of O.taken C.given N.given stage.old) (trace_of O.taken C.given N.given stage.new) stop) }
+    ensures refused { result ≡ Err LoadStop.Refused → StopsReading task.now portal.old inserts.old.remaining
+        portal.new inserts.new.remaining
+        (trace_of O.taken C.given N.given stage.old) (trace_of O.taken C.given N.given stage.new) }
     ensures received { IsGiven S.to_come inserts.old inserts.new }
     ensures read_fault { result ≡ Err LoadStop.ReadFault
         → Rose (S.faults inserts.old.source) (S.faults inserts.new.source) }
@@ -235,7 +239,7 @@ fn play_insert<S: Source, O: Sink, C: Clock, N: Nonces>(
     }
 }
 
-/// Plays all remaining inserts.
+/// Plays all remaining inserts, up to the first that isn't granted. After a refused one no further one is read.
 fn play_inserts<S: Source, O: Sink, C: Clock, N: Nonces>(
     alloc: Global,
     portal: &mut Portal,
@@ -252,6 +256,9 @@ fn play_inserts<S: Source, O: Sink, C: Clock, N: Nonces>(
     ensures ended { IfErr result (λ stop. (pieces : Pieces) → inserts.old.remaining ≡ Some pieces
         → InsertsEnd task.now portal.old pieces portal.new
         (trace_of O.taken C.given N.given stage.old) (trace_of O.taken C.given N.given stage.new) stop) }
+    ensures refused { result ≡ Err LoadStop.Refused → StopsReading task.now portal.old inserts.old.remaining
+        portal.new inserts.new.remaining
+        (trace_of O.taken C.given N.given stage.old) (trace_of O.taken C.given N.given stage.new) }
     ensures received { IsGiven S.to_come inserts.old inserts.new }
     ensures read_fault { result ≡ Err LoadStop.ReadFault
         → Rose (S.faults inserts.old.source) (S.faults inserts.new.source) }

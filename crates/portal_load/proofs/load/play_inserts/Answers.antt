@@ -1,9 +1,10 @@
 -- Each turn plays one insert more, until none is left, one isn't granted, or a fault comes.
-use Rattle.std.proofs.Common.{◌≤◌, Ok, ap, refl, inl, inr, ◌∙◌, arith}
+use Rattle.std.proofs.Common.{◌≡◌, ◌≤◌, Ok, Err, ap, refl, inl, inr, ◌∙◌, arith}
 use Rattle.std.proofs.lemmas.Bool.Decides.{nat_tests}
 use Rattle.portal_load.proofs.Inserting.{counted_more, counted_none, granted_within, not_too_long, plays_all, plays_end}
-use Rattle.portal_load.proofs.Inserting.{plays_more, plays_none, plays_stop, within_turns}
+use Rattle.portal_load.proofs.Inserting.{plays_more, plays_none, plays_refused, plays_stop, within_turns}
 use Rattle.portal_serve.proofs.Staging.{same_loans, same_loans_on}
+use Rattle.portal_load.specs.declared.stop.LoadStop.TheVariants.{Refused}
 use Rattle.portal_load.proofs.load.play_inserts.Goals as goal
 
 pub loop-init : goal.loop-init
@@ -51,6 +52,14 @@ pub returns-in-Err-clause-ended : goal.returns-in-Err-clause-ended
 returns-in-Err-clause-ended g c =
     plays_end c.args.task.now c.args.portal.now c.loop.portal c.play_insert.new.portal c.args.inserts.now.remaining
     c.loop.inserts.remaining _ _ _ c.in-Err.stop c.loop.invariant.plays c.in-Err.ensures.ended
+
+pub returns-in-Err-clause-refused : goal.returns-in-Err-clause-refused
+returns-in-Err-clause-refused g c =
+    λ is.
+    let same : c.in-Err.stop ≡ Refused = cc in
+    plays_refused c.args.task.now c.args.portal.now c.loop.portal c.play_insert.new.portal
+    c.args.inserts.now.remaining c.loop.inserts.remaining c.play_insert.new.inserts.remaining _ _ _
+    c.loop.invariant.plays (c.play_insert.ensures.refused (c.in-Err.is ∙ ap (λ s. Err s) same))
 
 pub returns-in-Err-clause-received : goal.returns-in-Err-clause-received
 returns-in-Err-clause-received g c =
