@@ -4,7 +4,15 @@ use crate::board::{Draw, HallSeat, HeldMachine, Lengthen, Look, PassOn};
 use crate::hall::Hall;
 use crate::machine::Machine;
 use std::sync::Wait;
-use std::thread;
+
+/// The word of the next ticket to be drawn.
+const NEXT: usize = 0;
+
+/// The word of the ticket whose turn it is.
+const SERVED: usize = 1;
+
+/// The word of the length of the history.
+const LENGTH: usize = 2;
 
 impl<M: Machine> Hall<M> {
     ghost use Rattle.std.specs.Prelude.{◌≡◌, ℕ, ◌+◌, ◌%◌, ◌^◌, ◌<◌, ◌≤◌, length, [], ◌∷◌, None, Some};
@@ -33,7 +41,7 @@ impl<M: Machine> Hall<M> {
         ensures ticket { (t : ℕ) × (result ≡ t % 2 ^ 64)
             × (seat.new.me ≡ (record seat.old.me.0 { stage = Waiting t }, [])) }
     {
-        self.table.shared.fetch_add::<Draw>(seat, 0, 1)
+        self.table.shared.fetch_add::<Draw>(seat, NEXT, 1)
     }
 
     // Waits until the ticket is served.
@@ -44,11 +52,13 @@ impl<M: Machine> Hall<M> {
         ensures same { (seat.new.table_id ≡ seat.old.table_id) × (seat.new.id ≡ seat.old.id) }
         ensures turn { (t : ℕ) × HasTurn M.core M.faults M.step seat.old.me t seat.new.me }
     {
+        let shared = &self.table.shared;
         for _ in rt.forever() {
-            if self.table.shared.load::<Look<M>>(seat, 1) == ticket {
+            let served = shared.load::<Look<M>>(seat, SERVED);
+            if served == ticket {
                 return;
             }
-            thread::yield_now();
+            shared.park(rt, SERVED, (served & 0xffff_ffff) as u32);
         }
         unreachable!()
     }
@@ -76,7 +86,17 @@ impl<M: Machine> Hall<M> {
         let shared = &self.table.shared;
         let nothing = shared.exchange(seat, 0, Some(held));
         let None = nothing else { unreachable!() };
-        shared.fetch_add::<Lengthen<M>>(seat, 2, more);
-        shared.fetch_add::<PassOn>(seat, 1, 1);
+        shared.fetch_add::<Lengthen<M>>(seat, LENGTH, more);
+        let served = shared.fetch_add::<PassOn>(seat, SERVED, 1);
+        self.wake_waiting(served.wrapping_add(1));
+    }
+
+    // Wakes those that wait for their turns, if a ticket is out. `served` is the ticket that is served now. A thread that draws
+    // a ticket later finds it served.
+    fn wake_waiting(&self, served: u64) {
+        let shared = &self.table.shared;
+        if shared.peek(NEXT) != served {
+            shared.wake_all(SERVED);
+        }
     }
 }

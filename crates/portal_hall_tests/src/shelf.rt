@@ -2,11 +2,12 @@
 use portal_hall::machine::Machine;
 use std::alloc::Global;
 
-/// Names, each once, and how many faults there were.
+/// Names, each once, how many faults there were, and how many events were handled.
 #[derive(Drop)]
 pub struct Shelf {
     pub names: Vec<u64>,
     faults: u64,
+    pub acts: u64,
 }
 
 #[derive(Debug, Drop)]
@@ -34,6 +35,7 @@ impl Shelf {
         Shelf {
             names: Vec::new(alloc),
             faults: 0,
+            acts: 0,
         }
     }
 }
@@ -59,6 +61,7 @@ impl Machine for Shelf {
     ghost IsFault = { SaysFault };
 
     fn act(&mut self, event: &Event) -> (Reply, bool) {
+        self.acts = self.acts.saturating_add(1);
         match event {
             Event::Create(name) => self.create(*name),
             Event::Show(name) => (self.show(*name), false),

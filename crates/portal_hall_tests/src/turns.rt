@@ -52,6 +52,24 @@ fn a_machine_that_fails_goes_on(rt: HostRuntime) -> Result<(), Fail> {
 }
 
 #[test]
+fn each_turn_acts_once(rt: HostRuntime) -> Result<(), Fail> {
+    let opened = Hall::open(rt.alloc(), Shelf::new(rt.alloc()), 2);
+    let (hall, mut one) = opened.ok().ok_or("no hall")?;
+    let _ = create(&rt, &hall, &mut one, 7);
+    let _ = create(&rt, &hall, &mut one, 7);
+    let _ = reply_of(hall.act(&rt, &mut one, Event::Show(7)));
+    let _ = reply_of(hall.act(&rt, &mut one, Event::Break));
+    let _ = reply_of(hall.act(&rt, &mut one, Event::Starve));
+    let two = hall.split(&mut one, 1);
+    let (made, others) = create_by_two(&rt, rt.alloc(), &hall, one, two, 0);
+    let mut pass = made.pass;
+    hall.join(&mut pass, others.pass);
+    let (shelf, history) = hall.close(pass);
+    assert!(rt; shelf.acts == 55 && history.len() == 50);
+    Ok(())
+}
+
+#[test]
 fn sixty_four_seats_act_once_each(rt: HostRuntime) -> Result<(), Fail> {
     let opened = Hall::open(rt.alloc(), Shelf::new(rt.alloc()), 64);
     let (hall, pass) = opened.ok().ok_or("no hall")?;

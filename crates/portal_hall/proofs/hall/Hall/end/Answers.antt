@@ -16,8 +16,8 @@ fetch_add-requires g c =
           r.few more.1 more.2 r.short r.mark,
     )
 
-pub fetch_add-requires-2 : goal.fetch_add-requires-2
-fetch_add-requires-2 g c =
+pub fetch_add-served-requires : goal.fetch_add-served-requires
+fetch_add-served-requires g c =
     let m = g.M.Machine in
     let e = c.exchange-nothing.ensures in
     let r = c.requires in
@@ -39,9 +39,9 @@ returns g c =
     let is = put_back c.args.seat.now.me c.exchange-nothing.new.seat.me c.args.held _ r.hand e.3 in
     let now = lengthened_to m.faults c.args.more _ c.fetch_add.new.seat.me c.args.seat.now.me.0 c.args.held is
     c.fetch_add.ensures.2 in
-    let last = c.fetch_add-2.ensures in record {
+    let last = c.fetch_add-served.ensures in record {
       same = (last.0 ∙ (c.fetch_add.ensures.0 ∙ e.0), last.1 ∙ (c.fetch_add.ensures.1 ∙ e.1));
-      after_is = passed_to m.faults c.args.more _ c.fetch_add-2.new.seat.me c.args.seat.now.me.0 c.args.held now
+      after_is = passed_to m.faults c.args.more _ c.fetch_add-served.new.seat.me c.args.seat.now.me.0 c.args.held now
           last.2.0;
       all = last.2.1;
     }
