@@ -1,12 +1,14 @@
-//! A machine that counts.
+//! A machine that counts, and takes as long as it is told.
 ghost use Rattle.std.specs.Prelude.{◌≡◌};
 
+use crate::toil::Toil;
 use portal_hall::machine::Machine;
 
 /// The sum of the numbers that it was given.
 #[derive(Drop)]
 pub struct Counter {
     pub total: u64,
+    pub toil: Toil,
 }
 
 impl Machine for Counter {
@@ -30,6 +32,7 @@ impl Machine for Counter {
     ghost IsFault = { λ _. ⊥ };
 
     fn act(&mut self, event: &u64) -> (Option<u64>, bool) {
+        self.toil.once();
         match self.total.checked_add(*event) {
             Some(total) => {
                 self.total = total;

@@ -4,6 +4,7 @@ ghost use Rattle.std.specs.Thread.{IsSync};
 ghost use Rattle.portal_hall.specs.Passes.{IsPassOf, room_of};
 
 use crate::counter::Counter;
+use crate::toil::Toil;
 use portal_hall::acted::Acted;
 use portal_hall::hall::Hall;
 use portal_hall::machine::Machine;
@@ -11,36 +12,41 @@ use portal_hall::pass::Pass;
 use std::sync::{Mutex, Wait};
 use std::thread::{Threads, join};
 
-/// Adds 1 `acts` times, in one thread.
+/// What each thread does: how often it adds 1, and the work that it does after each addition.
+#[derive(Clone, Copy)]
+pub struct Task {
+    pub acts: u64,
+    pub toil: Toil,
+}
+
+/// Adds 1 as often as the task says, in one thread.
 fn act_often<R: Wait>(
     rt: &R,
     hall: &Hall<Counter>,
     mut pass: Pass<Counter>,
-    acts: u64,
+    task: Task,
 ) -> Pass<Counter>
     requires { IsPassOf hall.now pass }
     ensures { IsPassOf hall.now result × (room_of result ≡ room_of pass) }
 {
+    let Task { acts, mut toil } = task;
     for _ in 0..acts {
-        match hall.act(rt, &mut pass, 1) {
-            Acted::Done {
-                reply: _,
-                front: _,
-                entry: _,
-            } => {}
-            Acted::OutOfMemory(_) => {}
+        let _ = hall.act(rt, &mut pass, 1);
+        toil.once();
+        if toil.is_nothing() {
+            break;
         }
     }
     pass
 }
 
-/// Adds 1 `acts` times in each of `threads` threads, each with a pass of its own, and joins all the passes again.
+/// Each of `threads` threads does the task with a pass of its own, and all the passes are joined again.
 #[cycle(in_hall)]
 pub fn act_in_hall<R: Threads + Wait + Sync>(
     rt: &R,
     hall: &Hall<Counter>,
     mut pass: Pass<Counter>,
-    acts: u64,
+    task: Task,
     threads: u32,
 ) -> Pass<Counter>
     requires pass { IsPassOf hall.now pass }
@@ -48,7 +54,7 @@ pub fn act_in_hall<R: Threads + Wait + Sync>(
     ensures { IsPassOf hall.now result × (room_of result ≡ room_of pass) }
 {
     if threads == 1 {
-        return act_often(rt, hall, pass, acts);
+        return act_often(rt, hall, pass, task);
     }
     let half = threads / 2;
     let rest = threads - half;
@@ -58,33 +64,38 @@ pub fn act_in_hall<R: Threads + Wait + Sync>(
         move || -> Pass<Counter>
             requires { IsSync R.row × IsPassOf hall.now pass × (1 ≤ rest) × (rest ≤ room_of pass) }
             ensures { IsPassOf hall.entry.now result × (room_of result ≡ room_of pass) }
-        { act_in_hall(rt, hall, pass, acts, rest) },
+        { act_in_hall(rt, hall, pass, task, rest) },
         move || -> Pass<Counter>
             requires { IsSync R.row × IsPassOf hall.now other × (1 ≤ half) × (half ≤ room_of other) }
             ensures { IsPassOf hall.entry.now result × (room_of result ≡ room_of other) }
-        { act_in_hall(rt, hall, other, acts, half) },
+        { act_in_hall(rt, hall, other, task, half) },
     );
     hall.join(&mut one, two);
     one
 }
 
-/// Adds 1 `acts` times, in one thread.
-fn lock_often<R: Wait>(rt: &R, counter: &Mutex<Counter>, acts: u64) {
+/// Adds 1 as often as the task says, in one thread.
+fn lock_often<R: Wait>(rt: &R, counter: &Mutex<Counter>, task: Task) {
+    let Task { acts, mut toil } = task;
     for _ in 0..acts {
         let (_, _) = counter.lock(rt).act(&1);
+        toil.once();
+        if toil.is_nothing() {
+            break;
+        }
     }
 }
 
-/// Adds 1 `acts` times in each of `threads` threads, under the lock.
+/// Each of `threads` threads does the task under the lock.
 #[cycle(under_lock)]
 pub fn act_under_lock<R: Threads + Wait + Sync>(
     rt: &R,
     counter: &Mutex<Counter>,
-    acts: u64,
+    task: Task,
     threads: u32,
 ) {
     if threads <= 1 {
-        return lock_often(rt, counter, acts);
+        return lock_often(rt, counter, task);
     }
     let half = threads / 2;
     let rest = threads - half;
@@ -92,9 +103,9 @@ pub fn act_under_lock<R: Threads + Wait + Sync>(
         rt,
         ||
             requires { IsSync R.row }
-        { act_under_lock(rt, counter, acts, rest) },
+        { act_under_lock(rt, counter, task, rest) },
         ||
             requires { IsSync R.row }
-        { act_under_lock(rt, counter, acts, half) },
+        { act_under_lock(rt, counter, task, half) },
     );
 }
