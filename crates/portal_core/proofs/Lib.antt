@@ -9,6 +9,7 @@ pub mod Histories
 pub mod Isolating
 pub mod Keeping
 pub mod Kept
+pub mod LedgerLemmas
 pub mod QueryLemmas
 pub mod Reading
 pub mod Settling

@@ -210,7 +210,7 @@ pub opened_consistent : (parts : Parts) (opening : Opening) → is_opening openi
     → parts.people.people.users ≡ ascending user_cmp opening.users
     → parts.people.people.orgs ≡ ascending org_cmp opening.orgs
     → parts.people.people.roles ≡ ascending membership_cmp opening.roles
-    → parts.shelf.entries ≡ [] → parts.shelf.room ≡ None → parts.tables.tables ≡ [] → parts.quota_used.items ≡ []
+    → parts.shelf.entries ≡ [] → parts.shelf.room ≡ None → parts.tables.tables ≡ [] → parts.quota_used.used ≡ []
     → IsConsistent parts
 opened_consistent parts opening fit users orgs roles none no_room no_table no_charge =
     let datasets : datasets_of parts.shelf ≡ [] =

@@ -1,5 +1,5 @@
 -- The portal's parts, and changes that are prepared on them.
-use Rattle.std.specs.Prelude.{◌≡◌, ◌<◌, ℕ, ⊤, IsTrue, IsSome, List, Option, Some, None, is_none, vec_len, vec_capacity}
+use Rattle.std.specs.Prelude.{◌≡◌, ℕ, ⊤, IsTrue, IsSome, List, Option, Some, None, is_none}
 use Rattle.std.specs.Option.{option_map}
 use Rattle.org_roles.specs.Changed.{IsReady, org_fault}
 use Rattle.packages.specs.Shelf.{ShelfState, IsValidShelf, package_at, number_in, datasets_of}
@@ -28,7 +28,7 @@ state_of parts = record {
   people = parts.people.people;
   datasets = datasets_of parts.shelf;
   tables = tables_of parts.tables;
-  quota_used = parts.quota_used.items;
+  quota_used = parts.quota_used.used;
 }
 
 -- The parts make up a valid state, and the shelf's indexes are right.
@@ -118,7 +118,7 @@ IsChangeReady (Tables change) parts = table.IsReadyPlan change parts.tables
 -- there is room for what is charged
 abbrev pub IsChargeReady : Option QuotaUsed → Parts → Type 0
 IsChargeReady None parts = ⊤
-IsChargeReady (Some entry) parts = vec_len parts.quota_used < vec_capacity parts.quota_used
+IsChargeReady (Some entry) parts = IsTrue parts.quota_used.room
 
 -- A prepared change can be made and charged.
 pub record IsPrepared (prepared : Prepared) (parts : Parts) : Type 0 where

@@ -1,11 +1,12 @@
 -- The portal's state: lists that ascend by their keys.
-use Rattle.std.specs.Prelude.{ℕ, List, unwrap_or, option_map, find}
+use Rattle.std.specs.Prelude.{ℕ, Bool, List, unwrap_or, option_map, find}
 use Rattle.std.specs.declared.cmp.Ordering.{Ordering}
 use Rattle.std.specs.Ordering.{nat_cmp}
 use Rattle.std.specs.Cmp.{IsTotalOrder}
 use Rattle.std.specs.Cmp.Lexicographic.{slice_cmp}
 use Rattle.std.specs.Str.{bytes_eq}
 use Rattle.std.proofs.lemmas.Cmp.{on_total, nat_list_cmp_total}
+use Rattle.portal_base.specs.Ordered.{IsKey, IsKey-field, IsMonotone, IsMonotone-field}
 use Rattle.portal_base.specs.declared.caller.Caller.{Caller}
 use Rattle.portal_base.specs.declared.caller.Caller.TheVariants.{Anonymous, Named}
 use Rattle.org_roles.specs.PeopleLists.{PeopleLists}
@@ -27,6 +28,22 @@ quota_used_cmp s t = slice_cmp nat_cmp s.user t.user
 
 pub quota_used_cmp_total : IsTotalOrder quota_used_cmp
 quota_used_cmp_total = on_total (λ s. s.user) nat_list_cmp_total
+
+-- the order of an entry's user against this user
+abbrev pub quota_used_at : List ℕ → QuotaUsed → Ordering
+quota_used_at user s = slice_cmp nat_cmp s.user user
+
+-- An entry is looked up by its user.
+pub IsKey-quota_used_at : (user : List ℕ) → IsKey quota_used_cmp (quota_used_at user)
+IsKey-quota_used_at user = IsKey-field (λ s. s.user) nat_list_cmp_total user
+
+pub IsMonotone-quota_used_at : (user : List ℕ) → IsMonotone quota_used_cmp (quota_used_at user)
+IsMonotone-quota_used_at user = IsMonotone-field (λ s. s.user) nat_list_cmp_total user
+
+-- how much of the quota each user has used, and whether there is room for one more entry
+pub record Ledger : Type 0 where
+  pub used : List QuotaUsed
+  pub room : Bool
 
 -- the bytes that were accepted from the user
 abbrev pub accepted_bytes_of_user : List ℕ → List QuotaUsed → ℕ

@@ -60,7 +60,7 @@ pub fn decide(alloc: Global, parts: &mut Parts, call: &Call) -> Result<Answer<Pl
 
 /// Whether the call fits into its caller's quota of accepted bytes.
 fn quota_of(parts: &Parts, call: &Call) -> Quota
-    ensures { result ≡ quota_of call.now parts.now.quota_used.items }
+    ensures { result ≡ quota_of call.now parts.now.quota_used.used }
 {
     match parts.accepted_bytes_of(&call.caller).checked_add(call.size) {
         Some(bytes) if bytes <= QUOTA => Quota::Left,

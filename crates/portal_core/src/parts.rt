@@ -2,7 +2,6 @@
 //! change: it takes no memory and can't fail.
 ghost use Rattle.std.specs.Prelude.{◌≡◌, IfNone, IfOk, OnErr, OnOk, IsTrue, is_none, find};
 ghost use Rattle.std.specs.Option.{option_map, option_copied};
-ghost use Rattle.portal_base.specs.Ordered.{IsAscending};
 ghost use Rattle.org_roles.specs.Changed.{org_fault, IsReady};
 ghost use Rattle.packages.specs.Shelf.{IsValidShelf};
 ghost use Rattle.dataset_answers.specs.Sound.{IsSound};
@@ -13,10 +12,10 @@ ghost use Rattle.portal_core.specs.Fit.{IsFit};
 ghost use Rattle.portal_core.specs.Parts.{state_of, change_in, with_prepared, IsConsistent, MakesSound, IsTakenBy};
 ghost use Rattle.portal_core.specs.Parts.{IsUnrefused};
 ghost use Rattle.portal_core.specs.Parts.{IsPlanned, IsPrepared, IsChangeReady, IsChargeReady};
-ghost use Rattle.portal_core.specs.State.{accepted_bytes_of, accepted_bytes_of_user, quota_used_cmp};
+ghost use Rattle.portal_core.specs.State.{accepted_bytes_of};
 
 use crate::change::Plan;
-use crate::quota::QuotaUsed;
+use crate::quota::{QuotaLedger, QuotaUsed};
 use dataset_answers::change::DatasetChange;
 use datastore_answers::plan::TablePlan;
 use datastore_answers::tables::Tables;
@@ -27,7 +26,6 @@ use packages::package::Package;
 use packages::shelf::Shelf;
 use portal_base::caller::Caller;
 use portal_base::copy::TryClone;
-use portal_base::ordered::{replace_or_put, reserve};
 use portal_base::text::Text;
 use portal_calls::call::Call;
 use std::alloc::{AllocError, Global};
@@ -38,7 +36,7 @@ pub struct Parts {
     pub people: People,
     pub shelf: Shelf,
     pub tables: Tables,
-    pub quota_used: Vec<QuotaUsed>,
+    pub quota_used: QuotaLedger,
 }
 
 /// A change for which memory is prepared.
@@ -65,11 +63,11 @@ pub struct Prepared {
 impl Parts {
     /// The bytes that were accepted from the caller.
     pub fn accepted_bytes_of(&self, caller: &Caller) -> u64
-        ensures { result ≡ accepted_bytes_of caller.now self.now.quota_used.items }
+        ensures { result ≡ accepted_bytes_of caller.now self.now.quota_used.used }
     {
         match caller {
             Caller::Anonymous => 0,
-            Caller::Named(user) => accepted_bytes_of_user(&self.quota_used, user),
+            Caller::Named(user) => self.quota_used.bytes_of(user),
         }
     }
 
@@ -139,7 +137,7 @@ impl Parts {
         ensures ready { IfOk result (λ prepared. IsPrepared prepared self.new) }
         ensures change { IfOk result (λ prepared. change_in prepared.change ≡ change_of plan) }
         ensures charge { IfOk result (λ prepared.
-            prepared.charge ≡ charge_of call.now.caller call.now.size self.old.quota_used.items) }
+            prepared.charge ≡ charge_of call.now.caller call.now.size self.old.quota_used.used) }
     {
         let charge = self.prepare_charge(alloc, call)?;
         let change = self.prepare_change(plan)?;
@@ -207,17 +205,19 @@ impl Parts {
         ensures shelf { self.new.shelf ≡ self.old.shelf }
         ensures tables { self.new.tables ≡ self.old.tables }
         ensures charge { IfOk result (λ charge.
-            charge ≡ charge_of call.now.caller call.now.size self.old.quota_used.items) }
+            charge ≡ charge_of call.now.caller call.now.size self.old.quota_used.used) }
         ensures ready { IfOk result (λ charge. IsChargeReady charge self.new) }
     {
         match &call.caller {
             Caller::Anonymous => Ok(None),
             Caller::Named(user) => {
-                let bytes = accepted_bytes_of_user(&self.quota_used, user)
+                let bytes = self
+                    .quota_used
+                    .bytes_of(user)
                     .checked_add(call.size)
                     .ok_or(AllocError)?;
                 let user = user.try_clone(alloc)?;
-                reserve(&mut self.quota_used)?;
+                self.quota_used.reserve()?;
                 Ok(Some(QuotaUsed { user, bytes }))
             }
         }
@@ -227,7 +227,6 @@ impl Parts {
     fn commit(&mut self, prepared: Prepared)
         requires ready { IsPrepared prepared self.old }
         requires shelved { IsValidShelf self.old.shelf }
-        requires ascending { IsAscending quota_used_cmp self.old.quota_used.items }
         ensures state { state_of self.new ≡ with_prepared prepared (state_of self.old) }
         ensures shelved { IsValidShelf self.new.shelf }
     {
@@ -264,23 +263,12 @@ impl Parts {
     /// Makes a prepared charge.
     fn commit_charge(&mut self, charge: Option<QuotaUsed>)
         requires ready { IsChargeReady charge self.old }
-        requires ascending { IsAscending quota_used_cmp self.old.quota_used.items }
         ensures state { state_of self.new ≡ with_charge charge (state_of self.old) }
         ensures shelf { self.new.shelf ≡ self.old.shelf }
     {
         if let Some(entry) = charge {
-            replace_or_put(&mut self.quota_used, entry);
+            self.quota_used.set(entry);
         }
-    }
-}
-
-/// The bytes that were accepted from the user.
-fn accepted_bytes_of_user(quota_used: &[QuotaUsed], user: &Text) -> u64
-    ensures { result ≡ accepted_bytes_of_user user.now quota_used.now }
-{
-    match quota_used.iter().find(|entry| entry.user == *user) {
-        Some(entry) => entry.bytes,
-        None => 0,
     }
 }
 

@@ -13,6 +13,7 @@ ghost use Rattle.portal_core.specs.View.{view_of};
 use crate::change::Plan;
 use crate::decide::decide;
 use crate::parts::Parts;
+use crate::quota::QuotaLedger;
 use datastore_answers::tables::Tables;
 use org_roles::entry::{Membership, Org, User};
 use org_roles::people::People;
@@ -92,7 +93,7 @@ impl Portal {
                 people: People::of_lists(users, orgs, roles),
                 shelf: Shelf::new(alloc),
                 tables: Tables::new(alloc),
-                quota_used: Vec::new(alloc),
+                quota_used: QuotaLedger::new(alloc),
             },
         })
     }
