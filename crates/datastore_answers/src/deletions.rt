@@ -110,11 +110,7 @@ fn check_table(table: &ResourceTable, number: u32, removal: &Removal) -> Result<
 }
 
 // Checks each of the tables.
-fn check_tables(
-    tables: &[ResourceTable],
-    number: u32,
-    removal: &Removal,
-) -> Result<(), TableFault>
+fn check_tables(tables: &[ResourceTable], number: u32, removal: &Removal) -> Result<(), TableFault>
     ensures ok { OnOk result (tables_restrict removal.now.keys number tables.now ≡ Ok tt) }
     ensures err { IfErr result (λ fault. (fault ≡ OutOfMemory)
         ⊎ (tables_restrict removal.now.keys number tables.now ≡ Err fault)) }
