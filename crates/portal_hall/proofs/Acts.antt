@@ -15,7 +15,7 @@ use Rattle.portal_hall.specs.declared.acted.Acted.{Acted}
 use Rattle.portal_hall.specs.declared.acted.Acted.TheVariants.{Done, OutOfMemory}
 use Rattle.portal_hall.specs.declared.hall.Hall.{Hall}
 use Rattle.portal_hall.specs.Turns.{Slot, Me, IsReplayed, HasTurn, own_after}
-use Rattle.portal_hall.specs.Passes.{opening, Rests, IsEntry, IsRefusal, events_of, IfEntry, IfNoEntry}
+use Rattle.portal_hall.specs.Passes.{opening, Rests, IsEntry, IsRefusal, events_of, added_by, IfEntry, IfNoEntry}
 use Rattle.portal_hall.specs.Passes.{IfOutOfMemory, Begun, Ended, MayEnd}
 use Rattle.portal_hall.proofs.Ends.{same_held}
 use Rattle.portal_hall.proofs.Prefixes.{begins_length, begins_trans}
@@ -51,8 +51,9 @@ module _ {M E C R : Type 0} (core : M → C) (faults : M → ℕ) (works : C →
       let P : HeldMachine M E → Type 0 =
       λ h. (c.me.0 ≡ record b.me.0 { stage = Acting u; seen = h.history.items; mark = faults h.machine })
       × Begins b.me.0.seen h.history.items × (b.me.0.mark ≤ faults h.machine)
-      × IfSome b.me.0.opening (λ o. IsReplayed core faults works o h) in
-      let p = subst P same (turn.2, turn.3, turn.4, turn.5) in record {
+      × IfSome b.me.0.opening (λ o. IsReplayed core faults works o h)
+      × (b.me.0.room ≡ b.me.0.seats → h.history.items ≡ b.me.0.seen) in
+      let p = subst P same (turn.2, turn.3, turn.4, turn.5, turn.6) in record {
         same = (cd.0 ∙ (bc.0 ∙ ab.0), cd.1 ∙ (bc.1 ∙ ab.1));
         ticket = (
           u,
@@ -64,6 +65,7 @@ module _ {M E C R : Type 0} (core : M → C) (faults : M → ℕ) (works : C →
         mark = subst (λ (v : View M E). v.mark ≤ faults held.machine) view p.2;
         replayed = subst (λ (o : Option M). IfSome o (λ m. IsReplayed core faults works m held))
             (ap (λ (v : View M E). v.opening) view ∙ rests.named) p.3;
+        alone = subst (λ (v : View M E). v.room ≡ v.seats → held.history.items ≡ v.seen) view p.4;
       }
 
   -- what was done with the machine and its history
@@ -82,11 +84,20 @@ module _ {M E C R : Type 0} (core : M → C) (faults : M → ℕ) (works : C →
     pub counts : faults old.machine ≤ faults new.machine
 
   module _ (IsOutOfMemory IsFault : R → Type 0) where
+    added : (old new : HeldMachine M E) (event : E) (acted : Acted M E R) → Worked IsOutOfMemory IsFault old new event acted
+        → new.history.items ≡ old.history.items ++ added_by acted event
+    added old new event (Done reply front (Some k)) w = w.entry.2
+    added old new event (Done reply front None) w = w.no_entry.2 ∙ sym (append-nil old.history.items)
+    added old new event (OutOfMemory e) w = w.back.2 ∙ sym (append-nil old.history.items)
+
+    added_length : (event : E) (acted : Acted M E R) → length (added_by acted event) ≡ events_of acted
+    added_length event (Done reply front (Some k)) = refl
+    added_length event (Done reply front None) = refl
+    added_length event (OutOfMemory e) = refl
+
     more_of : (old new : HeldMachine M E) (event : E) (acted : Acted M E R) → Worked IsOutOfMemory IsFault old new event acted
         → (more : List E) × (new.history.items ≡ old.history.items ++ more) × (length more ≡ events_of acted)
-    more_of old new event (Done reply front (Some k)) w = (event ∷ [], w.entry.2, refl)
-    more_of old new event (Done reply front None) w = ([], w.no_entry.2 ∙ sym (append-nil old.history.items), refl)
-    more_of old new event (OutOfMemory e) w = ([], w.back.2 ∙ sym (append-nil old.history.items), refl)
+    more_of old new event acted w = (added_by acted event, added old new event acted w, added_length event acted)
 
     one_at_most : (acted : Acted M E R) → events_of acted ≤ 1
     one_at_most (Done reply front (Some k)) = omega arith
@@ -185,6 +196,15 @@ module _ {M E C R : Type 0} (core : M → C) (faults : M → ℕ) (works : C →
         let more = more_of old new event acted w in
         subst (Begins a.me.0.seen) (sym (ap (λ (m : Me M E). m.0.seen) m))
         (begins_trans a.me.0.seen old.history.items new.history.items begins.seen (more.0, more.1))
+
+    -- with all the seats, the history grew by what the act added
+    pub alone_after : (hall : Hall M E R) (a b c : At) (old new : HeldMachine M E) (event : E) (acted : Acted M E R)
+        → Begun core faults works hall a b old
+        → Worked IsOutOfMemory IsFault old new event acted → Ended core faults works (events_of acted) b c new
+        → a.me.0.room ≡ a.me.0.seats → c.me.0.seen ≡ a.me.0.seen ++ added_by acted event
+    alone_after hall a b c old new event acted begins w ends all =
+        ap (λ (m : Me M E). m.0.seen) (after_view hall (events_of acted) a b c old new begins ends)
+        ∙ (added old new event acted w ∙ ap (λ l. l ++ added_by acted event) (begins.alone all))
 
     pub mark_after : (hall : Hall M E R) (a b c : At) (old new : HeldMachine M E) (event : E) (acted : Acted M E R)
         → Begun core faults works hall a b old

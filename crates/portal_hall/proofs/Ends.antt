@@ -1,5 +1,5 @@
--- The steps of who has the turn keep the rule, and what a pass with all the room owns.
-use Rattle.std.proofs.Common.{◌≡◌, ◌≢◌, ℕ, zero, suc, ◌+◌, ◌%◌, ◌^◌, ◌<◌, ◌≤◌, List, [], ◌∷◌, ◌++◌, length}
+-- The steps of who has the turn keep the rule.
+use Rattle.std.proofs.Common.{◌≡◌, ℕ, zero, suc, ◌+◌, ◌%◌, ◌^◌, ◌<◌, ◌≤◌, List, [], ◌∷◌, ◌++◌, length}
 use Rattle.std.proofs.Common.{set, Option, Some, None}
 use Rattle.std.proofs.Common.{refl, ap, sym, ◌∙◌, subst, arith, length-append}
 use Rattle.std.specs.Prelude.{slice_index, IfSome}
@@ -19,11 +19,12 @@ use Rattle.portal_hall.specs.declared.board.Stage.{Stage}
 use Rattle.portal_hall.specs.declared.board.Stage.TheVariants.{Resting, Acting}
 use Rattle.portal_hall.specs.Turns.{Apart, tickets_of, Slot, Me, tickets_out, StageFits, Fits, IsReplayed}
 use Rattle.portal_hall.specs.Turns.{SlotFits, Kept}
-use Rattle.portal_hall.specs.Turns.{lengthened, passed, checked, OwnsEachIndex, own_after, moved}
-use Rattle.portal_hall.proofs.Sums.{sum-set, at_most, both_at_most, one_counts}
-use Rattle.portal_hall.proofs.Prefixes.{begins_self, begins_trans, begins_length}
+use Rattle.portal_hall.specs.Turns.{lengthened, passed, checked, own_after, moved}
+use Rattle.portal_hall.proofs.Sums.{sum-set, at_most}
+use Rattle.portal_hall.proofs.Prefixes.{begins_self, begins_trans}
 use Rattle.portal_hall.proofs.Keeps.{resting_apart, is_below, each_set, apart_set, stage_else, stage_passed}
 use Rattle.portal_hall.proofs.Keeps.{same_sum, unmoved}
+use Rattle.portal_hall.proofs.Alone.{owns_all}
 
 times-push : (x y : ℕ) (xs : List ℕ) → times x (xs ++ y ∷ []) ≡ times x xs + times x (y ∷ [])
 times-push x y xs = sum_by-append _ xs (y ∷ [])
@@ -34,9 +35,6 @@ times_one x y = grind (arith, nat_tests)
 times_other : (x y : ℕ) → 0 < times x (y ∷ []) → y ≡ x
 times_other x y h = dite (ℕ_discrete y x) (λ e. e) (λ ne. let z : times x (y ∷ []) ≡ 0 = grind (arith, nat_tests) in
     absurd (omega arith))
-
-below_once : (x n : ℕ) → x < n → once_below x n ≡ 1
-below_once x n lt = grind (arith, nat_tests)
 
 once_below_lt : (x n : ℕ) → 0 < once_below x n → x < n
 once_below_lt x n h = dite (dec_le n x) (λ ge. let z : once_below x n ≡ 0 = grind (arith, nat_tests) in
@@ -94,40 +92,6 @@ module _ {M E C R : Type 0} (core : M → C) (faults : M → ℕ) (works : C →
   abbrev Out : List V → ℕ
   Out views = tickets_out views
 
-  -- where a pass has all the room, no other has any
-  pub others_none : (s : St) (r : Rule s) (id : ℕ) (v : V) → get_elem? s.views id ≡ some v → v.room ≡ seats
-      → (j : ℕ) (u : V) → j ≢ id → get_elem? s.views j ≡ some u → u.room ≡ 0
-  others_none s r id v at all j u ne b =
-      let both = both_at_most (λ (v : V). v.room) s.views id j v u (λ e. ne (sym e)) at b in
-      let rooms = r.rooms in omega arith
-
-  -- with all the seats, its own indexes are those of the history
-  pub own_places : (s : St) (r : Rule s) (id : ℕ) (v : V) → get_elem? s.views id ≡ some v → v.room ≡ seats → (x : ℕ)
-      → times x v.own ≡ once_below x (length r.log)
-  own_places s r id v at all x =
-      sym (one_counts (λ (u : V). times x u.own) s.views id v at
-      (λ j u ne b. ap (times x) ((r.each j u b).without_room (others_none s r id v at all j u ne b)).2))
-      ∙ r.indexes x
-
-  -- with all the seats, all of the history is seen
-  pub sees_all : (s : St) (r : Rule s) (id : ℕ) (v : V) → get_elem? s.views id ≡ some v → v.room ≡ seats
-      → length r.log ≡ length v.seen
-  sees_all s r id v at all =
-      let f = r.each id v at in
-      let le = begins_length v.seen r.log f.seen in
-      dite (dec_le (length r.log) (length v.seen)) (λ ge. omega arith)
-      (λ more.
-      let one : once_below (length v.seen) (length r.log) ≡ 1 = below_once (length v.seen) (length r.log)
-      (omega arith) in
-      let here = own_places s r id v at all (length v.seen) in
-      let lt = f.own (length v.seen) (omega arith) in
-      absurd (omega arith))
-
-  pub owns_all : (s : St) (r : Rule s) (id : ℕ) (v : V) → get_elem? s.views id ≡ some v → 0 < v.room → OwnsEachIndex v
-  owns_all s r id v at room whole x =
-      let all : v.room ≡ seats = whole ∙ ((r.each id v at).named room).1 in
-      own_places s r id v at all x ∙ ap (once_below x) (sees_all s r id v at all)
-
   pub checks : (slots id : ℕ) (me : Me M E) → 0 < me.0.room
       → Allows Rule slots id me 1 (λ n. n) (checked (step slots 1 0 0 none) me)
   checks slots id me room s r _ at _ =
@@ -140,7 +104,7 @@ module _ {M E C R : Type 0} (core : M → C) (faults : M → ℕ) (works : C →
           refl,
           f.left,
           f.right,
-          owns_all s r id me.0 at room,
+          owns_all core faults works opening seats s r id me.0 at room,
           λ x.
               let here = at_most (λ (v : V). times x v.own) s.views id me.0 at in
               let all = r.indexes x in
@@ -311,7 +275,7 @@ module _ {M E C R : Type 0} (core : M → C) (faults : M → ℕ) (works : C →
         rule,
         (
           (λ i. (w, table.rest (hand i))),
-          owns_all _ rule id w (set_here s.views id w (is_below s.views id me.0 at))
+          owns_all core faults works opening seats _ rule id w (set_here s.views id w (is_below s.views id me.0 at))
               room,
         ),
       )

@@ -22,6 +22,7 @@ use Rattle.portal_hall.specs.Turns.{IsReplayed, SlotFits, Kept, HasTurn}
 use Rattle.portal_hall.specs.Turns.{looked, drew}
 use Rattle.portal_hall.proofs.Sums.{sum-set, at_most, sum-below}
 use Rattle.portal_hall.proofs.Prefixes.{begins_self, begins_trans, begins_length}
+use Rattle.portal_hall.proofs.Alone.{sees_all}
 
 pub resting_apart : (a b : Stage) → a ≡ Resting → Apart a b
 resting_apart a b e t p q = subst (λ (z : Stage). HasTicket z t) e p
@@ -308,6 +309,7 @@ module _ {M E C R : Type 0} (core : M → C) (faults : M → ℕ) (works : C →
           subst (Begins me.0.seen) (sym home.1.2) f.seen,
           omega arith,
           subst (λ (o : Option M). IfSome o (λ m. IsReplayed core faults works m held)) (sym (f.named room).0) home.1.4,
+          λ all. home.1.2 ∙ sees_all core faults works opening seats s r id me.0 at (all ∙ (f.named room).1),
         ),
       )
 

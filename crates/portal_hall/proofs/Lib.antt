@@ -1,4 +1,5 @@
 pub mod Acts
+pub mod Alone
 pub mod Ends
 pub mod Keeps
 pub mod Prefixes

@@ -23,7 +23,8 @@ use Rattle.portal_hall.proofs.Sums.{sum-set}
 use Rattle.portal_hall.proofs.Prefixes.{begins_self, begins_nil, begins_length, begins_shorter}
 use Rattle.portal_hall.proofs.Keeps.{resting_apart, apart_back, each_set, apart_set, resting_not, same_sum}
 use Rattle.portal_hall.proofs.Keeps.{slot_stays}
-use Rattle.portal_hall.proofs.Ends.{held_of, others_none, own_places}
+use Rattle.portal_hall.proofs.Alone.{others_none, own_places}
+use Rattle.portal_hall.proofs.Ends.{held_of}
 
 once_nothing : (x : ℕ) → once_below x 0 ≡ 0
 once_nothing x = grind (arith, nat_tests)

@@ -79,6 +79,12 @@ module _ {M E R : Type 0} where
   events_of (Done reply front None) = 0
   events_of (OutOfMemory event) = 0
 
+  -- what the act of an event added to the history
+  abbrev pub added_by : Acted M E R → E → List E
+  added_by (Done reply front (Some k)) event = event ∷ []
+  added_by (Done reply front None) event = []
+  added_by (OutOfMemory back) event = []
+
   -- if the event was accepted, the fact holds of the reply, the front and the index
   abbrev pub IfEntry : Acted M E R → (R → ℕ → ℕ → Type 0) → Type 0
   IfEntry (Done reply front (Some k)) P = P reply front k
@@ -108,6 +114,7 @@ module _ {M E C R : Type 0} (core : M → C) (faults : M → ℕ) (step : C → 
     pub seen : Begins before.me.0.seen held.history.items
     pub mark : before.me.0.mark ≤ faults held.machine
     pub replayed : IsReplayed core faults step (opening hall) held
+    pub alone : before.me.0.room ≡ before.me.0.seats → held.history.items ≡ before.me.0.seen
 
   -- The turn was passed on, and this is the content of the slot.
   pub record Ended (k : ℕ) (before after : Seat (Slot M E) (View M E)) (held : HeldMachine M E) : Type 0 where

@@ -100,11 +100,13 @@ module _ {M E C R : Type 0} (core : M → C) (faults : M → ℕ) (step : C → 
     pub indexes : (x : ℕ) → sum_by (λ v. times x v.own) s.views ≡ once_below x (length log)
     pub slot : SlotFits served log top opening s.views s.homes turn
 
-  -- The seat got the turn, with the machine and the history, and has seen all of the history.
+  -- The seat got the turn, with the machine and the history, and has seen all of the history. With all the seats it had
+  -- seen all of it before.
   abbrev pub HasTurn : Me M E → ℕ → Me M E → Type 0
   HasTurn m t m' = (held : HeldMachine M E) × (m'.1 ≡ (0, Some held) ∷ [])
       × (m'.0 ≡ record m.0 { stage = Acting t; seen = held.history.items; mark = faults held.machine })
       × Begins m.0.seen held.history.items × (m.0.mark ≤ faults held.machine) × IfSome m.0.opening (λ o. IsReplayed o held)
+      × (m.0.room ≡ m.0.seats → held.history.items ≡ m.0.seen)
 
   -- the ticket that is served was read
   abbrev pub looked : table.Step (Slot M E) → Me M E → ℕ → Me M E → Type 0

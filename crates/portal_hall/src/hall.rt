@@ -3,6 +3,7 @@ ghost use Rattle.std.specs.Prelude.{◌≡◌};
 
 use crate::acted::Acted;
 use crate::board::{Board, Check, HeldMachine, JoinSeats};
+use crate::gates::Gates;
 use crate::machine::Machine;
 use crate::parts::{machine_of, split_room};
 use crate::pass::Pass;
@@ -17,6 +18,7 @@ use std::sync::Wait;
 #[derive(Drop)]
 pub struct Hall<M: Machine> {
     pub(crate) table: Board<M, M::Event>,
+    pub(crate) gates: Gates,
     ghost sized: { (table.shared.table_id.words ≡ 3) × (table.shared.table_id.slots ≡ 1) },
 }
 
@@ -25,7 +27,7 @@ impl<M: Machine> Hall<M> {
     ghost use Rattle.portal_hall.specs.History.{Begins, once_below, replay, IsLegal, times};
     ghost use Rattle.portal_hall.specs.Turns.{longer};
     ghost use Rattle.portal_hall.specs.Passes.{opening, seats_of, room_of, seen, own, mark, OwnsAll, IsPassOf};
-    ghost use Rattle.portal_hall.specs.Passes.{IsEntry, IsRefusal, IfEntry, IfNoEntry, IfOutOfMemory};
+    ghost use Rattle.portal_hall.specs.Passes.{IsEntry, IsRefusal, IfEntry, IfNoEntry, IfOutOfMemory, added_by};
 
     /// Opens a hall over the machine, with a pass that has all its seats, 1 to 64. Out of memory, it returns the machine.
     pub fn open(alloc: Global, machine: M, seats: u32) -> Result<(Hall<M>, Pass<M>), M>
@@ -47,7 +49,10 @@ impl<M: Machine> Hall<M> {
             return Err(machine_of(refused.value));
         }
         match Table::new(alloc, &[0, 0, 0], slots, &about) {
-            Ok((table, seat)) => Ok((Hall { table }, Pass { seat, room: seats })),
+            Ok((table, seat)) => {
+                let gates = Gates::new();
+                Ok((Hall { table, gates }, Pass { seat, room: seats }))
+            }
             Err(Refused { mut slots }) => {
                 let held = slots.pop().unwrap();
                 slots.destroy_empty();
@@ -72,6 +77,8 @@ impl<M: Machine> Hall<M> {
         ensures back { IfOutOfMemory result (λ back. (back ≡ event) × (own pass.new ≡ own pass.old)) }
         ensures mark { mark pass.old ≤ mark pass.new }
         ensures all { OwnsAll self.now pass.new }
+        ensures alone { room_of pass.old ≡ seats_of self.now
+            → seen pass.new ≡ seen pass.old ++ added_by result event }
     {
         let mut held = self.begin(rt, &mut pass.seat);
         let acted = held.act_and_record(event);
@@ -125,7 +132,7 @@ impl<M: Machine> Hall<M> {
         ensures core { M.core result.0 ≡ replay M.step (M.core (opening self)) result.1 }
         ensures mark { mark pass ≤ M.faults result.0 }
     {
-        let Hall { table } = self;
+        let Hall { table, gates: _ } = self;
         let Pass { seat, room: _ } = pass;
         let mut closed = table.close_with(seat);
         let held = closed.take(0);

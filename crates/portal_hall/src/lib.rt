@@ -3,6 +3,7 @@
 
 pub mod acted;
 mod board;
+mod gates;
 pub mod hall;
 mod held_machine;
 pub mod machine;

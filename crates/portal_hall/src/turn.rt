@@ -1,6 +1,7 @@
 //! One turn: a ticket is drawn, the turn is waited for, the machine is taken out of the slot and put back, and the
 //! turn is passed on.
 use crate::board::{Draw, HallSeat, HeldMachine, Lengthen, Look, PassOn};
+use crate::gates::Patience;
 use crate::hall::Hall;
 use crate::machine::Machine;
 use std::sync::Wait;
@@ -52,13 +53,14 @@ impl<M: Machine> Hall<M> {
         ensures same { (seat.new.table_id ≡ seat.old.table_id) × (seat.new.id ≡ seat.old.id) }
         ensures turn { (t : ℕ) × HasTurn M.core M.faults M.step seat.old.me t seat.new.me }
     {
-        let shared = &self.table.shared;
+        let gate = self.gates.of_ticket(ticket);
+        let mut patience = Patience::new();
         for _ in rt.forever() {
-            let served = shared.load::<Look<M>>(seat, SERVED);
+            let served = self.table.shared.load::<Look<M>>(seat, SERVED);
             if served == ticket {
                 return;
             }
-            shared.park(rt, SERVED, (served & 0xffff_ffff) as u32);
+            patience.wait(rt, gate, ticket.wrapping_sub(served));
         }
         unreachable!()
     }
@@ -88,15 +90,6 @@ impl<M: Machine> Hall<M> {
         let None = nothing else { unreachable!() };
         shared.fetch_add::<Lengthen<M>>(seat, LENGTH, more);
         let served = shared.fetch_add::<PassOn>(seat, SERVED, 1);
-        self.wake_waiting(served.wrapping_add(1));
-    }
-
-    // Wakes those that wait for their turns, if a ticket is out. `served` is the ticket that is served now. A thread that draws
-    // a ticket later finds it served.
-    fn wake_waiting(&self, served: u64) {
-        let shared = &self.table.shared;
-        if shared.peek(NEXT) != served {
-            shared.wake_all(SERVED);
-        }
+        self.gates.of_ticket(served.wrapping_add(1)).open();
     }
 }
