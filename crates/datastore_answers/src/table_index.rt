@@ -35,7 +35,6 @@ pub(crate) fn find_range(tables: &[ResourceTable], dataset: &Text) -> (usize, us
 }
 
 /// The dataset's tables, by two binary searches.
-#[tactic(auto, using(crate::proofs::RangeLemmas::range_has_tables))]
 pub(crate) fn tables_in<'a>(tables: &'a [ResourceTable], dataset: &Text) -> &'a [ResourceTable]
     requires { IsAscending table_cmp tables.now }
     ensures { result.now ≡ tables_in dataset.now tables.now }

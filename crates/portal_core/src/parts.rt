@@ -39,9 +39,9 @@ pub struct Parts {
     pub quota_used: QuotaLedger,
 }
 
-/// A change for which memory is prepared.
+/// A change for which memory is prepared. `Parts` alone makes one.
 #[derive(Drop)]
-pub enum PreparedChange {
+enum PreparedChange {
     People(PreparedOrg),
     /// A new dataset.
     Put(Package),
@@ -53,11 +53,11 @@ pub enum PreparedChange {
     Tables(TablePlan),
 }
 
-/// A change for which memory is prepared, with the caller's quota after it.
+/// A change for which memory is prepared, with the caller's quota after it. `Parts` alone makes one.
 #[derive(Drop)]
-pub struct Prepared {
-    pub change: PreparedChange,
-    pub charge: Option<QuotaUsed>,
+struct Prepared {
+    change: PreparedChange,
+    charge: Option<QuotaUsed>,
 }
 
 impl Parts {
