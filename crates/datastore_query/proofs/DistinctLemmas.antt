@@ -1,11 +1,12 @@
--- Distinct rows: the map has the digests of the kept rows, and a repeated column makes no difference.
-use Rattle.std.proofs.Common.{◌≡◌, ◌∙◌, ℕ, Bool, true, false, ◌||◌, ◌&&◌, not, cond, List, [], ◌∷◌, ◌++◌, Option, None}
-use Rattle.std.proofs.Common.{ap, ap₂, append_assoc, append-nil, fold, map, refl, sym}
+-- Distinct rows: the map has the digests of the first rows, and a repeated column makes no difference.
+use Rattle.std.proofs.Common.{◌≡◌, ◌∙◌, ℕ, Bool, true, false, ◌||◌, ◌&&◌, cond, List, [], ◌∷◌, ◌++◌, Option, Some, None}
+use Rattle.std.proofs.Common.{ap, append_assoc, append-nil, fold, map, refl, sym}
 use mathlib.Core.Path.{fun_ext}
-use Rattle.std.specs.Prelude.{is_some}
+use Rattle.std.specs.Hash.DefaultHasher as sip
+use Rattle.std.specs.Prelude.{is_some, nat_eq}
 use Rattle.std.specs.List.{list_all, list_any}
 use Rattle.std.proofs.lemmas.List.{map-append}
-use Rattle.std.proofs.lemmas.List.Elements.{All-head, All-tail}
+use Rattle.std.proofs.lemmas.List.Elements.{All-head, All-push, All-tail, All-weaker}
 use Rattle.table_schema.specs.declared.cell.Cell.{Cell}
 use Rattle.table_schema.specs.Order.{same_cell}
 use Rattle.datastore_table.specs.declared.row.Row.{Row}
@@ -14,30 +15,53 @@ use Rattle.datastore_table.proofs.ApartLemmas.{any_map}
 use Rattle.datastore_table.proofs.KeyLemmas.{cells-is}
 use Rattle.datastore_query.specs.declared.column.Column.{Column}
 use Rattle.datastore_query.specs.Column.{column_cell, projected}
-use Rattle.datastore_query.specs.Distinct.{HaveDigests, are_alike, row_digest}
+use Rattle.datastore_query.specs.Distinct.{HaveDigests, are_alike, row_digest, with_cell}
 use Rattle.datastore_query.specs.Query.{firsts, with_first}
 use Rattle.datastore_query.specs.Repeats.{columns_once, is_same_column}
 use Rattle.datastore_query.proofs.DecidingLemmas.{one_column}
 
-abbrev HasDigest : (ℕ → Option ℕ) → List Cell → Type 0
-HasDigest by_digest row = is_some (by_digest (row_digest row)) ≡ true
+abbrev HasDigest : List Column → (ℕ → Option ℕ) → Row → Type 0
+HasDigest columns by_digest row = is_some (by_digest (row_digest columns row)) ≡ true
 
--- A row whose digest isn't in the map is not among the kept rows.
-pub not_kept : (kept : List (List Cell)) (by_digest : ℕ → Option ℕ) (row : List Cell) → HaveDigests kept by_digest
-    → by_digest (row_digest row) ≡ None → list_any (same_cells row) kept ≡ false
-not_kept [] by_digest row all none = refl
-not_kept (other ∷ kept) by_digest row all none =
-    by (same_cells row other) refl
-    ∙ not_kept kept by_digest row (All-tail (HasDigest by_digest) other kept all) none
+-- No row is like one whose digest isn't in the map.
+pub not_kept : (columns : List Column) (first : List Row) (by_digest : ℕ → Option ℕ) (row : Row)
+    → HaveDigests columns first by_digest → by_digest (row_digest columns row) ≡ None
+    → list_any (are_alike columns row) first ≡ false
+not_kept columns [] by_digest row all none = refl
+not_kept columns (other ∷ first) by_digest row all none =
+    by (are_alike columns row other) refl
+    ∙ not_kept columns first by_digest row (All-tail (HasDigest columns by_digest) other first all) none
   where
-    by : (b : Bool) → same_cells row other ≡ b
-        → (same_cells row other || list_any (same_cells row) kept) ≡ list_any (same_cells row) kept
-    by false e = ap (λ b. b || list_any (same_cells row) kept) e
+    by : (b : Bool) → are_alike columns row other ≡ b
+        → (are_alike columns row other || list_any (are_alike columns row) first)
+        ≡ list_any (are_alike columns row) first
+    by false e = ap (λ b. b || list_any (are_alike columns row) first) e
     by true e =
-        let same : row ≡ other = cells-is row other e in
-        let free : by_digest (row_digest other) ≡ None = ap (λ r. by_digest (row_digest r)) (sym same) ∙ none in
-        let held : is_some (by_digest (row_digest other)) ≡ true = All-head (HasDigest by_digest) other kept all in
+        let same : projected columns row ≡ projected columns other =
+        cells-is (projected columns row) (projected columns other) e in
+        let free : by_digest (row_digest columns other) ≡ None =
+        ap (λ (cells : List Cell). by_digest (sip.finish (fold with_cell sip.initial cells))) (sym same) ∙ none in
+        let held : is_some (by_digest (row_digest columns other)) ≡ true =
+        All-head (HasDigest columns by_digest) other first all in
         absurd (cc (ap is_some free, held))
+
+-- The digest of the row that is added is put in the map.
+pub digests_put : (columns : List Column) (first : List Row) (by_digest put : ℕ → Option ℕ) (row : Row) (digest index : ℕ)
+    → digest ≡ row_digest columns row → ((q : ℕ) → put q ≡ cond (nat_eq digest q) (Some index) (by_digest q))
+    → put digest ≡ Some index → HaveDigests columns first by_digest → HaveDigests columns (first ++ row ∷ []) put
+digests_put columns first by_digest put row digest index is each there all =
+    All-push (HasDigest columns put) first row
+    (All-weaker (HasDigest columns by_digest) (HasDigest columns put) still first all)
+    (ap (λ d. is_some (put d)) (sym is) ∙ ap is_some there)
+  where
+    by : (b : Bool) (old : Option ℕ) → is_some old ≡ true → is_some (cond b (Some index) old) ≡ true
+    by true old e = refl
+    by false old e = e
+
+    still : (r : Row) → HasDigest columns by_digest r → HasDigest columns put r
+    still r e =
+        ap is_some (each (row_digest columns r))
+        ∙ by (nat_eq digest (row_digest columns r)) (by_digest (row_digest columns r)) e
 
 -- ---- rows in place of their cells
 
@@ -62,50 +86,6 @@ firsts_on-map {A} {B} f like kept (x ∷ xs) =
         let there : list_any (like (f x)) (map f kept) ≡ false = any_map f (like (f x)) kept ∙ e in
         more ∙ ap (λ ys. fold (with_first like) ys (map f xs)) (map-append f kept (x ∷ []))
         ∙ ap (λ b. fold (with_first like) (cond b (map f kept) (map f kept ++ f x ∷ [])) (map f xs)) (sym there)
-
--- the rows and cells that are kept after one more row
-pub record KeepsRow (columns : List Column) (first then_first rest : List Row) (row : Row) (then_kept : List (List Cell))
-    : Type 0 where
-  pub folded : fold (with_first (are_alike columns)) first (row ∷ rest)
-      ≡ fold (with_first (are_alike columns)) then_first rest
-  pub mapped : then_kept ≡ map (projected columns) then_first
-
--- A row is new where its cells are.
-pub keeps_row : (columns : List Column) (first then_first rest : List Row) (row : Row) (kept then_kept : List (List Cell))
-    (cells : List Cell) (new : Bool) → kept ≡ map (projected columns) first → cells ≡ projected columns row
-    → new ≡ not (list_any (same_cells cells) kept) → then_kept ≡ with_first same_cells kept cells
-    → then_first ≡ cond new (first ++ row ∷ []) first → KeepsRow columns first then_first rest row then_kept
-keeps_row columns first then_first rest row kept then_kept cells new all here is_new is_kept is_first =
-    by (list_any (are_alike columns row) first) refl
-  where
-    by : (found : Bool) → list_any (are_alike columns row) first ≡ found
-        → KeepsRow columns first then_first rest row then_kept
-    by found e =
-        let among : list_any (same_cells cells) kept ≡ found =
-        ap₂ (λ (xs : List Cell) (yss : List (List Cell)). list_any (same_cells xs) yss) here all
-        ∙ any_map (projected columns) (same_cells (projected columns row)) first ∙ e in
-        let chosen : then_first ≡ cond found first (first ++ row ∷ []) =
-        is_first ∙ ap (λ b. cond b (first ++ row ∷ []) first) (is_new ∙ ap not among)
-        ∙ turned found (first ++ row ∷ []) first in
-        record {
-          folded =
-              ap (λ b. fold (with_first (are_alike columns)) (cond b first (first ++ row ∷ [])) rest) e
-              ∙ ap (λ (xs : List Row). fold (with_first (are_alike columns)) xs rest) (sym chosen);
-          mapped =
-              is_kept ∙ ap (λ b. cond b kept (kept ++ cells ∷ [])) among
-              ∙ ap₂ (λ (yss : List (List Cell)) (xs : List Cell). cond found yss (yss ++ xs ∷ [])) all here
-              ∙ maps found ∙ ap (map (projected columns)) (sym chosen);
-        }
-      where
-        turned : {A : Type 0} (b : Bool) (x y : A) → cond (not b) x y ≡ cond b y x
-        turned true x y = refl
-        turned false x y = refl
-
-        maps : (b : Bool) → cond b (map (projected columns) first)
-            (map (projected columns) first ++ projected columns row ∷ [])
-            ≡ map (projected columns) (cond b first (first ++ row ∷ []))
-        maps true = refl
-        maps false = sym (map-append (projected columns) first (row ∷ []))
 
 -- ---- repeated columns
 
@@ -171,10 +151,12 @@ alike-once columns a b =
     ∙ sym (cells-all columns a b)
 
 -- The first rows by the cells in each column once are the first ones by the cells in all columns.
-pub distinct_cells : (columns : List Column) (rows : List Row)
-    → map (projected columns) (firsts (are_alike (columns_once columns)) rows)
-    ≡ firsts same_cells (map (projected columns) rows)
-distinct_cells columns rows =
-    ap (λ (like : Row → Row → Bool). map (projected columns) (firsts like rows))
-    (fun_ext (λ a. fun_ext (λ b. alike-once columns a b)))
-    ∙ firsts_on-map (projected columns) same_cells [] rows
+pub firsts_once : (columns : List Column) (rows : List Row)
+    → firsts (are_alike (columns_once columns)) rows ≡ firsts (are_alike columns) rows
+firsts_once columns rows =
+    ap (λ (like : Row → Row → Bool). firsts like rows) (fun_ext (λ a. fun_ext (λ b. alike-once columns a b)))
+
+-- The cells of the first rows are the first ones of the cells.
+pub firsts_cells : (columns : List Column) (rows : List Row)
+    → map (projected columns) (firsts (are_alike columns) rows) ≡ firsts same_cells (map (projected columns) rows)
+firsts_cells columns rows = firsts_on-map (projected columns) same_cells [] rows

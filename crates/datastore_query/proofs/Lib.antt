@@ -1,6 +1,7 @@
 pub mod DecidingLemmas
 pub mod DistinctLemmas
 mod Examples
+pub mod FieldNameLemmas
 pub mod FilterLemmas
 pub mod GrammarLemmas
 pub mod LeastLemmas
@@ -10,7 +11,9 @@ pub mod PartLemmas
 pub mod ResultLemmas
 pub mod RowLemmas
 pub mod SearchLemmas
+pub mod SelectLemmas
 pub mod SortLemmas
 pub mod SortReadingLemmas
+pub mod TokenLemmas
 pub mod ValueLemmas
 pub mod WordLemmas

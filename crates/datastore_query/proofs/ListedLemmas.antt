@@ -1,7 +1,9 @@
 -- Each cell of a page is a value.
-use Rattle.std.proofs.Common.{ℕ, ◌^◌, Bool, true, false, cond, List, [], ◌∷◌, ◌++◌, map, drop, fold, zero, suc}
+use Rattle.std.proofs.Common.{◌≡◌, ◌∙◌, ℕ, ◌^◌, Bool, true, false, cond, List, [], ◌∷◌, ◌++◌, map, drop, fold}
+use Rattle.std.proofs.Common.{zero, suc, ap, refl, sym, subst, take, length}
 use Rattle.std.specs.Prelude.{All, nat_lt, pos, decimal}
 use Rattle.std.specs.List.{list_any}
+use Rattle.std.proofs.lemmas.List.{length-map}
 use Rattle.std.proofs.lemmas.List.Elements.{All-cons, All-drop, All-filter, All-head, All-map, All-nil}
 use Rattle.std.proofs.lemmas.List.Elements.{All-push, All-tail, All-take, All-weaker}
 use Rattle.portal_base.specs.Ordered.{ascending}
@@ -12,13 +14,16 @@ use Rattle.table_schema.specs.declared.cell.Cell.{Cell}
 use Rattle.table_schema.specs.declared.cell.Cell.TheVariants as cell
 use Rattle.table_schema.specs.Printed.{IsValue}
 use Rattle.datastore_table.specs.declared.row.Row.{Row}
-use Rattle.datastore_table.specs.Cells.{cell_at, same_cells}
+use Rattle.datastore_table.specs.Cells.{cell_at}
 use Rattle.datastore_query.specs.declared.column.Column.{Column}
 use Rattle.datastore_query.specs.declared.column.Column.TheVariants as column
 use Rattle.datastore_query.specs.Column.{column_cell, id_cell, projected}
+use Rattle.datastore_query.specs.Distinct.{are_alike, firsts_alike_if, listed_rows}
 use Rattle.datastore_query.specs.Query.{firsts_if, is_selected, listing, page_rows, QueryValue, selected_rows}
 use Rattle.datastore_query.specs.Query.{with_first}
 use Rattle.datastore_query.specs.Sort.{in_order, sorts_cmp}
+use Rattle.datastore_query.proofs.DistinctLemmas.{firsts_cells}
+use Rattle.datastore_query.proofs.RowLemmas.{page_of_mapped}
 
 abbrev pub HasValues : Row → Type 0
 HasValues row = All IsValue row.cells
@@ -61,23 +66,54 @@ All-firsts_on P like kept (x ∷ xs) h k =
     All-firsts_on P like (with_first like kept x) xs (All-with_first P like kept x h (All-head P x xs k))
     (All-tail P x xs k)
 
-All-firsts_if : (b : Bool) (rows : List (List Cell)) → All (All IsValue) rows → All (All IsValue) (firsts_if b rows)
-All-firsts_if false rows h = h
-All-firsts_if true rows h = All-firsts_on (All IsValue) same_cells [] rows (All-nil (All IsValue)) h
+All-firsts_alike_if : (b : Bool) (columns : List Column) (rows : List Row) → All HasValues rows
+    → All HasValues (firsts_alike_if b columns rows)
+All-firsts_alike_if false columns rows h = h
+All-firsts_alike_if true columns rows h =
+    All-firsts_on HasValues (are_alike columns) [] rows (All-nil HasValues) h
 
-pub page_values : (query : QueryValue) (rows : List Row) → All (λ row. All IsValue row.cells) rows
-    → All (All IsValue) (page_rows query rows)
-page_values query rows h =
+cells-listed : (b : Bool) (columns : List Column) (rows : List Row)
+    → map (projected columns) (firsts_alike_if b columns rows) ≡ firsts_if b (map (projected columns) rows)
+cells-listed false columns rows = refl
+cells-listed true columns rows = firsts_cells columns rows
+
+-- The listing has the cells of the listed rows.
+listing-rows : (query : QueryValue) (rows : List Row)
+    → map (projected query.columns) (listed_rows query rows) ≡ listing query rows
+listing-rows query rows =
+    cells-listed query.distinct query.columns (in_order query.sorts (selected_rows query rows))
+
+-- The page has the cells of the rows on the page.
+pub page_of_rows : (query : QueryValue) (rows page : List Row)
+    → page ≡ take query.limit (drop query.offset (listed_rows query rows))
+    → map (projected query.columns) page ≡ page_rows query rows
+page_of_rows query rows page is =
+    ap (map (projected query.columns)) is
+    ∙ page_of_mapped (projected query.columns) query.limit query.offset (listed_rows query rows)
+    ∙ ap (λ (cells : List (List Cell)). take query.limit (drop query.offset cells)) (listing-rows query rows)
+
+pub count_of_rows : (query : QueryValue) (rows : List Row)
+    → length (listed_rows query rows) ≡ length (listing query rows)
+count_of_rows query rows =
+    sym (length-map (listed_rows query rows) (projected query.columns)) ∙ ap length (listing-rows query rows)
+
+-- Each cell of a row on the page is a value.
+pub values_of_rows : (query : QueryValue) (rows page : List Row) → All HasValues rows
+    → page ≡ take query.limit (drop query.offset (listed_rows query rows)) → All HasValues page
+values_of_rows query rows page h is =
     let selected : All HasValues (selected_rows query rows) =
     All-filter (is_selected query.filters query.words) HasValues rows h in
     let ordered : All HasValues (in_order query.sorts (selected_rows query rows)) =
     All-ascending HasValues (sorts_cmp query.sorts) (selected_rows query rows) selected in
-    let cells : All (λ row. All IsValue (projected query.columns row))
-    (in_order query.sorts (selected_rows query rows)) =
-    All-weaker HasValues (λ row. All IsValue (projected query.columns row)) (projected_values query.columns)
-    (in_order query.sorts (selected_rows query rows)) ordered in
-    let listed : All (All IsValue) (listing query rows) =
-    All-firsts_if query.distinct (map (projected query.columns) (in_order query.sorts (selected_rows query rows)))
-    (All-map (All IsValue) (projected query.columns) (in_order query.sorts (selected_rows query rows)) cells) in
-    All-take (All IsValue) query.limit (drop query.offset (listing query rows))
-    (All-drop (All IsValue) query.offset (listing query rows) listed)
+    let listed : All HasValues (listed_rows query rows) =
+    All-firsts_alike_if query.distinct query.columns (in_order query.sorts (selected_rows query rows)) ordered in
+    subst (λ rs. All HasValues rs) (sym is)
+    (All-take HasValues query.limit (drop query.offset (listed_rows query rows))
+    (All-drop HasValues query.offset (listed_rows query rows) listed))
+
+-- Each cell of the rows in the columns is a value.
+pub page_values : (columns : List Column) (rows : List Row) → All HasValues rows
+    → All (All IsValue) (map (projected columns) rows)
+page_values columns rows h =
+    All-map (All IsValue) (projected columns) rows
+    (All-weaker HasValues (λ row. All IsValue (projected columns row)) (projected_values columns) rows h)

@@ -1,8 +1,11 @@
--- No sort ties two rows with different `_id`s.
-use Rattle.std.proofs.Common.{◌≡◌, ◌∙◌, false, ◌||◌, List, [], ◌∷◌, refl, ap, ap₂}
+-- The order of cells of one type is that of their values, and no sort ties two rows with different `_id`s.
+use Rattle.std.proofs.Common.{◌≡◌, ◌∙◌, ℕ, ℤ, false, ◌||◌, List, [], ◌∷◌, refl, sym, ap, ap₂}
 use Rattle.std.specs.declared.cmp.Ordering.{Ordering}
 use Rattle.std.specs.declared.cmp.Ordering.TheVariants.{Less, Equal, Greater}
-use Rattle.std.specs.Ordering.{is_eq, ordering_reverse, ordering_then}
+use Rattle.std.specs.Ordering.{int_cmp, is_eq, nat_cmp, ordering_reverse, ordering_then}
+use Rattle.std.specs.Cmp.Lexicographic.{slice_cmp}
+use Rattle.table_schema.specs.Order.{cell_cmp}
+use Rattle.table_schema.specs.declared.cell.Cell.TheVariants as cell
 use Rattle.std.specs.List.{list_any}
 use Rattle.portal_base.specs.Ordered.{IsAscending, IsBelowAll}
 use Rattle.portal_base.proofs.Inserted.{AreApart}
@@ -10,6 +13,23 @@ use Rattle.datastore_table.specs.declared.row.Row.{Row}
 use Rattle.datastore_table.specs.Rows.{row_cmp, row_cmp_total}
 use Rattle.datastore_query.specs.declared.sort.Sort.{Sort}
 use Rattle.datastore_query.specs.Sort.{sort_cmp, sorts_cmp}
+
+then_equal : (r : Ordering) → ordering_then r Equal ≡ r
+then_equal Less = refl
+then_equal Equal = refl
+then_equal Greater = refl
+
+pub text_order : (a b : List ℕ) → slice_cmp nat_cmp a b ≡ cell_cmp (cell.Text a) (cell.Text b)
+unfolding cell_cmp
+text_order a b = refl
+
+pub whole_order : (x y : ℤ) → int_cmp x y ≡ cell_cmp (cell.Int x) (cell.Int y)
+unfolding cell_cmp
+whole_order x y = sym (then_equal (int_cmp x y))
+
+pub number_order : (x y : ℤ) → int_cmp x y ≡ cell_cmp (cell.Number x) (cell.Number y)
+unfolding cell_cmp
+number_order x y = sym (then_equal (int_cmp x y))
 
 above : (r : Ordering) → r ≡ Less → ordering_reverse r ≡ Greater
 above Less e = refl

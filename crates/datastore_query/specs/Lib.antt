@@ -1,5 +1,6 @@
 pub mod Column
 pub mod Distinct
+pub mod FieldNames
 pub mod Filter
 pub mod OrderedValues
 pub mod Query

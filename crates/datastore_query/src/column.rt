@@ -1,21 +1,21 @@
 //! The columns of a table's rows: `_id` and the fields.
 ghost use Rattle.std.specs.Prelude.{◌≡◌, ◌∷◌, ℕ, All, IfOk, Ok, OnOk, length, map, nat_eq, not, option_copied, option_map};
-ghost use Rattle.std.specs.Prelude.{position};
 ghost use Rattle.std.specs.HashSet.{contains};
-ghost use Rattle.std.specs.Str.{bytes_eq};
-ghost use Rattle.table_schema.specs.Printed.{IsValue};
+ghost use Rattle.table_schema.specs.Printed.{IsValue, cell_value};
 ghost use Rattle.datastore_query.specs.Column.{all_columns, column_cell, column_kind, column_name, column_of};
 ghost use Rattle.datastore_query.specs.Column.{column_reading, columns_reading, id_cell, named_columns, no_field_error};
-ghost use Rattle.datastore_query.specs.Column.{field_index, projected};
+ghost use Rattle.datastore_query.specs.Column.{projected};
 ghost use Rattle.datastore_query.specs.Repeats.{column_number, columns_once, with_number};
 
+use crate::field_names::FieldNames;
 use datastore_table::Row;
 use portal_base::copy::TryClone;
+use portal_base::json_value::Json;
 use portal_base::seq::Seq;
 use portal_base::text::Text;
 use std::alloc::{AllocError, Global};
 use std::collections::HashSet;
-use table_schema::{Cell, Field, Kind};
+use table_schema::{Cell, Field, Kind, cell_json};
 
 /// The name of the column of `_id`s.
 const ID: &str = "_id";
@@ -29,22 +29,14 @@ pub(crate) enum Column {
     Field(usize),
 }
 
-fn field_index(fields: &[Field], name: &str) -> Option<usize>
-    ensures { result ≡ field_index fields.now name.now }
-{
-    fields
-        .iter()
-        .position(|field| field.name().as_str() == name)
-}
-
 /// Finds the column with this name.
-pub(crate) fn column_of(fields: &[Field], name: &str) -> Option<Column>
+pub(crate) fn column_of(fields: &FieldNames, name: &str) -> Option<Column>
     ensures { result ≡ column_of fields.now name.now }
 {
     if name == ID {
         return Some(Column::Id);
     }
-    match field_index(fields, name) {
+    match fields.index_of(name) {
         Some(index) => Some(Column::Field(index)),
         None => None,
     }
@@ -58,12 +50,12 @@ pub(crate) fn no_field_error(alloc: Global, name: &str) -> Result<Text, AllocErr
 }
 
 /// The type of its cells.
-pub(crate) fn kind_of(fields: &[Field], column: Column) -> Kind
+pub(crate) fn kind_of(fields: &FieldNames, column: Column) -> Kind
     ensures { result ≡ column_kind fields.now column }
 {
     match column {
         Column::Id => Kind::Integer,
-        Column::Field(index) => match fields.get(index) {
+        Column::Field(index) => match fields.as_slice().get(index) {
             Some(field) => field.form().kind(),
             None => Kind::Text,
         },
@@ -113,7 +105,7 @@ fn all_columns(alloc: Global, fields: &[Field]) -> Result<Seq<Column>, AllocErro
 // The columns with these names, or the error for the first name that no column has.
 fn named_columns(
     alloc: Global,
-    fields: &[Field],
+    fields: &FieldNames,
     names: &[Text],
 ) -> Result<Result<Seq<Column>, Text>, AllocError>
     ensures { IfOk result (λ columns. columns ≡ named_columns fields.now names.now) }
@@ -132,19 +124,19 @@ fn named_columns(
 /// columns.
 pub(crate) fn columns_of(
     alloc: Global,
-    fields: &[Field],
+    fields: &FieldNames,
     names: &Option<Seq<Text>>,
 ) -> Result<Result<Seq<Column>, Text>, AllocError>
     ensures { IfOk result (λ columns. columns ≡ columns_reading fields.now names.now) }
 {
     match names {
-        None => Ok(Ok(all_columns(alloc, fields)?)),
+        None => Ok(Ok(all_columns(alloc, fields.as_slice())?)),
         Some(names) => named_columns(alloc, fields, names.as_slice()),
     }
 }
 
-// An `_id` as a cell: an integer, or its digits as a text if it exceeds `i64`.
-fn id_cell(alloc: Global, id: u64) -> Result<Cell, AllocError>
+/// An `_id` as a cell: an integer, or its digits as a text if it exceeds `i64`.
+pub(crate) fn id_cell(alloc: Global, id: u64) -> Result<Cell, AllocError>
     ensures { IfOk result (λ cell. cell ≡ id_cell id) }
 {
     match i64::try_from(id) {
@@ -153,9 +145,23 @@ fn id_cell(alloc: Global, id: u64) -> Result<Cell, AllocError>
     }
 }
 
+/// The JSON value of the cell of a row in a column.
+pub(crate) fn value_in(alloc: Global, row: &Row, column: Column) -> Result<Json, AllocError>
+    requires { All IsValue row.now.cells }
+    ensures { IfOk result (λ value. value ≡ cell_value (column_cell column row.now)) }
+{
+    match column {
+        Column::Id => cell_json(alloc, &id_cell(alloc, row.id)?),
+        Column::Field(index) => match row.cells.as_slice().get(index) {
+            Some(cell) => cell_json(alloc, cell),
+            None => Ok(Json::Null),
+        },
+    }
+}
+
 // The cell of a row in a column.
 fn cell_of(alloc: Global, row: &Row, column: Column) -> Result<Cell, AllocError>
-    ensures cell { IfOk result (λ cell. cell ≡ column_cell column row.now) }
+    ensures { IfOk result (λ cell. cell ≡ column_cell column row.now) }
 {
     match column {
         Column::Id => id_cell(alloc, row.id),

@@ -13,13 +13,14 @@ ghost use Rattle.datastore_query.specs.Filter.{passes_filter, passes_filters, ty
 ghost use Rattle.datastore_query.specs.Filter.{unreadable_keys};
 
 use crate::column::{Column, column_of, kind_of, no_field_error};
+use crate::field_names::FieldNames;
 use datastore_table::Row;
 use portal_base::copy::TryClone;
 use portal_base::json_value::Json;
 use portal_base::seq::Seq;
 use portal_base::text::Text;
 use std::alloc::{AllocError, Global};
-use table_schema::{Cell, Field, Kind, value_of};
+use table_schema::{Cell, Kind, value_of};
 
 /// A filter. A row passes it if it has one of these values in the column.
 #[derive(Drop)]
@@ -76,7 +77,7 @@ fn filter_values(alloc: Global, kind: Kind, value: &Json) -> Result<Option<Seq<C
 // The filter of an entry, if its column exists and its values have the column's type.
 fn entry_filter(
     alloc: Global,
-    fields: &[Field],
+    fields: &FieldNames,
     entry: &(Text, Json),
 ) -> Result<Option<Filter>, AllocError>
     ensures { IfOk result (λ filter. filter ≡ entry_reading fields.now entry.now) }
@@ -99,7 +100,7 @@ fn is_earlier(name: &Text, least: Option<&Text>) -> bool
     }
 }
 
-fn is_unknown(fields: &[Field], entry: &(Text, Json)) -> bool
+fn is_unknown(fields: &FieldNames, entry: &(Text, Json)) -> bool
     ensures { result ≡ is_unknown fields.now entry.now }
 {
     column_of(fields, entry.0.as_str()).is_none()
@@ -107,7 +108,7 @@ fn is_unknown(fields: &[Field], entry: &(Text, Json)) -> bool
 
 // The least key, in the order of bytes, that names no column.
 #[tactic(auto, using(crate::proofs::LeastLemmas::least_more))]
-fn least_unknown<'a>(fields: &[Field], entries: &'a [(Text, Json)]) -> Option<&'a Text>
+fn least_unknown<'a>(fields: &FieldNames, entries: &'a [(Text, Json)]) -> Option<&'a Text>
     ensures { option_copied result ≡ least (unknown_keys fields.now entries.now) }
 {
     let mut least = None;
@@ -119,7 +120,11 @@ fn least_unknown<'a>(fields: &[Field], entries: &'a [(Text, Json)]) -> Option<&'
     least
 }
 
-fn is_unreadable(alloc: Global, fields: &[Field], entry: &(Text, Json)) -> Result<bool, AllocError>
+fn is_unreadable(
+    alloc: Global,
+    fields: &FieldNames,
+    entry: &(Text, Json),
+) -> Result<bool, AllocError>
     ensures { IfOk result (λ unreadable. unreadable ≡ is_unreadable fields.now entry.now) }
 {
     Ok(entry_filter(alloc, fields, entry)?.is_none())
@@ -138,7 +143,7 @@ fn copy_of(alloc: Global, name: Option<&Text>) -> Result<Option<Text>, AllocErro
 #[tactic(auto, using(crate::proofs::LeastLemmas::least_more))]
 fn least_unreadable(
     alloc: Global,
-    fields: &[Field],
+    fields: &FieldNames,
     entries: &[(Text, Json)],
 ) -> Result<Option<Text>, AllocError>
     ensures { IfOk result (λ key. key ≡ least (unreadable_keys fields.now entries.now)) }
@@ -155,7 +160,7 @@ fn least_unreadable(
 // The filters that can be read.
 fn filters_in(
     alloc: Global,
-    fields: &[Field],
+    fields: &FieldNames,
     entries: &[(Text, Json)],
 ) -> Result<Seq<Filter>, AllocError>
     ensures { IfOk result (λ filters. filters ≡ filters_in fields.now entries.now) }
@@ -188,7 +193,7 @@ fn entries_of(filters: &Json) -> &[(Text, Json)]
 /// If each key names one, it is that of the least key whose value doesn't have the column's type.
 pub(crate) fn filters_of(
     alloc: Global,
-    fields: &[Field],
+    fields: &FieldNames,
     filters: &Json,
 ) -> Result<Result<Seq<Filter>, Text>, AllocError>
     ensures { IfOk result (λ read. read ≡ filters_reading fields.now filters.now) }

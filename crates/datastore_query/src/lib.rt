@@ -3,9 +3,12 @@
 #![tactic(auto)]
 
 mod column;
+mod distinct;
 mod fault;
+mod field_names;
 mod filter;
 pub mod laws;
+mod lent_row;
 mod order;
 mod ordered_filter;
 mod page;
@@ -17,6 +20,8 @@ mod sort_text;
 mod words;
 
 pub use fault::QueryFault;
-pub use page::Page;
+pub use field_names::FieldNames;
+pub use lent_row::LentRow;
+pub use page::{LentPage, Page};
 pub use parts::Parts;
 pub use query::Query;

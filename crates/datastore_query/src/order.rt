@@ -1,5 +1,6 @@
 //! The order of rows by the columns of a sort.
-ghost use Rattle.std.specs.Prelude.{◌≡◌, OnOk};
+ghost use Rattle.std.specs.Prelude.{◌≡◌, ◌<◌, IfOk, length, take};
+ghost use Rattle.std.specs.List.Sorted.{IsPermutation, IsSorted};
 ghost use Rattle.portal_base.specs.Ordered.{IsAscending};
 ghost use Rattle.table_schema.specs.Order.{cell_cmp};
 ghost use Rattle.datastore_table.specs.Cells.{cell_at};
@@ -7,40 +8,25 @@ ghost use Rattle.datastore_table.specs.Rows.{row_cmp};
 ghost use Rattle.datastore_query.specs.Sort.{column_cmp, in_order, sort_cmp, sorts_cmp};
 
 use crate::column::Column;
+use crate::lent_row::LentRow;
 use crate::sort::{Sort, deciding};
 use crate::sort_text::Direction;
 use datastore_table::Row;
 use portal_base::ordered::Ordered;
 use std::alloc::{AllocError, Global};
 use std::cmp::Ordering;
-use std::marker::Model;
 use table_schema::Cell;
 
-/// A borrowed row. Contracts see it as the row.
-#[derive(Drop)]
-pub(crate) struct LentRow<'a> {
-    row: &'a Row,
-}
-
-impl<'a> Model for LentRow<'a> {
-    ghost use Rattle.datastore_table.specs.declared.row.Row.{Row};
-
-    ghost Value = { Row };
-
-    ghost view = { λ lent. lent.row.now };
-}
-
-impl<'a> LentRow<'a> {
-    pub(crate) fn of(row: &'a Row) -> LentRow<'a>
-        ensures { result ≡ row.now }
-    {
-        LentRow { row }
-    }
-
-    pub(crate) fn row(&self) -> &'a Row
-        ensures { result.now ≡ self.now }
-    {
-        self.row
+// Compares two cells. Most are of one type, so that their values alone are compared.
+#[tactic(auto, using(crate::proofs::OrderLemmas::text_order, crate::proofs::OrderLemmas::whole_order, crate::proofs::OrderLemmas::number_order))]
+fn compare_values(one: &Cell, other: &Cell) -> Ordering
+    ensures { result ≡ cell_cmp one.now other.now }
+{
+    match (one, other) {
+        (Cell::Text(one), Cell::Text(other)) => one.as_str().cmp(other.as_str()),
+        (Cell::Int(one), Cell::Int(other)) => one.cmp(other),
+        (Cell::Number(one), Cell::Number(other)) => one.cmp(other),
+        _ => one.order(other),
     }
 }
 
@@ -49,7 +35,7 @@ fn compare_cells(one: &Row, other: &Row, index: usize) -> Ordering
 {
     let (one, other) = (one.cells.as_slice(), other.cells.as_slice());
     match (one.get(index), other.get(index)) {
-        (Some(one), Some(other)) => one.order(other),
+        (Some(one), Some(other)) => compare_values(one, other),
         (Some(one), None) => one.order(&Cell::Null),
         (None, Some(other)) => Cell::Null.order(other),
         (None, None) => Cell::Null.order(&Cell::Null),
@@ -93,10 +79,10 @@ fn compare_lent(sorts: &[Sort], one: &LentRow, other: &LentRow) -> Ordering
     compare(sorts, one.row(), other.row())
 }
 
-// Sorts rows that are in ascending order of their `_id`. It takes no memory.
-fn put_in_order(rows: &mut Vec<LentRow>, sorts: &[Sort])
-    requires { IsAscending row_cmp rows.old.items }
-    ensures { rows.new.items ≡ in_order sorts.now rows.old.items }
+// Sorts rows. It takes no memory.
+fn put_in_order(rows: &mut [LentRow], sorts: &[Sort])
+    ensures permutation { IsPermutation rows.old rows.new }
+    ensures sorted { IsSorted (sorts_cmp sorts.now) rows.new }
 {
     rows.sort_unstable_by(
         |one: &LentRow, other: &LentRow| -> Ordering
@@ -105,18 +91,62 @@ fn put_in_order(rows: &mut Vec<LentRow>, sorts: &[Sort])
     );
 }
 
-/// Sorts rows that are in ascending order of their `_id`. Rows are compared once by each column, however often the sorts
-/// name it.
-#[tactic(auto, using(crate::proofs::DecidingLemmas::deciding_order))]
-pub(crate) fn sort_rows(
-    alloc: Global,
-    rows: &mut Vec<LentRow>,
+// Moves this many of the first rows in the order to the front, and sorts these alone. It takes no memory.
+fn select_first<'s, 'a>(
+    rows: &'s mut [LentRow<'a>],
     sorts: &[Sort],
-) -> Result<(), AllocError>
-    requires { IsAscending row_cmp rows.old.items }
-    ensures { OnOk result (rows.new.items ≡ in_order sorts.now rows.old.items) }
+    count: usize,
+) -> &'s [LentRow<'a>]
+    requires ascending { IsAscending row_cmp rows.old }
+    requires more { count < length rows.old }
+    ensures { result.now ≡ take count (in_order sorts.now rows.old) }
 {
-    let first = deciding(alloc, sorts)?;
-    put_in_order(rows, first.as_slice());
-    Ok(())
+    let (front, _, _) = rows.select_nth_unstable_by(
+        count,
+        |one: &LentRow, other: &LentRow| -> Ordering
+            ensures { result ≡ sorts_cmp sorts.entry.now one.now other.now }
+        { compare_lent(sorts, one, other) },
+    );
+    put_in_order(front, sorts);
+    front
+}
+
+// This many of the first rows in the order, or all rows if there are fewer. It takes no memory.
+fn first_by<'s, 'a>(rows: &'s mut [LentRow<'a>], sorts: &[Sort], count: usize) -> &'s [LentRow<'a>]
+    requires { IsAscending row_cmp rows.old }
+    ensures { result.now ≡ take count (in_order sorts.now rows.old) }
+{
+    if count < rows.len() {
+        select_first(rows, sorts, count)
+    } else {
+        put_in_order(rows, sorts);
+        rows
+    }
+}
+
+// This many of the first rows, or all rows if there are fewer.
+fn leading<'s, 'a>(rows: &'s [LentRow<'a>], count: usize) -> &'s [LentRow<'a>]
+    ensures { result.now ≡ take count rows.now }
+{
+    &rows[..rows.len().min(count)]
+}
+
+/// This many of the first rows in the order of the sorts, or all rows if there are fewer. The rows are in ascending order
+/// of their `_id`. They are compared once by each column, however often the sorts name it, and not at all if the sorts
+/// name none.
+#[tactic(auto, using(crate::proofs::DecidingLemmas::deciding_order))]
+pub(crate) fn first_in_order<'s, 'a>(
+    alloc: Global,
+    rows: &'s mut [LentRow<'a>],
+    sorts: &[Sort],
+    count: usize,
+) -> Result<&'s [LentRow<'a>], AllocError>
+    requires { IsAscending row_cmp rows.old }
+    ensures { IfOk result (λ first. first.now ≡ take count (in_order sorts.now rows.old)) }
+{
+    if sorts.is_empty() {
+        return Ok(leading(rows, count));
+    }
+    let deciding = deciding(alloc, sorts)?;
+    Ok(first_by(rows, deciding.as_slice(), count))
 }

@@ -1,24 +1,31 @@
 //! The query: how it is read, and the page that it returns.
-ghost use Rattle.std.specs.Prelude.{◌≡◌, ◌++◌, All, IfErr, IfOk, IsTrue, Ok, length, map};
-ghost use Rattle.std.specs.Prelude.{OnOk};
+ghost use Rattle.std.specs.Prelude.{◌≡◌, ◌++◌, All, IfErr, IfOk, IsTrue, Ok, OnOk, drop, length, map, slice_get, take};
+ghost use Rattle.std.specs.Prelude.{unwrap_or};
 ghost use Rattle.portal_base.specs.Ordered.{IsAscending};
-ghost use Rattle.table_schema.specs.Printed.{IsValue};
+ghost use Rattle.table_schema.specs.declared.cell.Cell.TheVariants.{Null};
+ghost use Rattle.table_schema.specs.Printed.{IsValue, cell_value};
 ghost use Rattle.table_schema.specs.Values.{is_map};
 ghost use Rattle.datastore_table.specs.Rows.{row_cmp};
 ghost use Rattle.datastore_query.specs.Column.{column_name, projected};
-ghost use Rattle.datastore_query.specs.Query.{query_errors, filtered_ids, IsFault, listing, page_rows};
-ghost use Rattle.datastore_query.specs.Query.{query_reading, part_errors};
+ghost use Rattle.datastore_query.specs.Distinct.{are_alike, listed_rows};
+ghost use Rattle.datastore_query.specs.Query.{IsFault, filtered_ids, firsts, listing, page_rows, part_errors};
+ghost use Rattle.datastore_query.specs.Query.{query_errors, query_reading};
+ghost use Rattle.datastore_query.specs.Sort.{in_order};
 
-use crate::column::{Column, columns_of, names_of};
+use crate::column::{Column, columns_of, names_of, value_in};
+use crate::distinct::distinct_rows;
 use crate::fault::QueryFault;
+use crate::field_names::FieldNames;
 use crate::filter::{Filter, filters_of};
-use crate::order::{LentRow, sort_rows};
+use crate::lent_row::LentRow;
+use crate::order::first_in_order;
 use crate::ordered_filter::{passes_filters, with_values_in_order};
-use crate::page::Page;
+use crate::page::{LentPage, Page};
 use crate::parts::Parts;
-use crate::rows::{PageBounds, distinct_rows, page_of, projections, selected};
+use crate::rows::{PageBounds, lend_again, page_of, projections, selected};
 use crate::sort::{Sort, sorts_of};
 use datastore_table::{Row, Table};
+use portal_base::json_value::Json;
 use portal_base::seq::Seq;
 use portal_base::text::Text;
 use portal_base::tokens::tokens;
@@ -90,7 +97,16 @@ impl Query {
         ensures query { IfOk result (λ query. query_reading table.now.schema.fields parts.now ≡ Ok query) }
         ensures fault { IfErr result (IsFault (query_reading table.now.schema.fields parts.now)) }
     {
-        let fields = table.schema().fields().as_slice();
+        let fields = FieldNames::of(alloc, table.schema().fields().as_slice())?;
+        Query::read_by(alloc, &fields, parts)
+    }
+
+    // Reads a query by the table's fields.
+    fn read_by(alloc: Global, fields: &FieldNames, parts: &Parts) -> Result<Query, QueryFault>
+        requires { IsTrue (is_map parts.now.filters) }
+        ensures query { IfOk result (λ query. query_reading fields.now parts.now ≡ Ok query) }
+        ensures fault { IfErr result (IsFault (query_reading fields.now parts.now)) }
+    {
         let columns = columns_of(alloc, fields, &parts.fields)?;
         let filters = filters_of(alloc, fields, &parts.filters)?;
         let sorts = sorts_of(alloc, fields, parts.sort.as_str())?;
@@ -111,8 +127,16 @@ impl Query {
         }
     }
 
+    /// The names of the columns that the query returns, in its order.
+    pub fn column_names(&self, alloc: Global, table: &Table) -> Result<Seq<Text>, AllocError>
+        ensures { IfOk result (λ names. names ≡ map (column_name table.now.schema.fields) self.now.columns) }
+    {
+        let fields = table.schema().fields().as_slice();
+        names_of(alloc, fields, self.columns.as_slice())
+    }
+
     /// Runs the query on the table's rows and returns the page. The error is out of memory.
-    #[tactic(auto, using(crate::proofs::ListedLemmas::page_values, crate::proofs::RowLemmas::page_of_mapped))]
+    #[tactic(auto, using(crate::proofs::ListedLemmas::page_values))]
     pub fn run(&self, alloc: Global, table: &Table) -> Result<Page, AllocError>
         ensures columns { IfOk result (λ page. page.columns
             ≡ map (column_name table.now.schema.fields) self.now.columns) }
@@ -120,19 +144,39 @@ impl Query {
         ensures total { IfOk result (λ page. page.total ≡ length (listing self.now table.now.rows)) }
         ensures values { IfOk result (λ page. All (All IsValue) page.rows) }
     {
-        let names = names_of(
-            alloc,
-            table.schema().fields().as_slice(),
-            self.columns.as_slice(),
-        )?;
-        let listed = self.listed(alloc, table.rows())?;
-        let page = page_of(listed.as_slice(), self.bounds());
-        let rows = projections(alloc, self.columns.as_slice(), page)?;
+        let columns = self.column_names(alloc, table)?;
+        let page = self.lent_page(alloc, table)?;
+        let rows = projections(alloc, self.columns.as_slice(), page.rows.as_slice())?;
         Ok(Page {
-            columns: names,
+            columns,
             rows: Seq::from(rows),
-            total: listed.len() as u64,
+            total: page.total,
         })
+    }
+
+    /// Runs the query on the table's rows and returns the rows of the page, of which nothing is copied. The error is out
+    /// of memory.
+    #[tactic(auto, using(crate::proofs::ListedLemmas::page_of_rows, crate::proofs::ListedLemmas::count_of_rows, crate::proofs::ListedLemmas::values_of_rows))]
+    pub fn lent_page<'a>(&self, alloc: Global, table: &'a Table) -> Result<LentPage<'a>, AllocError>
+        ensures rows { IfOk result (λ page. map (projected self.now.columns) page.rows.items
+            ≡ page_rows self.now table.now.rows) }
+        ensures total { IfOk result (λ page. page.total ≡ length (listing self.now table.now.rows)) }
+        ensures values { IfOk result (λ page. All (λ row. All IsValue row.cells) page.rows.items) }
+    {
+        self.page_among(alloc, table.rows())
+    }
+
+    /// The JSON value of the cell of a row in the column at this index of the query's columns, and null if there is no
+    /// such column.
+    pub fn cell_json(&self, alloc: Global, row: &LentRow, index: usize) -> Result<Json, AllocError>
+        requires { All IsValue row.now.cells }
+        ensures { IfOk result (λ json. json
+            ≡ cell_value (unwrap_or (slice_get (projected self.now.columns row.now) index) Null)) }
+    {
+        match self.columns.as_slice().get(index) {
+            Some(column) => value_in(alloc, row.row(), *column),
+            None => Ok(Json::Null),
+        }
     }
 
     /// The `_id`s of the table's rows that pass the query's filters.
@@ -161,19 +205,60 @@ impl Query {
         }
     }
 
-    // The rows on all pages, in order.
+    // The rows of the page among these rows.
     #[tactic(auto, using(crate::proofs::RowLemmas::ascending_filtered))]
-    fn listed<'a>(&self, alloc: Global, rows: &'a [Row]) -> Result<Vec<LentRow<'a>>, AllocError>
+    fn page_among<'a>(&self, alloc: Global, rows: &'a [Row]) -> Result<LentPage<'a>, AllocError>
         requires ascending { IsAscending row_cmp rows.now }
         requires values { All (λ row. All IsValue row.cells) rows.now }
-        ensures { IfOk result (λ listed. map (projected self.now.columns) listed.items ≡ listing self.now rows.now) }
+        ensures rows { IfOk result (λ page. page.rows.items
+            ≡ take self.now.limit (drop self.now.offset (listed_rows self.now rows.now))) }
+        ensures total { IfOk result (λ page. page.total ≡ length (listed_rows self.now rows.now)) }
     {
-        let mut ordered = selected(alloc, self.filters.as_slice(), self.words.as_slice(), rows)?;
-        sort_rows(alloc, &mut ordered, self.sorts.as_slice())?;
+        let mut selected = selected(alloc, self.filters.as_slice(), self.words.as_slice(), rows)?;
         if self.distinct {
-            distinct_rows(alloc, self.columns.as_slice(), ordered.as_slice())
+            self.distinct_page(alloc, selected.as_mut_slice())
         } else {
-            Ok(ordered)
+            self.ordered_page(alloc, selected.as_mut_slice())
         }
+    }
+
+    // The rows of the page of the selected rows.
+    #[tactic(auto, using(crate::proofs::RowLemmas::page_within))]
+    fn ordered_page<'a>(
+        &self,
+        alloc: Global,
+        rows: &mut [LentRow<'a>],
+    ) -> Result<LentPage<'a>, AllocError>
+        requires { IsAscending row_cmp rows.old }
+        ensures rows { IfOk result (λ page. page.rows.items
+            ≡ take self.now.limit (drop self.now.offset (in_order self.now.sorts rows.old))) }
+        ensures total { IfOk result (λ page. page.total ≡ length (in_order self.now.sorts rows.old)) }
+    {
+        let total = rows.len() as u64;
+        let end = self.bounds().end_within(rows.len());
+        let first = first_in_order(alloc, rows, self.sorts.as_slice(), end)?;
+        let rows = lend_again(alloc, page_of(first, self.bounds()))?;
+        Ok(LentPage { rows, total })
+    }
+
+    // The rows of the page of the selected rows of which only the first of equal ones are listed.
+    #[tactic(auto, using(crate::proofs::RowLemmas::all_in_order))]
+    fn distinct_page<'a>(
+        &self,
+        alloc: Global,
+        rows: &mut [LentRow<'a>],
+    ) -> Result<LentPage<'a>, AllocError>
+        requires { IsAscending row_cmp rows.old }
+        ensures rows { IfOk result (λ page. page.rows.items ≡ take self.now.limit (drop self.now.offset
+            (firsts (are_alike self.now.columns) (in_order self.now.sorts rows.old)))) }
+        ensures total { IfOk result (λ page. page.total
+            ≡ length (firsts (are_alike self.now.columns) (in_order self.now.sorts rows.old))) }
+    {
+        let count = rows.len();
+        let ordered = first_in_order(alloc, rows, self.sorts.as_slice(), count)?;
+        let distinct = distinct_rows(alloc, self.columns.as_slice(), ordered)?;
+        let rows = lend_again(alloc, page_of(distinct.as_slice(), self.bounds()))?;
+        let total = distinct.len() as u64;
+        Ok(LentPage { rows, total })
     }
 }

@@ -1,25 +1,18 @@
-//! The rows of a query: their selection, their cells, distinct rows and a page of them.
-ghost use Rattle.std.specs.Prelude.{◌≡◌, true, All, IfOk, IsTrue, OnOk, drop, filter, fold, map, nat_eq, not, take};
-ghost use Rattle.std.specs.HashMap.{get};
-ghost use Rattle.std.specs.List.{list_any};
-ghost use Rattle.table_schema.specs.Order.{type_rank};
+//! The rows of a query: their selection, their cells, and a page of them.
+ghost use Rattle.std.specs.Prelude.{◌≡◌, ◌+◌, All, IfOk, drop, filter, map, min, take};
 ghost use Rattle.table_schema.specs.Printed.{IsValue};
-ghost use Rattle.datastore_table.specs.Cells.{same_cells};
 ghost use Rattle.datastore_query.specs.Column.{projected};
-ghost use Rattle.datastore_query.specs.Distinct.{HaveDigests, are_alike, row_digest};
-ghost use Rattle.datastore_query.specs.Query.{firsts, is_selected, with_first};
+ghost use Rattle.datastore_query.specs.Query.{is_selected};
 
-use crate::column::{Column, columns_once, projected};
+use crate::column::{Column, projected};
 use crate::filter::Filter;
-use crate::order::LentRow;
+use crate::lent_row::LentRow;
 use crate::ordered_filter::{OrderedFilter, passes_filters, with_values_in_order};
 use crate::words::{WordSet, has_words};
-use datastore_table::{Row, cells_digest};
+use datastore_table::Row;
 use portal_base::seq::Seq;
 use portal_base::text::Text;
 use std::alloc::{AllocError, Global};
-use std::collections::HashMap;
-use std::hash::{DefaultHasher, Hasher};
 use table_schema::Cell;
 
 /// The bounds of a page: it skips `offset` items and has at most `limit` items.
@@ -29,12 +22,36 @@ pub(crate) struct PageBounds {
     pub limit: u64,
 }
 
+impl PageBounds {
+    /// How many of this many items are on the page or before it.
+    pub(crate) fn end_within(self, count: usize) -> usize
+        ensures { result ≡ min (self.offset + self.limit) count }
+    {
+        let end = self.offset.saturating_add(self.limit);
+        count.min(end as usize)
+    }
+}
+
 /// The items within the bounds of a page.
 pub(crate) fn page_of<T>(items: &[T], bounds: PageBounds) -> &[T]
     ensures { result.now ≡ take bounds.limit (drop bounds.offset items.now) }
 {
     let after = &items[items.len().min(bounds.offset as usize)..];
     &after[..after.len().min(bounds.limit as usize)]
+}
+
+/// The rows, lent once more.
+pub(crate) fn lend_again<'a>(
+    alloc: Global,
+    rows: &[LentRow<'a>],
+) -> Result<Vec<LentRow<'a>>, AllocError>
+    ensures { IfOk result (λ lent. lent.items ≡ rows.now) }
+{
+    let mut lent = Vec::with_capacity(alloc, rows.len())?;
+    for row in rows {
+        lent.push(LentRow::of(row.row()))?;
+    }
+    Ok(lent)
 }
 
 // Whether a row passes the filters and has the words.
@@ -101,131 +118,4 @@ pub(crate) fn projections(
         cells.push(projected(alloc, columns, row.row())?)?;
     }
     Ok(cells)
-}
-
-fn is_same(one: &[Cell], other: &[Cell]) -> bool
-    ensures { result ≡ same_cells one.now other.now }
-{
-    if one.len() != other.len() {
-        return false;
-    }
-    for index in 0..one.len() {
-        if !one[index].is_same(&other[index]) {
-            return false;
-        }
-    }
-    true
-}
-
-fn is_among(rows: &[Seq<Cell>], row: &[Cell]) -> bool
-    ensures { result ≡ list_any (same_cells row.now) rows.now }
-{
-    rows.iter().any(|other| is_same(row, other.as_slice()))
-}
-
-// Whether there is a row at this index that is equal to this one.
-fn is_at(rows: &[Seq<Cell>], index: usize, row: &[Cell]) -> bool
-    ensures { IsTrue result → list_any (same_cells row.now) rows.now ≡ true }
-{
-    match rows.get(index) {
-        Some(other) => is_same(row, other.as_slice()),
-        None => false,
-    }
-}
-
-// The rank of a cell's type.
-fn type_rank(cell: &Cell) -> u8
-    ensures { result ≡ type_rank cell.now }
-{
-    match cell {
-        Cell::Text(_) => 0,
-        Cell::Int(_) => 1,
-        Cell::Number(_) => 2,
-        Cell::Truth(_) => 3,
-        Cell::Date(_) => 4,
-        Cell::Time(_) => 5,
-        Cell::Stamp(_) => 6,
-        Cell::Year(_) => 7,
-        Cell::YearMonth(_, _) => 8,
-        Cell::Null => 9,
-    }
-}
-
-// A digest of a row's cells. Unequal rows seldom have equal digests, also where null stands in one and 0 in the other.
-fn row_digest(cells: &[Cell]) -> u64
-    ensures { result ≡ row_digest cells.now }
-{
-    let mut hasher = DefaultHasher::new();
-    for cell in cells {
-        hasher.write_u8(type_rank(cell));
-    }
-    hasher.write_u64(cells_digest(cells));
-    hasher.finish()
-}
-
-// Whether the row with this digest is among the kept rows. `by_digest` has the digest of each kept row, with an index.
-fn is_kept(kept: &[Seq<Cell>], by_digest: &HashMap<u64, usize>, row: &[Cell], digest: u64) -> bool
-    requires by_digest { HaveDigests kept.now (get nat_eq by_digest.now) }
-    requires digest { digest ≡ row_digest row.now }
-    ensures { result ≡ list_any (same_cells row.now) kept.now }
-{
-    match by_digest.get(&digest) {
-        Some(index) => is_at(kept, *index, row) || is_among(kept, row),
-        None => false,
-    }
-}
-
-// Keeps the row, unless it is kept already. Returns whether it is new.
-fn keep(
-    kept: &mut Vec<Seq<Cell>>,
-    by_digest: &mut HashMap<u64, usize>,
-    row: Seq<Cell>,
-) -> Result<bool, AllocError>
-    requires { HaveDigests kept.old.items (get nat_eq by_digest.old) }
-    ensures new { IfOk result (λ new. new ≡ not (list_any (same_cells row) kept.old.items)) }
-    ensures kept { OnOk result (kept.new.items ≡ with_first same_cells kept.old.items row) }
-    ensures by_digest { OnOk result (HaveDigests kept.new.items (get nat_eq by_digest.new)) }
-{
-    let digest = row_digest(row.as_slice());
-    if is_kept(kept.as_slice(), by_digest, row.as_slice(), digest) {
-        return Ok(false);
-    }
-    by_digest.insert(digest, kept.len())?;
-    kept.push(row)?;
-    Ok(true)
-}
-
-// The first of each group of rows with equal cells in these columns, in the given order.
-fn first_rows<'a>(
-    alloc: Global,
-    columns: &[Column],
-    rows: &[LentRow<'a>],
-) -> Result<Vec<LentRow<'a>>, AllocError>
-    ensures { IfOk result (λ first. first.items ≡ firsts (are_alike columns.now) rows.now) }
-{
-    let mut first = Vec::new(alloc);
-    let mut kept = Vec::new(alloc);
-    let mut by_digest = HashMap::new(alloc);
-    for row in rows {
-        let cells = projected(alloc, columns, row.row())?;
-        if keep(&mut kept, &mut by_digest, cells)? {
-            first.push(LentRow::of(row.row()))?;
-        }
-    }
-    Ok(first)
-}
-
-/// The first of each group of rows with equal cells in these columns, in the given order. It keeps a row's cell once,
-/// however often the columns name it.
-#[tactic(auto, using(crate::proofs::DistinctLemmas::distinct_cells))]
-pub(crate) fn distinct_rows<'a>(
-    alloc: Global,
-    columns: &[Column],
-    rows: &[LentRow<'a>],
-) -> Result<Vec<LentRow<'a>>, AllocError>
-    ensures { IfOk result (λ first. map (projected columns.now) first.items
-        ≡ firsts same_cells (map (projected columns.now) rows.now)) }
-{
-    let once = columns_once(alloc, columns)?;
-    first_rows(alloc, once.as_slice(), rows)
 }

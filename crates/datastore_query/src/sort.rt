@@ -7,12 +7,12 @@ ghost use Rattle.datastore_query.specs.SortText.{is_unclosed, part_reading, part
 ghost use Rattle.datastore_query.specs.Repeats.{deciding};
 
 use crate::column::{Column, add_column, column_of, no_field_error};
+use crate::field_names::FieldNames;
 use crate::sort_text::{Direction, directed, is_unclosed, name_of, split_at_comma};
 use portal_base::seq::Seq;
 use portal_base::text::Text;
 use std::alloc::{AllocError, Global};
 use std::collections::HashSet;
-use table_schema::Field;
 
 /// One column that rows are sorted by, and the direction.
 #[derive(Clone, Copy, Drop)]
@@ -59,7 +59,7 @@ fn parts_of(alloc: Global, text: &str) -> Result<Vec<Option<SortName>>, AllocErr
     Ok(parts)
 }
 
-fn unknown_name<'a>(fields: &[Field], part: &'a Option<SortName>) -> Option<&'a Text>
+fn unknown_name<'a>(fields: &FieldNames, part: &'a Option<SortName>) -> Option<&'a Text>
     ensures { option_copied result ≡ unknown_name fields.now part.now }
 {
     match part {
@@ -69,7 +69,7 @@ fn unknown_name<'a>(fields: &[Field], part: &'a Option<SortName>) -> Option<&'a 
 }
 
 // The first name that no column has.
-fn first_unknown<'a>(fields: &[Field], parts: &'a [Option<SortName>]) -> Option<&'a Text>
+fn first_unknown<'a>(fields: &FieldNames, parts: &'a [Option<SortName>]) -> Option<&'a Text>
     ensures { option_copied result ≡ first_unknown fields.now parts.now }
 {
     for part in parts {
@@ -86,7 +86,7 @@ fn is_unreadable(parts: &[Option<SortName>]) -> bool
     parts.iter().any(Option::is_none)
 }
 
-fn sort_of(fields: &[Field], part: &Option<SortName>) -> Option<Sort>
+fn sort_of(fields: &FieldNames, part: &Option<SortName>) -> Option<Sort>
     ensures { result ≡ sort_of fields.now part.now }
 {
     match part {
@@ -103,7 +103,7 @@ fn sort_of(fields: &[Field], part: &Option<SortName>) -> Option<Sort>
 
 fn sorts_in(
     alloc: Global,
-    fields: &[Field],
+    fields: &FieldNames,
     parts: &[Option<SortName>],
 ) -> Result<Seq<Sort>, AllocError>
     ensures { IfOk result (λ sorts. sorts ≡ sorts_in fields.now parts.now) }
@@ -121,7 +121,7 @@ fn sorts_in(
 /// a column, it is that of a part that can't be read.
 pub(crate) fn sorts_of(
     alloc: Global,
-    fields: &[Field],
+    fields: &FieldNames,
     text: &str,
 ) -> Result<Result<Seq<Sort>, Text>, AllocError>
     ensures { IfOk result (λ read. read ≡ sort_reading fields.now text.now) }

@@ -4,13 +4,15 @@ ghost use Rattle.std.specs.List.{list_all, list_any};
 ghost use Rattle.std.specs.List.Sorted.{IsSorted};
 ghost use Rattle.std.specs.Cmp.Lexicographic.{slice_cmp};
 ghost use Rattle.std.specs.Ordering.{nat_cmp};
-ghost use Rattle.std.specs.Str.{bytes_eq};
-ghost use Rattle.portal_base.specs.Tokens.{tokens};
+ghost use Rattle.std.specs.Str.{bytes_eq, chars};
+ghost use Rattle.portal_base.specs.Tokens.{token_of_word, tokens};
 ghost use Rattle.table_schema.specs.Printed.{IsValue};
 ghost use Rattle.datastore_query.specs.Repeats.{PassAlike};
 ghost use Rattle.datastore_query.specs.Words.{cell_tokens, has_word, has_words, row_tokens};
 
+use caseless::default_case_fold_str;
 use datastore_table::Row;
+use portal_base::characters::is_word_character;
 use portal_base::copy::TryClone;
 use portal_base::text::Text;
 use portal_base::tokens::tokens;
@@ -18,8 +20,8 @@ use std::alloc::{AllocError, Global};
 use std::marker::Model;
 use table_schema::{Cell, cell_text};
 
-/// The count of words up to which a row's tokens are looked through for each of them, and not put in order.
-const FEW_WORDS: usize = 8;
+/// The count of words up to which a row is looked through for each of them, and its tokens aren't put in order.
+const FEW_WORDS: usize = 3;
 
 /// The words of a query, each once and in ascending order. Contracts see them as the query has them.
 #[derive(Drop)]
@@ -92,16 +94,82 @@ fn row_tokens(alloc: Global, row: &Row) -> Result<Vec<Text>, AllocError>
     Ok(found)
 }
 
-fn has_word(found: &[Text], word: &Text) -> bool
-    ensures { result ≡ has_word found.now word.now }
+// Whether a word of a text, or nothing between two separators, has this token.
+fn is_token_of(alloc: Global, word: &str, token: &str) -> Result<bool, AllocError>
+    ensures { IfOk result (λ is. is ≡ has_word (token_of_word (chars word.now)) token.now) }
 {
-    found.iter().any(|token| token.as_str() == word.as_str())
+    if word.is_empty() {
+        return Ok(false);
+    }
+    let folded = default_case_fold_str(alloc, word)?;
+    Ok(folded.as_str() == token)
 }
 
-fn are_all_found(found: &[Text], words: &[Text]) -> bool
-    ensures { result ≡ list_all (has_word found.now) words.now }
+// Whether the text has this token. The buffer takes one word after another, whatever it had before.
+fn has_token(
+    alloc: Global,
+    buffer: &mut String,
+    text: &str,
+    token: &str,
+) -> Result<bool, AllocError>
+    ensures { IfOk result (λ has. has ≡ has_word (tokens text.now) token.now) }
 {
-    words.iter().all(|word| has_word(found, word))
+    buffer.clear();
+    for character in text.chars() {
+        if is_word_character(character) {
+            buffer.push(character)?;
+        } else {
+            if is_token_of(alloc, buffer.as_str(), token)? {
+                return Ok(true);
+            }
+            buffer.clear();
+        }
+    }
+    is_token_of(alloc, buffer.as_str(), token)
+}
+
+// Whether the cell has this token. A text is looked through where it is.
+fn cell_has(
+    alloc: Global,
+    buffer: &mut String,
+    cell: &Cell,
+    token: &str,
+) -> Result<bool, AllocError>
+    requires { IsValue cell.now }
+    ensures { IfOk result (λ has. has ≡ has_word (cell_tokens cell.now) token.now) }
+{
+    if let Cell::Text(text) = cell {
+        return has_token(alloc, buffer, text.as_str(), token);
+    }
+    let text = cell_text(alloc, cell)?;
+    has_token(alloc, buffer, text.as_str(), token)
+}
+
+// Whether one of the row's cells has this token.
+fn row_has(alloc: Global, buffer: &mut String, row: &Row, token: &str) -> Result<bool, AllocError>
+    requires { All IsValue row.now.cells }
+    ensures { IfOk result (λ has. has ≡ has_word (row_tokens row.now) token.now) }
+{
+    for cell in row.cells.as_slice() {
+        if cell_has(alloc, buffer, cell, token)? {
+            return Ok(true);
+        }
+    }
+    Ok(false)
+}
+
+// Whether the row has each of the words. It looks through the row for each of them.
+fn has_each(alloc: Global, words: &[Text], row: &Row) -> Result<bool, AllocError>
+    requires { All IsValue row.now.cells }
+    ensures { IfOk result (λ has. has ≡ list_all (has_word (row_tokens row.now)) words.now) }
+{
+    let mut buffer = String::new(alloc);
+    for word in words {
+        if !row_has(alloc, &mut buffer, row, word.as_str())? {
+            return Ok(false);
+        }
+    }
+    Ok(true)
 }
 
 // Whether the word is among the tokens, which are in order. It is found by halving.
@@ -137,10 +205,8 @@ pub(crate) fn has_words(alloc: Global, words: &WordSet, row: &Row) -> Result<boo
     if once.is_empty() {
         return Ok(true);
     }
-    let found = row_tokens(alloc, row)?;
     if once.len() <= FEW_WORDS {
-        Ok(are_all_found(found.as_slice(), once))
-    } else {
-        Ok(are_all_found_sorted(found, once))
+        return has_each(alloc, once, row);
     }
+    Ok(are_all_found_sorted(row_tokens(alloc, row)?, once))
 }

@@ -10,6 +10,7 @@ pub mod Isolating
 pub mod Keeping
 pub mod Kept
 pub mod LedgerLemmas
+pub mod PageLemmas
 pub mod QueryLemmas
 pub mod Reading
 pub mod Settling

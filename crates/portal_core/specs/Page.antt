@@ -7,6 +7,9 @@ use Rattle.table_schema.specs.Field.{FieldValue}
 use Rattle.table_schema.specs.Form.{kind_of}
 use Rattle.row_records.specs.Records.{columns_of, record_of}
 use Rattle.datastore_answers.specs.Dictionary.{type_name}
+use Rattle.datastore_table.specs.declared.row.Row.{Row}
+use Rattle.datastore_query.specs.Column.{column_name, projected}
+use Rattle.datastore_query.specs.Query.{QueryValue}
 use Rattle.datastore_query.specs.declared.page.Page.{Page}
 use Rattle.portal_core.specs.declared.search_body.Search.{Search}
 
@@ -33,12 +36,26 @@ abbrev pub total_member : Bool → ℕ → List (List ℕ × Json)
 total_member true total = (codes "total", json.Whole (pos total)) ∷ []
 total_member false total = []
 
--- a page of the rows of the table of the resource of that id
-abbrev pub page_dictionary : List FieldValue → List ℕ → Search → Page → Json
-page_dictionary fields id search page = json.Map (
-    (codes "fields", json.List (map (column_dictionary fields) page.columns))
+-- the page of a query that has these rows
+abbrev pub page_with : List FieldValue → List Row → ℕ → QueryValue → Page
+page_with fields rows total query = record {
+  columns = map (column_name fields) query.columns;
+  rows = map (projected query.columns) rows;
+  total = total;
+}
+
+-- the dictionary of a page: its columns, its bounds, its records, the id of the table's resource, and the count of rows
+abbrev pub page_members : Search → List ℕ → List Json → List Json → ℕ → Json
+page_members search id columns records total = json.Map (
+    (codes "fields", json.List columns)
     ∷ (codes "limit", json.Whole (pos search.parts.limit))
     ∷ (codes "offset", json.Whole (pos search.parts.offset))
-    ∷ (codes "records", json.List (map (record_of (columns_of page.columns)) page.rows))
+    ∷ (codes "records", json.List records)
     ∷ (codes "resource_id", json.Text id)
-    ∷ total_member search.total page.total)
+    ∷ total_member search.total total)
+
+-- a page of the rows of the table of the resource of that id
+abbrev pub page_dictionary : List FieldValue → List ℕ → Search → Page → Json
+page_dictionary fields id search page =
+    page_members search id (map (column_dictionary fields) page.columns)
+    (map (record_of (columns_of page.columns)) page.rows) page.total

@@ -15,7 +15,7 @@ ghost use Rattle.portal_core.specs.Queries.{answer_to_datastore_delete, answer_t
 ghost use Rattle.portal_core.specs.Queries.{filters_alone};
 ghost use Rattle.portal_core.specs.Queries.{find_rows_of_resource, find_rows, query_for, rows_in_table, search_answer};
 
-use crate::page::page_json;
+use crate::page::query_page;
 use crate::search_body::search_in;
 use datastore_answers::answer::{TableAnswer, table_answer_or_refusal};
 use datastore_answers::answers::{datastore_delete, datastore_delete_rows};
@@ -109,8 +109,7 @@ fn search_answer(
     let mut faults = KeyErrors::new(alloc);
     let search = search_in(alloc, &mut faults, body)?;
     let query = query_for(alloc, faults, table, &search.parts)?;
-    let page = query.run(alloc, table)?;
-    Ok(Answer::Shown(page_json(alloc, table.schema(), id, &search, &page)?))
+    Ok(Answer::Shown(query_page(alloc, table, id, &search, &query)?))
 }
 
 /// The answer to a `datastore_search`.
