@@ -1,7 +1,6 @@
 -- What the answer to a call accepts is fit to be made where its caller sees things.
 use Rattle.std.proofs.Common.{◌≡◌, ℕ, List, Option, Some, None, Result, Ok, Err, sym, subst}
 use Rattle.std.specs.Prelude.{codes}
-use Rattle.portal_base.specs.KeyErrors.{KeyError}
 use Rattle.portal_base.specs.Kinds.{dictionary_at, message_of}
 use Rattle.portal_base.specs.declared.json_value.Json.{Json}
 use Rattle.portal_base.specs.declared.kinds.KindFault.{KindFault}

@@ -7,7 +7,7 @@ use Rattle.portal_calls.specs.declared.answer.Answer.{Answer}
 use Rattle.portal_calls.specs.declared.answer.Answer.TheVariants.{Shown, Refused, Accepted}
 use Rattle.portal_calls.specs.declared.call.Call.{Call}
 use Rattle.packages.specs.Shelf.{IsValidShelf}
-use Rattle.portal_core.specs.Answer.{call_view_of, answer_to}
+use Rattle.portal_core.specs.Answer.{answer_to}
 use Rattle.portal_core.specs.Changed.{changed, applied, claims_of, is_in_use, IsUnused}
 use Rattle.portal_core.specs.Fit.{IsFit}
 use Rattle.portal_calls.specs.Reply.{is_name_in_use}

@@ -1,17 +1,15 @@
 -- The tables that a caller sees, by the datasets that it sees.
 use Rattle.std.proofs.Common.{◌≡◌, ℕ, Bool, true, false, ◌&&◌, ◌||◌, cond, List, [], ◌∷◌, map, refl, sym, ap}
 use Rattle.std.proofs.Common.{◌∙◌, subst}
-use Rattle.std.proofs.Common.{inl, inr, Result, Ok, Err}
+use Rattle.std.proofs.Common.{inl, inr}
 use Rattle.std.specs.Prelude.{filter, if◌then◌else◌}
 use Rattle.std.specs.List.{list_any}
 use Rattle.std.specs.Str.{bytes_eq}
 use Rattle.std.proofs.lemmas.Slice.Eq.{bytes_eq-Decides}
-use Rattle.portal_base.specs.Ordered.{IsAscending, upserted, dropped}
-use Rattle.portal_base.specs.declared.json_value.Json.{Json}
+use Rattle.portal_base.specs.Ordered.{IsAscending}
 use Rattle.portal_base.proofs.Unique.{IsIn}
 use Rattle.packages.specs.declared.package.Package.{Package}
 use Rattle.visibility.proofs.ViewLemmas.{filter_twice}
-use Rattle.datastore_table.specs.declared.method.Method.{Method}
 use Rattle.datastore_answers.specs.Changed.{TableChange, changed_tables, without_rows, put_into}
 use Rattle.datastore_answers.specs.Changed as table
 use Rattle.datastore_answers.specs.Order.{at_address, is_at, table_cmp, table_cmp_total}

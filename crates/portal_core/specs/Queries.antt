@@ -21,7 +21,7 @@ use Rattle.datastore_query.specs.Query.{QueryValue, filtered_ids, listing, page_
 use Rattle.datastore_query.specs.declared.page.Page.{Page}
 use Rattle.datastore_query.specs.declared.parts.Parts.{Parts}
 use Rattle.visibility.specs.CallView.{CallView}
-use Rattle.datastore_answers.specs.TableAnswers.{answer_for_resource, or_refused, tables_beside}
+use Rattle.datastore_answers.specs.TableAnswers.{answer_for_resource, tables_beside}
 use Rattle.visibility.specs.Lookup.{resource_at}
 use Rattle.datastore_answers.specs.Answers.{answer_to_datastore_delete_rows, id_of}
 use Rattle.datastore_answers.specs.Answers as table

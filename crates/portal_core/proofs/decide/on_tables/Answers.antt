@@ -1,4 +1,4 @@
-use Rattle.std.proofs.Common.{Result, subst}
+use Rattle.std.proofs.Common.{subst}
 use Rattle.std.specs.Prelude.{IfOk}
 use Rattle.datastore_answers.specs.TableAnswers.{TableAcceptsOnly}
 use Rattle.datastore_answers.specs.Plan as table

@@ -11,4 +11,4 @@ invariant_of-result c =
     c.args.opening.now c.requires (c.of_lists.ensures.users ∙ ap (ascending user_cmp) c.in_ok-users.ensures)
     (c.of_lists.ensures.orgs ∙ ap (ascending org_cmp) c.in_ok-orgs.ensures)
     (c.of_lists.ensures.roles ∙ ap (ascending membership_cmp) c.in_ok-roles.ensures) c.new.ensures.none
-    c.new.ensures.room c.new-2.ensures c.new-3.ensures.items
+    c.new.ensures.room c.new-2.ensures c.new-3.ensures
