@@ -12,4 +12,4 @@ mod PrintLemmas
 mod PrintedTextLemmas
 mod TextLemmas
 mod ValueLemmas
-mod WrittenLemmas
+pub mod WrittenLemmas
