@@ -15,6 +15,7 @@ use Rattle.packages.specs.Named.{Located}
 use Rattle.packages.specs.declared.package.Resource.{Resource}
 use Rattle.packages.proofs.FindLemmas.{IsIn-find}
 use Rattle.table_schema.specs.Field.{SchemaValue}
+use Rattle.table_schema.specs.Written.{IsDescribed}
 use Rattle.table_schema.specs.declared.foreign.Foreign.{Foreign}
 use Rattle.visibility.specs.CallView.{CallView}
 use Rattle.datastore_table.specs.Batch.{delete_checked, referred_checked, removed_keys}
@@ -94,6 +95,7 @@ put-kept ts key how records t kept there taken =
       address = ap (λ (v : ResourceTable). v.address) made;
       targets = ap (λ (v : ResourceTable). v.targets) made;
       schema = ap (λ (v : ResourceTable). v.table.schema) made;
+      room = ap (λ (v : ResourceTable). v.table.room) made;
     })
     (subst (λ (v : ResourceTable). IsTable v.table.schema v.table.rows v.table.next_id) (sym made)
     (put_records-table how records t.table w valid put.1))
@@ -157,7 +159,7 @@ delete_rows-kept : (ts : List ResourceTable) (key : Address) (ids : List ℕ) (t
     → delete_rows_error (delete_among (tables_in t.address.dataset ts) t.address.number ids t) ≡ None
     → AreConsistent (with_table_at key (without_rows ids) ts)
 delete_rows-kept ts key ids t kept there keeps_references =
-    made-kept ts key (without_rows ids) t kept there (record { address = refl; targets = refl; schema = refl })
+    made-kept ts key (without_rows ids) t kept there (record { address = refl; targets = refl; schema = refl; room = refl })
     (cut_rows-table ids t.table valid checked.1)
     (λ index foreign slot self h.
     delete_rows-held_own (λ row. not (is_broken foreign.fields h.target.table.schema.key h.target.table.rows row)) ids
@@ -278,16 +280,16 @@ resolved-own located beside schema n (f ∷ fs) targets h =
 
 -- A new table of a resource without one, with records that it accepts, keeps the tables consistent.
 new-kept : (ts : List ResourceTable) (resource : Located) (schema : SchemaValue) (targets : List ℕ) (records : List Json)
-    → AreConsistent ts → table_at resource.resource.number (tables_beside resource ts) ≡ None
+    → AreConsistent ts → table_at resource.resource.number (tables_beside resource ts) ≡ None → IsDescribed schema
     → resolved_targets resource (tables_beside resource ts) schema ≡ Ok targets
     → put_error (put_among (tables_beside resource ts) method.Insert records
     (empty_table (address_of resource) schema targets)) ≡ None
     → AreConsistent (upserted table_cmp
     (put_into method.Insert records (empty_table (address_of resource) schema targets)) ts)
-new-kept ts located schema targets records kept none meant_all taken =
+new-kept ts located schema targets records kept none described meant_all taken =
     subst (λ v. AreConsistent (upserted table_cmp v ts)) (sym made)
     (create-kept ts (with_worked t (Ok w)) kept
-    (sym (beside-found located.dataset.id located.resource.number ts) ∙ none)
+    (sym (beside-found located.dataset.id located.resource.number ts) ∙ none) described refl
     (put_records-table method.Insert records t.table w empty put.1)
     (resolved-own located beside schema 0 schema.foreign targets meant_all) holds)
   where
@@ -372,7 +374,8 @@ pub fit-kept : (view : CallView) (ts : List ResourceTable) (made : TableChange) 
     → AreConsistent (changed_tables made ts)
 fit-kept view ts (change.Create t) kept fit =
     subst (λ v. AreConsistent (upserted table_cmp v ts)) (sym fit.made)
-    (new-kept ts fit.own.placed fit.schema fit.targets fit.records kept fit.none fit.resolved fit.taken)
+    (new-kept ts fit.own.placed fit.schema fit.targets fit.records kept fit.none fit.described fit.resolved
+    fit.taken)
 fit-kept view ts (change.Remove key) kept fit =
     remove-kept ts key kept
     (subst (λ (a : Address). is_referenced a.number (tables_in a.dataset ts) ≡ false)

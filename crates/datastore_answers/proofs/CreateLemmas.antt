@@ -17,6 +17,9 @@ use Rattle.portal_calls.specs.declared.answer.Quota.{Quota}
 use Rattle.portal_calls.specs.declared.stop.Stop.{Stop}
 use Rattle.table_schema.specs.Field.{SchemaValue}
 use Rattle.table_schema.specs.Keys.{schema_reading}
+use Rattle.table_schema.specs.Written.{IsDescribed}
+use Rattle.table_schema.specs.declared.fault.SchemaFault.{SchemaFault}
+use Rattle.table_schema.proofs.WrittenLemmas.{reading-described}
 use Rattle.datastore_table.specs.Results.{◌>>>◌}
 use Rattle.datastore_table.proofs.ResultLemmas.{bound-ok}
 use Rattle.datastore_table.specs.declared.method.Method.TheVariants as method
@@ -67,12 +70,19 @@ described-same (Ok d) one other same is = is ∙ same
 
 -- ---- a new table
 
--- The table belongs to the resource, has no rows, and its foreign keys reference tables of the dataset.
+-- The table belongs to the resource, has no rows and a schema that its own descriptor reads as, and its foreign keys
+-- reference tables of the dataset.
 pub record IsEmptyTable (placed : Located) (beside : List ResourceTable) (t : ResourceTable) : Type 0 where
   pub schema : SchemaValue
+  pub described : IsDescribed schema
   pub targets : List ℕ
   pub resolved : resolved_targets placed beside schema ≡ Ok targets
   pub made : t ≡ empty_table (address_of placed) schema targets
+
+schema-ok : (read : Result SchemaValue SchemaFault) (schema : SchemaValue) → schema_or_error read ≡ Ok schema
+    → read ≡ Ok schema
+schema-ok (Ok own) schema is = is
+schema-ok (Err why) schema is = absurd (cc)
 
 descriptor-empty_table : (placed : Located) (beside : List ResourceTable) (descriptor : Json) (t : ResourceTable)
     → table_of_descriptor placed beside descriptor ≡ Ok t → IsEmptyTable placed beside t
@@ -83,7 +93,13 @@ descriptor-empty_table placed beside descriptor t is =
     (λ targets. Ok (empty_table (address_of placed) read.0 targets)) t
     read.2 in
     let same : empty_table (address_of placed) read.0 resolved.0 ≡ t = cc in
-    record { schema = read.0; targets = resolved.0; resolved = resolved.1; made = sym same }
+    record {
+      schema = read.0;
+      described = reading-described descriptor read.0 (schema-ok (schema_reading descriptor) read.0 read.1);
+      targets = resolved.0;
+      resolved = resolved.1;
+      made = sym same;
+    }
 
 pub new-empty_table : (placed : Located) (beside : List ResourceTable) (body : Json) (t : ResourceTable)
     → described_table placed beside body None ≡ Ok t → IsEmptyTable placed beside t

@@ -104,6 +104,8 @@ drops-kept ts dataset resources kept none =
         → IsKept (tables_kept dataset resources ts) u
     by u was =
         let before = kept-each ts kept u was.0 in record {
+          described = before.described;
+          unready = before.unready;
           valid = before.valid;
           resolved = before.resolved;
           holds = holds-among (tables_in u.address.dataset ts)

@@ -220,6 +220,7 @@ new-fit view tables placed t is_present named may none empty read clear =
       };
       none = none;
       schema = empty.schema;
+      described = empty.described;
       targets = empty.targets;
       resolved = empty.resolved;
       records = value_or [] read;

@@ -19,6 +19,7 @@ use Rattle.portal_base.proofs.Removed.{is_eq_true}
 use Rattle.portal_base.proofs.Unique.{IsIn, below_in}
 use Rattle.table_schema.specs.Field.{SchemaValue}
 use Rattle.table_schema.specs.declared.foreign.Foreign.{Foreign}
+use Rattle.table_schema.specs.Written.{IsDescribed}
 use Rattle.datastore_table.specs.Meets.{IsTable}
 use Rattle.datastore_table.specs.References.{is_self}
 use Rattle.datastore_table.proofs.KeyLemmas.{true_false}
@@ -104,10 +105,10 @@ holds-among before after t found_still holds = λ index foreign there self.
 -- A new table of a resource without one keeps the references of the other tables.
 pub create-kept : (ts : List ResourceTable) (t : ResourceTable) → AreConsistent ts → found (at_address t.address) ts
     ≡ None
-    → IsTable t.table.schema t.table.rows t.table.next_id
+    → IsDescribed t.table.schema → t.table.room ≡ 0 → IsTable t.table.schema t.table.rows t.table.next_id
     → own_resolved t.address.number t.table.schema.foreign t.targets ≡ true → Holds (tables_in t.address.dataset ts) t
     → AreConsistent (upserted table_cmp t ts)
-create-kept ts t kept none valid resolved holds =
+create-kept ts t kept none described unready valid resolved holds =
     each-kept (upserted table_cmp t ts) (IsAscending-upserted table_cmp table_cmp_total t ts kept.ascending)
     (λ u m. by u (IsIn-upserted table_cmp t u ts m))
   where
@@ -136,6 +137,8 @@ create-kept ts t kept none valid resolved holds =
     by : (u : ResourceTable) → (u ≡ t) ⊎ (IsIn u ts × (is_eq (table_cmp u t) ≡ false))
         → IsKept (upserted table_cmp t ts) u
     by u (inl same) = subst (IsKept (upserted table_cmp t ts)) (sym same) (record {
+      described = described;
+      unready = unready;
       valid = valid;
       resolved = resolved;
       holds = holds-among (tables_in t.address.dataset ts) (tables_in t.address.dataset (upserted table_cmp t ts)) t
@@ -143,6 +146,8 @@ create-kept ts t kept none valid resolved holds =
     })
     by u (inr was) =
         let before = kept-each ts kept u was.0 in record {
+          described = before.described;
+          unready = before.unready;
           valid = before.valid;
           resolved = before.resolved;
           holds = holds-among (tables_in u.address.dataset ts) (tables_in u.address.dataset (upserted table_cmp t ts)) u
@@ -208,6 +213,8 @@ remove-kept ts key kept keeps_references =
     by : (u : ResourceTable) → IsIn u ts × (is_at key u ≡ false) → IsKept (dropped (at_address key) ts) u
     by u was =
         let before = kept-each ts kept u was.0 in record {
+          described = before.described;
+          unready = before.unready;
           valid = before.valid;
           resolved = before.resolved;
           holds = holds-among (tables_in u.address.dataset ts)
@@ -220,11 +227,12 @@ remove-kept ts key kept keeps_references =
 abbrev pub made_at : Address → (ResourceTable → ResourceTable) → ResourceTable → ResourceTable
 made_at key make u = if is_at key u then make u else u
 
--- A change of the table at an address that keeps its address, its schema and its targets.
+-- A change of the table at an address that keeps its address, its schema, its targets and the memory that is ready.
 pub record IsMade (make : ResourceTable → ResourceTable) (t : ResourceTable) : Type 0 where
   pub address : (make t).address ≡ t.address
   pub targets : (make t).targets ≡ t.targets
   pub schema : (make t).table.schema ≡ t.table.schema
+  pub room : (make t).table.room ≡ t.table.room
 
 -- In ordered tables, the table found at the address of one of them is that one.
 pub found-in : (key : Address) (ts : List ResourceTable) (u : ResourceTable) → IsAscending table_cmp ts → IsIn u ts
@@ -291,6 +299,9 @@ made-kept ts key make t kept there made valid own others =
 
     after : List ResourceTable
     after = with_table_at key make ts
+
+    own_kept : IsKept ts t
+    own_kept = kept-each ts kept t (IsIn-find (is_at key) t ts there).0
 
     own_address : t.address ≡ key
     own_address = at-is key t (IsIn-find (is_at key) t ts there).1
@@ -370,15 +381,16 @@ made-kept ts key make t kept there made valid own others =
 
     own_meant_after : own_resolved (make t).address.number (make t).table.schema.foreign (make t).targets ≡ true
     own_meant_after =
-        let before = (kept-each ts kept t (IsIn-find (is_at key) t ts there).0).resolved in
         ap (λ (a : Address). own_resolved a.number (make t).table.schema.foreign (make t).targets) made.address
         ∙ ap (λ (s : SchemaValue). own_resolved t.address.number s.foreign (make t).targets) made.schema
         ∙ ap (own_resolved t.address.number t.table.schema.foreign) made.targets
-        ∙ before
+        ∙ own_kept.resolved
 
     image : (u : ResourceTable) → IsIn u ts → (b : Bool) → is_at key u ≡ b → IsKept after (if b then make u else u)
     image u m false is =
         let before = kept-each ts kept u m in record {
+          described = before.described;
+          unready = before.unready;
           valid = before.valid;
           resolved = before.resolved;
           holds = λ index foreign slot self.
@@ -393,12 +405,14 @@ made-kept ts key make t kept there made valid own others =
               };
         }
     image u m true is = subst (λ v. IsKept after (make v)) (sym (one u m is)) (record {
+      described = subst (λ (s : SchemaValue). IsDescribed s) (sym made.schema) own_kept.described;
+      unready = made.room ∙ own_kept.unready;
       valid = valid;
       resolved = own_meant_after;
       holds = λ index foreign slot self.
           let was : slice_get t.table.schema.foreign index ≡ Some foreign =
           ap (λ (s : SchemaValue). slice_get s.foreign index) (sym made.schema) ∙ slot in
-          let h = (kept-each ts kept t (IsIn-find (is_at key) t ts there).0).holds index foreign was self in record {
+          let h = own_kept.holds index foreign was self in record {
             number = h.number;
             resolved = ap (λ ms. slice_get ms index) made.targets ∙ h.resolved;
             other = ap (λ (a : Address). h.number == a.number) made.address ∙ h.other;

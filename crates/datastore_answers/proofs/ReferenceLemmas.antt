@@ -9,6 +9,7 @@ use Rattle.portal_base.proofs.Filtered.{IsIn-list_all, list_all-IsIn}
 use Rattle.portal_base.proofs.Upserted.{All-IsIn, All-each}
 use Rattle.portal_base.proofs.Unique.{IsIn}
 use Rattle.table_schema.specs.declared.foreign.Foreign.{Foreign}
+use Rattle.table_schema.specs.Written.{IsDescribed}
 use Rattle.datastore_table.specs.Meets.{IsTable}
 use Rattle.datastore_table.specs.References.{is_broken, is_self}
 use Rattle.datastore_table.specs.declared.row.Row.{Row}
@@ -180,12 +181,16 @@ beside-found dataset number (t ∷ ts) =
 
 -- consistency, table by table
 pub record IsKept (ts : List ResourceTable) (t : ResourceTable) : Type 0 where
+  pub described : IsDescribed t.table.schema
+  pub unready : t.table.room ≡ 0
   pub valid : IsTable t.table.schema t.table.rows t.table.next_id
   pub resolved : own_resolved t.address.number t.table.schema.foreign t.targets ≡ true
   pub holds : Holds (tables_in t.address.dataset ts) t
 
 pub kept-each : (ts : List ResourceTable) → AreConsistent ts → (t : ResourceTable) → IsIn t ts → IsKept ts t
 kept-each ts kept t m = record {
+  described = All-IsIn (λ (u : ResourceTable). IsDescribed u.table.schema) ts kept.described t m;
+  unready = All-IsIn (λ (u : ResourceTable). u.table.room ≡ 0) ts kept.unready t m;
   valid = All-IsIn (λ (u : ResourceTable). IsTable u.table.schema u.table.rows u.table.next_id) ts kept.valid t m;
   resolved = list_all-IsIn (λ u. own_resolved u.address.number u.table.schema.foreign u.targets) ts kept.resolved t m;
   holds = λ index foreign there self.
@@ -200,6 +205,8 @@ pub each-kept : (ts : List ResourceTable) → IsAscending table_cmp ts
     → ((t : ResourceTable) → IsIn t ts → IsKept ts t) → AreConsistent ts
 each-kept ts up each = record {
   ascending = up;
+  described = All-each (λ (u : ResourceTable). IsDescribed u.table.schema) ts (λ t m. (each t m).described);
+  unready = All-each (λ (u : ResourceTable). u.table.room ≡ 0) ts (λ t m. (each t m).unready);
   valid = All-each (λ (u : ResourceTable). IsTable u.table.schema u.table.rows u.table.next_id) ts
       (λ t m. (each t m).valid);
   resolved = IsIn-list_all (λ u. own_resolved u.address.number u.table.schema.foreign u.targets) ts

@@ -1,9 +1,10 @@
 -- Consistent tables: what holds of the tables of resources at all times on their order, rows and references.
-use Rattle.std.specs.Prelude.{ℕ, ◌+◌, ◌==◌, Bool, true, false, ◌&&◌, ◌||◌, not, List, [], ◌∷◌, Option, Some, None}
+use Rattle.std.specs.Prelude.{◌≡◌, ℕ, ◌+◌, ◌==◌, Bool, true, false, ◌&&◌, ◌||◌, not, List, [], ◌∷◌, Option, Some, None}
 use Rattle.std.specs.Prelude.{All, IsTrue, slice_get}
 use Rattle.std.specs.List.{list_all}
 use Rattle.portal_base.specs.Ordered.{IsAscending}
 use Rattle.table_schema.specs.declared.foreign.Foreign.{Foreign}
+use Rattle.table_schema.specs.Written.{IsDescribed}
 use Rattle.datastore_table.specs.Meets.{IsTable}
 use Rattle.datastore_table.specs.References.{is_self}
 use Rattle.datastore_answers.specs.Linked.{AreLinked}
@@ -51,10 +52,13 @@ are_resolved tables = list_all (λ t. own_resolved t.address.number t.table.sche
 
 -- ---- consistency
 
--- The tables ascend by their addresses, and the rows of each meet its schema. Each foreign key references the table
--- itself or an existing table of the same dataset, whose key it names, and each reference in a row finds its row.
+-- The tables ascend by their addresses. The schema of each is the one that its own descriptor reads as, its rows meet
+-- the schema, and it keeps no memory ready between calls. Each foreign key references the table itself or an existing
+-- table of the same dataset, whose key it names, and each reference in a row finds its row.
 pub record AreConsistent (tables : List ResourceTable) : Type 0 where
   pub ascending : IsAscending table_cmp tables
+  pub described : All (λ (t : ResourceTable). IsDescribed t.table.schema) tables
+  pub unready : All (λ (t : ResourceTable). t.table.room ≡ 0) tables
   pub valid : All (λ (t : ResourceTable). IsTable t.table.schema t.table.rows t.table.next_id) tables
   pub resolved : IsTrue (are_resolved tables)
   pub found : IsTrue (are_found tables)

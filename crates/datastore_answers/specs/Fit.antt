@@ -5,6 +5,7 @@ use Rattle.std.specs.List.{Contains}
 use Rattle.portal_base.specs.declared.json_value.Json.{Json}
 use Rattle.packages.specs.Named.{Located}
 use Rattle.table_schema.specs.Field.{SchemaValue}
+use Rattle.table_schema.specs.Written.{IsDescribed}
 use Rattle.datastore_table.specs.declared.method.Method.{Method}
 use Rattle.datastore_table.specs.declared.method.Method.TheVariants as method
 use Rattle.visibility.specs.CallView.{CallView}
@@ -38,12 +39,13 @@ pub record IsOwnResource (view : CallView) (address : Address) : Type 0 where
   pub here : address ≡ address_of placed
   pub own : may_edit_in view.people view.call.caller placed.dataset ≡ true
 
--- A new table, with records in it, of a resource without a table. Its foreign keys reference tables of the dataset,
--- and each reference of its rows finds its row there.
+-- A new table, with records in it, of a resource without a table. Its schema is the one that its own descriptor reads
+-- as. Its foreign keys reference tables of the dataset, and each reference of its rows finds its row there.
 pub record IsFitCreate (view : CallView) (tables : List ResourceTable) (t : ResourceTable) : Type 0 where
   pub own : IsOwnResource view t.address
   pub none : table_at own.placed.resource.number (tables_beside own.placed tables) ≡ None
   pub schema : SchemaValue
+  pub described : IsDescribed schema
   pub targets : List ℕ
   pub resolved : resolved_targets own.placed (tables_beside own.placed tables) schema ≡ Ok targets
   pub records : List Json

@@ -22,7 +22,7 @@ use Rattle.table_schema.specs.Keys.{same_kind}
 use Rattle.table_schema.specs.Printed.{IsValue}
 use Rattle.table_schema.specs.Reading.{kept, kind_of_cell, null_reading, record_reading, record_reading_in}
 use Rattle.table_schema.specs.Reading.{value_reading}
-use Rattle.table_schema.proofs.CellLemmas.{IsOf, Fits-IsValue, value_reading-IsOf}
+use Rattle.table_schema.proofs.CellLemmas.{Fits, IsOf, value_reading-IsOf}
 use Rattle.datastore_table.specs.Cells.{is_null}
 use Rattle.datastore_table.specs.Meets.{are_accepted, is_accepted, is_of_kind, is_value}
 use Rattle.datastore_table.specs.Record.{cell_reading, cells_reading, field_reading, kept_at, or_cell_fault}
@@ -91,17 +91,17 @@ int_back a b h = grind arith
 both : (a b : Bool) → a ≡ true → b ≡ true → (a && b) ≡ true
 both a b x y = rw (x, y) refl
 
-pub is_value-IsValue : (c : Cell) → IsValue c → is_value c ≡ true
-is_value-IsValue cell.Null h = refl
-is_value-IsValue (cell.Text text) h = refl
-is_value-IsValue (cell.Int z) h = refl
-is_value-IsValue (cell.Number z) h = lt_true _ _ h
-is_value-IsValue (cell.Truth b) h = refl
-is_value-IsValue (cell.Date z) h = both _ _ (int_true _ _ h.0) (int_true _ _ h.1)
-is_value-IsValue (cell.Time n) h = lt_true _ _ h
-is_value-IsValue (cell.Stamp z) h = both _ _ (int_true _ _ h.0) (int_true _ _ h.1)
-is_value-IsValue (cell.Year n) h = le_true _ _ h
-is_value-IsValue (cell.YearMonth n m) h = both _ _ (le_true _ _ h.0) (both _ _ (le_true _ _ h.1) (le_true _ _ h.2))
+pub is_value-Fits : (c : Cell) → Fits c → is_value c ≡ true
+is_value-Fits cell.Null h = refl
+is_value-Fits (cell.Text text) h = refl
+is_value-Fits (cell.Int z) h = h
+is_value-Fits (cell.Number z) h = lt_true _ _ h
+is_value-Fits (cell.Truth b) h = refl
+is_value-Fits (cell.Date z) h = both _ _ (int_true _ _ h.0) (int_true _ _ h.1)
+is_value-Fits (cell.Time n) h = lt_true _ _ h
+is_value-Fits (cell.Stamp z) h = both _ _ (int_true _ _ h.0) (int_true _ _ h.1)
+is_value-Fits (cell.Year n) h = le_true _ _ h
+is_value-Fits (cell.YearMonth n m) h = both _ _ (le_true _ _ h.0) (both _ _ (le_true _ _ h.1) (le_true _ _ h.2))
 
 pub IsValue-is_value : (c : Cell) → is_value c ≡ true → IsValue c
 IsValue-is_value cell.Null h = tt
@@ -124,7 +124,7 @@ accepted-read field c of none =
     let some : is_null c ≡ false = not_null c (kind_of field.form) of.kind in
     let own : is_of_kind (kind_of field.form) (kind_of_cell c) ≡ true =
     ap (is_of_kind (kind_of field.form)) of.kind ∙ same_kind-itself (kind_of field.form) in
-    let value : is_value c ≡ true = is_value-IsValue c (Fits-IsValue c of.fits) in
+    let value : is_value c ≡ true = is_value-Fits c of.fits in
     rw (some, own, value, none) refl
 
 accepted-null : (field : FieldValue) (c : Cell) → null_reading field.constraints.required ≡ Ok c

@@ -3,6 +3,7 @@ use Rattle.std.specs.Prelude.{ℕ, ◌+◌, ◌^◌, nat_lt, nat_le, Bool, true,
 use Rattle.std.specs.Prelude.{◌∷◌, map, Option, Some, None, is_none, pos, negsuc, int_le, unsigned_abs, IsTrue}
 use Rattle.std.specs.List.{list_all, list_any}
 use Rattle.lexical_forms.specs.Digits.{is_empty}
+use Rattle.lexical_forms.specs.Number.{is_i64}
 use Rattle.portal_base.specs.Moment.{first_moment, last_moment}
 use Rattle.table_schema.specs.declared.cell.Cell.{Cell}
 use Rattle.table_schema.specs.declared.cell.Cell.TheVariants as cell
@@ -23,6 +24,7 @@ use Rattle.datastore_table.specs.Table.{IsNumbered}
 
 -- the cell is within the range of its type
 abbrev pub is_value : Cell → Bool
+is_value (cell.Int z) = is_i64 z
 is_value (cell.Number billionths) = nat_lt (unsigned_abs billionths) (10 ^ 27)
 is_value (cell.Date day) = int_le (negsuc 719527) day && int_le day (pos 2932896)
 is_value (cell.Time second) = nat_lt second 86400

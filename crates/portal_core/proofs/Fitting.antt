@@ -213,6 +213,7 @@ tables-fit (table.Create t) call state fit =
       };
       none = ap (table_at fit.own.placed.resource.number) (sym beside) ∙ fit.none;
       schema = fit.schema;
+      described = fit.described;
       targets = fit.targets;
       resolved = ap (λ (b : List ResourceTable). resolved_targets fit.own.placed b fit.schema) (sym beside) ∙ fit.resolved;
       records = fit.records;

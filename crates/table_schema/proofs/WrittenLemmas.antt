@@ -26,7 +26,7 @@ use Rattle.portal_base.specs.Kinds.{present, text_in, list_in}
 use Rattle.table_schema.specs.Values.{◌>>=◌, ◌>>>◌, or_fault, or_default, is_map, dictionary_in, texts_in, names_of}
 use Rattle.table_schema.specs.Values.{names_in, all_of}
 use Rattle.table_schema.specs.Written.{texts_value, field_value, name_at, reference_value, foreign_key_value}
-use Rattle.table_schema.specs.Written.{schema_value}
+use Rattle.table_schema.specs.Written.{IsDescribed, schema_value}
 use Rattle.table_schema.proofs.ColumnLemmas.{field_items-of}
 use Rattle.table_schema.specs.Texts.{IsSpelled}
 use Rattle.table_schema.proofs.DescriptorLemmas.{texts_in-back, columns-back, columns-length, columns-all, IsColumn}
@@ -266,6 +266,14 @@ schema_with_keys_back columns value schema e whole =
     let same : schema_of columns missing.0 key.0 foreign.0 ≡ schema = cc (foreign.1.1) in
     subst (λ s. schema_reading (schema_value s) ≡ Ok s) same
     (schema_with_keys-back columns value items.0 missing.0 key.0 foreign.0 items.1.0 items.1.1 key.1.0 foreign.1.0)
+
+-- The schema that a descriptor reads as is described by its own descriptor.
+pub reading-described : (value : Json) (schema : SchemaValue) → schema_reading value ≡ Ok schema → IsDescribed schema
+unfolding schema_reading
+reading-described value schema e =
+    let read = bind-ok (columns_in value) (λ cs. or_fault BadKey (schema_with_keys cs value)) schema e in
+    schema_with_keys_back read.0 value schema read.1.0
+    (or_fault-ok BadKey (schema_with_keys read.0 value) schema read.1.1)
 
 -- A property of each field that was read holds of the schema's fields.
 schema-all : (P : FieldValue → Type 0) (value : Json) (schema : SchemaValue)

@@ -1,6 +1,6 @@
 -- The descriptor that a schema is written as. The keys ascend by their bytes.
-use Rattle.std.specs.Prelude.{ℕ, Bool, true, if◌then◌else◌, List, [], ◌∷◌, ◌++◌, map, codes, slice_get, Option, Some}
-use Rattle.std.specs.Prelude.{None, option_map, unwrap_or}
+use Rattle.std.specs.Prelude.{◌≡◌, ℕ, Bool, true, if◌then◌else◌, List, [], ◌∷◌, ◌++◌, map, codes, slice_get, Option}
+use Rattle.std.specs.Prelude.{Some, None, option_map, unwrap_or, Ok}
 use Rattle.std.specs.Char.{encode_utf8}
 use Rattle.portal_base.specs.declared.json_value.Json as json
 use Rattle.portal_base.specs.declared.json_value.Json.{Json}
@@ -13,6 +13,7 @@ use Rattle.table_schema.specs.declared.form.Kind.{Kind}
 use Rattle.table_schema.specs.declared.form.Kind.TheVariants as kind
 use Rattle.table_schema.specs.Field.{FieldValue, SchemaValue}
 use Rattle.table_schema.specs.Form.{kind_of}
+use Rattle.table_schema.specs.Keys.{schema_reading}
 use Rattle.table_schema.specs.Printed.{cell_value}
 
 abbrev pub MemberList : Type 0
@@ -117,3 +118,8 @@ schema_value schema = json.Map (
     ∷ (codes "missingValues", texts_value schema.missing)
     ∷ (codes "primaryKey", names_value schema.fields schema.key)
     ∷ [])
+
+-- The schema's own descriptor reads as it. So its names are distinct, its keys name fields that it has, and a foreign
+-- key to the table itself names the whole primary key in order, with fields of equal types.
+abbrev pub IsDescribed : SchemaValue → Type 0
+IsDescribed schema = schema_reading (schema_value schema) ≡ Ok schema

@@ -15,6 +15,7 @@ ghost use Rattle.table_schema.specs.Reading.{HasOneAnswer, text_reading, Reads, 
 ghost use Rattle.table_schema.specs.Stamp.{stamp_reading};
 ghost use Rattle.table_schema.specs.Texts.{IsDateText, IsTimeText, IsStampText, IsCellText, IsSpelled};
 ghost use Rattle.table_schema.specs.Texts.{IsReading, IsFailure};
+ghost use Rattle.table_schema.specs.Written.{IsDescribed};
 
 /// In each field each text either reads as exactly one cell or fails with exactly one fault.
 pub fn texts_have_one_answer()
@@ -76,4 +77,9 @@ pub fn a_time_has_its_printed_text_alone()
 pub fn the_fields_of_a_descriptor_are_spelled()
     ensures { (value : Json) (schema : SchemaValue) → schema_reading value ≡ Ok schema →
         All (λ (field : FieldValue). IsSpelled field.form) schema.fields }
+{}
+
+/// The schema that a descriptor reads as is the one that its own descriptor reads as.
+pub fn a_schema_reads_back_from_its_own_descriptor()
+    ensures { (value : Json) (schema : SchemaValue) → schema_reading value ≡ Ok schema → IsDescribed schema }
 {}

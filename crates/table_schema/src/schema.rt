@@ -31,17 +31,14 @@ pub struct Schema {
 
 impl Model for Schema {
     ghost use Rattle.std.specs.Arc.{arc_value};
-    ghost use Rattle.std.specs.Prelude.{◌≡◌, Ok};
     ghost use Rattle.table_schema.specs.Field.{SchemaValue, schema_from};
-    ghost use Rattle.table_schema.specs.Keys.{schema_reading};
-    ghost use Rattle.table_schema.specs.Written.{schema_value};
+    ghost use Rattle.table_schema.specs.Written.{IsDescribed};
 
     ghost Value = { SchemaValue };
 
     ghost view = { λ s. schema_from s.fields s.key s.foreign (arc_value s.missing) };
 
-    ghost invariant = { λ s. schema_reading (schema_value (schema_from s.fields s.key s.foreign (arc_value s.missing)))
-        ≡ Ok (schema_from s.fields s.key s.foreign (arc_value s.missing)) };
+    ghost invariant = { λ s. IsDescribed (schema_from s.fields s.key s.foreign (arc_value s.missing)) };
 }
 
 impl Schema {
