@@ -4,6 +4,7 @@ ghost use Rattle.portal_base.specs.Moment.{first_moment, last_moment};
 ghost use Rattle.portal_base.specs.Ordered.{IsAscending};
 ghost use Rattle.std.specs.List.{list_all, list_any};
 ghost use Rattle.lexical_forms.specs.Digits.{is_empty};
+ghost use Rattle.lexical_forms.specs.Number.{is_i64};
 ghost use Rattle.table_schema.specs.Form.{kind_of};
 ghost use Rattle.table_schema.specs.Keys.{same_kind};
 ghost use Rattle.table_schema.specs.Reading.{kind_of_cell};
@@ -135,6 +136,7 @@ fn is_value(cell: &Cell) -> bool
     ensures { result ≡ is_value cell.now }
 {
     match cell {
+        Cell::Int(number) => is_whole(*number),
         Cell::Number(billionths) => -NUMBER_LIMIT < *billionths && *billionths < NUMBER_LIMIT,
         Cell::Date(day) => FIRST_DAY <= *day && *day <= LAST_DAY,
         Cell::Time(second) => *second < SECONDS_PER_DAY,
@@ -143,6 +145,13 @@ fn is_value(cell: &Cell) -> bool
         Cell::YearMonth(year, month) => *year <= LAST_YEAR && 1 <= *month && *month <= 12,
         _ => true,
     }
+}
+
+// Each number of this type has 64 bits.
+fn is_whole(_number: i64) -> bool
+    ensures { result ≡ is_i64 _number }
+{
+    true
 }
 
 fn is_moment(seconds: i64) -> bool
