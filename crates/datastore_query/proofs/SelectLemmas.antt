@@ -13,6 +13,7 @@ use Rattle.portal_base.specs.Ordered.{IsAscending, IsBelowAll, ascending, insert
 use Rattle.portal_base.proofs.Inserted.{AreApart, IsAscending-ascending, both_false}
 use Rattle.portal_base.proofs.Sorted.{AreApart-permutation, IsBelowAll-sorted, sort-ascending}
 use Rattle.portal_base.proofs.Unique.{Contains-IsIn, IsIn, IsIn-Contains, IsIn-ascending, ascending-IsIn, below_in, unique}
+use Rattle.datastore_table.proofs.PairLemmas.{IsBelowAll-each}
 
 -- ---- lengths
 
@@ -29,16 +30,16 @@ ascending-length cmp (x ∷ xs) = inserted-length cmp x (ascending cmp xs) ∙ a
 
 -- ---- members of two lists
 
-IsIn-front : {X : Type 0} (z : X) (xs ys : List X) → IsIn z xs → IsIn z (xs ++ ys)
+pub IsIn-front : {X : Type 0} (z : X) (xs ys : List X) → IsIn z xs → IsIn z (xs ++ ys)
 IsIn-front z [] ys m = absurd m
 IsIn-front z (x ∷ xs) ys (inl e) = inl e
 IsIn-front z (x ∷ xs) ys (inr m) = inr (IsIn-front z xs ys m)
 
-IsIn-back : {X : Type 0} (z : X) (xs ys : List X) → IsIn z ys → IsIn z (xs ++ ys)
+pub IsIn-back : {X : Type 0} (z : X) (xs ys : List X) → IsIn z ys → IsIn z (xs ++ ys)
 IsIn-back z [] ys m = m
 IsIn-back z (x ∷ xs) ys m = inr (IsIn-back z xs ys m)
 
-IsIn-either : {X : Type 0} (z : X) (xs ys : List X) → IsIn z (xs ++ ys) → IsIn z xs ⊎ IsIn z ys
+pub IsIn-either : {X : Type 0} (z : X) (xs ys : List X) → IsIn z (xs ++ ys) → IsIn z xs ⊎ IsIn z ys
 IsIn-either z [] ys m = inr m
 IsIn-either z (x ∷ xs) ys (inl e) = inl (inl e)
 IsIn-either {X} z (x ∷ xs) ys (inr m) = further (IsIn-either z xs ys m)
@@ -54,11 +55,6 @@ fails_in test z (x ∷ xs) none (inl e) = ap test e ∙ (both_false (test x) (li
 fails_in test z (x ∷ xs) none (inr m) = fails_in test z xs (both_false (test x) (list_any test xs) none).1 m
 
 -- ---- two ascending lists, the one below the other
-
-IsBelowAll-each : {X : Type 0} (cmp : X → X → Ordering) (a : X) (ys : List X) → ((y : X) → IsIn y ys → cmp a y ≡ Less)
-    → IsBelowAll cmp a ys
-IsBelowAll-each cmp a [] below = tt
-IsBelowAll-each cmp a (y ∷ ys) below = (below y (inl refl), IsBelowAll-each cmp a ys (λ z m. below z (inr m)))
 
 IsBelowAll-append : {X : Type 0} (cmp : X → X → Ordering) (a : X) (xs ys : List X) → IsBelowAll cmp a xs
     → IsBelowAll cmp a ys → IsBelowAll cmp a (xs ++ ys)

@@ -47,7 +47,7 @@ kept-parts constraints (Some found) c h = by (constraint_fault constraints found
         let refused : kept constraints (Some found) ≡ Err fault = rw some refl in
         absurd (cc)
 
-same_kind-itself : (k : Kind) → same_kind k k ≡ true
+pub same_kind-itself : (k : Kind) → same_kind k k ≡ true
 same_kind-itself kind.Text = refl
 same_kind-itself kind.Integer = refl
 same_kind-itself kind.Number = refl
@@ -70,10 +70,10 @@ not_null (cell.Stamp z) k h = refl
 not_null (cell.Year n) k h = refl
 not_null (cell.YearMonth n m) k h = refl
 
-lt_true : (a b : ℕ) → a < b → nat_lt a b ≡ true
+pub lt_true : (a b : ℕ) → a < b → nat_lt a b ≡ true
 lt_true a b h = grind (arith, nat_tests)
 
-le_true : (a b : ℕ) → a ≤ b → nat_le a b ≡ true
+pub le_true : (a b : ℕ) → a ≤ b → nat_le a b ≡ true
 le_true a b h = grind (arith, nat_tests)
 
 int_true : (a b : ℤ) → a ≤ℤ b → int_le a b ≡ true
@@ -88,7 +88,7 @@ lt_back a b h = grind (arith, nat_tests)
 int_back : (a b : ℤ) → int_le a b ≡ true → a ≤ℤ b
 int_back a b h = grind arith
 
-both : (a b : Bool) → a ≡ true → b ≡ true → (a && b) ≡ true
+pub both : (a b : Bool) → a ≡ true → b ≡ true → (a && b) ≡ true
 both a b x y = rw (x, y) refl
 
 pub is_value-Fits : (c : Cell) → Fits c → is_value c ≡ true

@@ -13,11 +13,13 @@ pub mod LookupLemmas
 pub mod MeetLemmas
 pub mod Merged
 pub mod NumberLemmas
+pub mod PairLemmas
 pub mod PutLemmas
 pub mod ReferenceLemmas
 pub mod RestoredLemmas
 pub mod ResultLemmas
 pub mod RowLemmas
+pub mod RuleLemmas
 pub mod SearchLemmas
 pub mod StoreLemmas
 pub mod WorkLemmas

@@ -296,7 +296,7 @@ self_references-held key old rows written up stems holds n (foreign ∷ foreigns
 
 -- ---- the self references after a removal
 
-in-map : {A B : Type 0} (f : A → B) (x : A) (xs : List A) → IsIn x xs → IsIn (f x) (map f xs)
+pub in-map : {A B : Type 0} (f : A → B) (x : A) (xs : List A) → IsIn x xs → IsIn (f x) (map f xs)
 in-map f x [] m = absurd m
 in-map f x (y ∷ ys) (inl e) = inl (ap f e)
 in-map f x (y ∷ ys) (inr m) = inr (in-map f x ys m)

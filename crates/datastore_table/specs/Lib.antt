@@ -10,4 +10,5 @@ pub mod Record
 pub mod References
 pub mod Results
 pub mod Rows
+pub mod Rules
 pub mod Table

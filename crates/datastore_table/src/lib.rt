@@ -11,6 +11,7 @@ mod fault;
 mod ids;
 mod key_set;
 mod keys;
+pub mod laws;
 mod lookup;
 mod lookup_key;
 mod meets;
