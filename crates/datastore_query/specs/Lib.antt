@@ -2,7 +2,9 @@ pub mod Column
 pub mod Distinct
 pub mod FieldNames
 pub mod Filter
+pub mod Listing
 pub mod OrderedValues
+pub mod Passing
 pub mod Query
 pub mod Repeats
 pub mod Results
