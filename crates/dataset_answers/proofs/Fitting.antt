@@ -68,7 +68,7 @@ use Rattle.dataset_answers.specs.declared.change.DatasetChange.{DatasetChange}
 -- ---- what holds without errors
 
 -- If the list of errors is empty in the end, both lists are empty.
-with_errors-none : (more faults : List KeyError) → with_errors more faults ≡ [] → (more ≡ []) × (faults ≡ [])
+pub with_errors-none : (more faults : List KeyError) → with_errors more faults ≡ [] → (more ≡ []) × (faults ≡ [])
 with_errors-none [] faults none = (refl, none)
 with_errors-none (f ∷ fs) faults none =
     let rest = with_errors-none fs (with_error f.0 f.1 faults) none in

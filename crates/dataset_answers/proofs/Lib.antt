@@ -1,3 +1,4 @@
+mod BodyLemmas
 mod Examples
 pub mod Fitting
 pub mod TableSummaryAnswers

@@ -79,12 +79,6 @@ answer_to_package_create view =
     (answer_if_valid view.quota (dataset_errors view.people view.call.request.body None)
     (Accepted (package_dictionary view.people [] dataset) (Create dataset)))
 
--- the answer to a body with these errors, and perhaps that of a lost table, which describes this changed dataset
-abbrev pub answer_to_valid_change : CallView → List TableSummary → List KeyError → Package → Answer DatasetChange
-answer_to_valid_change view summaries errors changed =
-    answer_if_valid view.quota (error_if (codes "resources") (lost_table_error summaries changed) errors)
-    (Accepted (package_dictionary view.people summaries changed) (Replace changed))
-
 -- the answer to a change of this dataset
 abbrev pub answer_to_change_of : Bool → CallView → List TableSummary → Package → Answer DatasetChange
 answer_to_change_of whole view summaries dataset =

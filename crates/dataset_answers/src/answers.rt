@@ -2,9 +2,7 @@
 //!
 //! Each function finds the thing, checks the right, reads the body and gives the change. Its answer is a function of
 //! the call and of the caller's view. A refusal stops it.
-ghost use Rattle.std.specs.Prelude.{◌≡◌, IfOk, IsTrue, codes};
-ghost use Rattle.portal_base.specs.KeyErrors.{has_error};
-ghost use Rattle.portal_calls.specs.Answer.{answer_if_valid};
+ghost use Rattle.std.specs.Prelude.{◌≡◌, IfOk};
 ghost use Rattle.portal_calls.specs.Stop.{Answers};
 ghost use Rattle.portal_calls.specs.declared.answer.Answer.{Answer};
 ghost use Rattle.dataset_answers.specs.declared.change.DatasetChange.{DatasetChange};
@@ -13,7 +11,7 @@ ghost use Rattle.visibility.specs.CallView.{context_view};
 ghost use Rattle.dataset_answers.specs.Answers.{answer_to_action, answer_to_package_show, answer_to_package_list};
 ghost use Rattle.dataset_answers.specs.Answers.{can_create_in, may_create};
 ghost use Rattle.dataset_answers.specs.Answers.{answer_to_package_create, answer_to_package_change};
-ghost use Rattle.dataset_answers.specs.Answers.{answer_to_change_of, answer_to_valid_change, answer_to_valid_deletion};
+ghost use Rattle.dataset_answers.specs.Answers.{answer_to_change_of, answer_to_valid_deletion};
 ghost use Rattle.dataset_answers.specs.Answers.{answer_to_package_update, answer_to_package_patch};
 ghost use Rattle.dataset_answers.specs.Answers.{answer_to_package_delete, answer_to_dataset_purge};
 ghost use Rattle.dataset_answers.specs.Answers.{answer_to_resource_show, answer_to_resource_create};
@@ -21,9 +19,8 @@ ghost use Rattle.dataset_answers.specs.Answers.{answer_to_resource_update, answe
 ghost use Rattle.dataset_answers.specs.Bodies.{organization_given};
 
 use crate::bodies::{
-    add_lost_table_error, changed_dataset, created_dataset, dataset_errors, deleted_dataset,
-    deletion_errors, has_resources_error, new_resource_errors, organization_given, read_count,
-    with_new_resource, with_resource_at, without_resource_at,
+    created_dataset, deleted_dataset, deletion_errors, organization_given, read_change, read_count,
+    read_dataset, read_new_resource, with_new_resource, with_resource_at, without_resource_at,
 };
 use crate::change::DatasetChange;
 use crate::dictionary::{package_json, resource_json};
@@ -33,11 +30,11 @@ use crate::lookup::{
 };
 use org_roles::role::rights_of;
 use packages::package::Package;
-use packages::resources::{resource_errors, resource_for};
+use packages::resources::read_resource;
 use portal_base::copy::TryClone;
 use portal_base::json_value::Json;
 use portal_base::key_errors::KeyErrors;
-use portal_calls::answer::{Answer, Denial, Right, with_quota_error};
+use portal_calls::answer::{Answer, Right};
 use portal_calls::stop::{Stop, answer_or_refusal, authorize, validate, validate_change};
 use portal_calls::topic::DatasetAction;
 use std::alloc::{AllocError, Global};
@@ -157,9 +154,9 @@ fn package_create(alloc: Global, context: &CallContext<'_>) -> Result<Answer<Dat
     ensures { Answers result (answer_to_package_create (context_view context.now)) }
 {
     authorize(may_create(context), Right::CreateDataset)?;
-    let faults = dataset_errors(alloc, context, None)?;
-    validate_change(context.quota, faults)?;
-    let dataset = created_dataset(alloc, context.call)?;
+    let read = read_dataset(alloc, context, None, true)?;
+    validate_change(context.quota, read.errors)?;
+    let dataset = created_dataset(alloc, context.call, read.dataset)?;
     let shown = package_json(alloc, context, &NoTables, &dataset)?;
     Ok(Answer::Accepted(shown, DatasetChange::Create(dataset)))
 }
@@ -204,7 +201,7 @@ fn package_change<H: TableLookup>(
     change_of_dataset(alloc, context, tables, whole, dataset)
 }
 
-/// The answer to a call that changes this dataset. Nothing is built of a list of resources that has an error.
+/// The answer to a call that changes this dataset.
 fn change_of_dataset<H: TableLookup>(
     alloc: Global,
     context: &CallContext<'_>,
@@ -214,39 +211,10 @@ fn change_of_dataset<H: TableLookup>(
 ) -> Result<Answer<DatasetChange>, Stop>
     ensures { Answers result (answer_to_change_of whole (context_view context.now) (H.summaries tables.now) dataset.now) }
 {
-    let faults = dataset_errors(alloc, context, Some(dataset))?;
-    let is_faulty = has_resources_error(alloc, context, dataset, &faults)?;
-    if is_faulty {
-        return refusal(context, faults);
-    }
-    let changed = changed_dataset(alloc, context.call, whole, dataset)?;
-    change_if_valid(alloc, context, tables, faults, changed)
-}
-
-/// The refusal of a change whose list of resources has an error, whatever the answer would be without one.
-fn refusal(context: &CallContext<'_>, faults: KeyErrors) -> Result<Answer<DatasetChange>, Stop>
-    requires { IsTrue (has_error (codes "resources") faults) }
-    ensures { (answer : Answer DatasetChange) →
-        Answers result (answer_if_valid context.now.quota faults answer) }
-{
-    let errors = with_quota_error(context.quota, faults)?;
-    Err(Stop::Refused(Denial::Validation(errors.into_list())))
-}
-
-/// The answer to a call that changes a dataset to `changed`, where the body has these errors and its list of resources
-/// has none.
-fn change_if_valid<H: TableLookup>(
-    alloc: Global,
-    context: &CallContext<'_>,
-    tables: &H,
-    faults: KeyErrors,
-    changed: Package,
-) -> Result<Answer<DatasetChange>, Stop>
-    ensures { Answers result (answer_to_valid_change (context_view context.now) (H.summaries tables.now) faults changed) }
-{
-    let mut faults = faults;
-    add_lost_table_error(&mut faults, tables, &changed)?;
-    validate_change(context.quota, faults)?;
+    let read = read_change(alloc, context, tables, whole, dataset)?;
+    validate_change(context.quota, read.errors)?;
+    let mut changed = read.dataset;
+    changed.modified = context.call.moment;
     let shown = package_json(alloc, context, tables, &changed)?;
     Ok(Answer::Accepted(shown, DatasetChange::Replace(changed)))
 }
@@ -285,17 +253,16 @@ fn resource_create<H: TableLookup>(
         (summaries_seen (context_view context.now).datasets (H.summaries tables.now))) }
 {
     let dataset = editable_dataset_at(alloc, context, "package_id")?;
-    let faults = new_resource_errors(alloc, dataset, &context.call.request.body)?;
-    validate_change(context.quota, faults)?;
-    let resource = resource_for(alloc, dataset.next_resource, &context.call.request.body)?;
+    let read = read_new_resource(alloc, dataset, &context.call.request.body)?;
+    validate_change(context.quota, read.errors)?;
     let shown = resource_json(
         alloc,
         tables,
         &dataset.id,
         dataset.resources.len(),
-        &resource,
+        &read.resource,
     )?;
-    let changed = with_new_resource(alloc, context.call, dataset, resource)?;
+    let changed = with_new_resource(alloc, context.call, dataset, read.resource)?;
     Ok(Answer::Accepted(shown, DatasetChange::Replace(changed)))
 }
 
@@ -309,12 +276,17 @@ fn resource_update<H: TableLookup>(
         (summaries_seen (context_view context.now).datasets (H.summaries tables.now))) }
 {
     let located = editable_resource_at(alloc, context)?;
-    let faults = resource_errors(alloc, &context.call.request.body)?;
-    validate_change(context.quota, faults)?;
+    let read = read_resource(alloc, &context.call.request.body, located.resource.number)?;
+    validate_change(context.quota, read.errors)?;
     let dataset = located.dataset;
-    let resource = resource_for(alloc, located.resource.number, &context.call.request.body)?;
-    let shown = resource_json(alloc, tables, &dataset.id, located.position, &resource)?;
-    let changed = with_resource_at(alloc, context.call, dataset, located.position, resource)?;
+    let shown = resource_json(alloc, tables, &dataset.id, located.position, &read.resource)?;
+    let changed = with_resource_at(
+        alloc,
+        context.call,
+        dataset,
+        located.position,
+        read.resource,
+    )?;
     Ok(Answer::Accepted(shown, DatasetChange::Replace(changed)))
 }
 

@@ -1,21 +1,24 @@
 //! The bodies of calls on datasets and resources: their errors, and the datasets that they describe. Each key is read
-//! once for its error and once for its value.
-ghost use Rattle.std.specs.Prelude.{◌≡◌, ◌<◌, IfOk, IsTrue, OnOk, Some, [], codes, length};
+//! once.
+ghost use Rattle.std.specs.Prelude.{◌≡◌, ◌<◌, ◌⊎◌, IfOk, IsTrue, OnOk, Some, [], codes, length};
 ghost use Rattle.std.specs.Option.{option_copied};
+ghost use Rattle.portal_base.specs.Id.{id_text};
 ghost use Rattle.portal_base.specs.KeyErrors.{found_value, has_error, kind_message, error_if};
 ghost use Rattle.portal_base.specs.Kinds.{count_at};
+ghost use Rattle.packages.specs.Body.{built_dataset};
+ghost use Rattle.packages.specs.Resources.{resource_for};
 ghost use Rattle.visibility.specs.CallView.{context_view};
 ghost use Rattle.dataset_answers.specs.Bodies.{organization_given, organization_error, dataset_errors, caller_name};
 ghost use Rattle.dataset_answers.specs.Bodies.{lost_table_error};
-ghost use Rattle.dataset_answers.specs.Bodies.{created_dataset, changed_dataset, deleted_dataset, new_resource_errors};
+ghost use Rattle.dataset_answers.specs.Bodies.{change_errors, changed_dataset, deleted_dataset, new_resource_errors};
 ghost use Rattle.dataset_answers.specs.Bodies.{with_origin};
 ghost use Rattle.dataset_answers.specs.Bodies.{with_new_resource, with_resource_at, without_resource_at};
 
 use org_roles::entry::Org;
-use packages::build;
+use packages::build::{self, DatasetReading};
 use packages::errors::{add_error, message_unless};
 use packages::package::{Package, Resource, State};
-use packages::resources::resource_errors;
+use packages::resources::{ResourceReading, read_resource};
 use packages::texts::text_given;
 use portal_base::caller::Caller;
 use portal_base::copy::TryClone;
@@ -84,23 +87,32 @@ fn organization_error(context: &CallContext<'_>) -> Option<Text>
     }
 }
 
-/// The errors of a dataset's body: for a new dataset, or for a change of `old`. An organization that doesn't exist
-/// precedes the other errors of its key.
-pub fn dataset_errors(
+/// What is read of a call's body: the dataset that it describes, and its errors. The dataset is a new one, or `old`
+/// changed. An organization that doesn't exist precedes the other errors of its key.
+pub fn read_dataset(
     alloc: Global,
     context: &CallContext<'_>,
     old: Option<&Package>,
-) -> Result<KeyErrors, AllocError>
-    ensures { IfOk result (λ faults. faults
+    whole: bool,
+) -> Result<DatasetReading, AllocError>
+    ensures errors { IfOk result (λ read. read.errors
         ≡ dataset_errors (context_view context.now).people context.now.call.now.request.body (option_copied old.entry)) }
+    ensures built { IfOk result (λ read. read.errors ≡ [] →
+        read.dataset ≡ built_dataset context.now.call.now.request.body (option_copied old.entry) whole) }
+    ensures id { IfOk result (λ read.
+        read.dataset.id ≡ (built_dataset context.now.call.now.request.body (option_copied old.entry) whole).id) }
+    ensures resources { IfOk result (λ read. IsTrue (has_error (codes "resources") read.errors)
+        ⊎ (read.dataset.resources
+        ≡ (built_dataset context.now.call.now.request.body (option_copied old.entry) whole).resources)) }
 {
+    let read = build::read_dataset(alloc, &context.call.request.body, old, whole)?;
     let mut faults = KeyErrors::new(alloc);
-    if let Some(message) = organization_error(context) {
-        faults.add_error(Text::from_static("owner_org"), message)?;
-    }
-    let others = build::body_errors(alloc, &context.call.request.body, old)?;
-    faults.add_errors(others.into_list())?;
-    Ok(faults)
+    add_error(&mut faults, "owner_org", organization_error(context))?;
+    faults.add_errors(read.errors.into_list())?;
+    Ok(DatasetReading {
+        dataset: read.dataset,
+        errors: faults,
+    })
 }
 
 /// The error if a table that stays refers to one that is removed.
@@ -111,34 +123,25 @@ pub fn lost_table_error<H: TableLookup>(tables: &H, changed: &Package) -> Option
     message_unless(!is_lost, "A table of another resource refers to it")
 }
 
-/// Whether the list of resources in a body that changes the dataset has an error, which is then among `faults`, the errors
-/// of the body.
-pub fn has_resources_error(
+/// What is read of the body of a call that changes the dataset. The other errors of the key `resources` precede that of a
+/// removed table.
+pub fn read_change<H: TableLookup>(
     alloc: Global,
     context: &CallContext<'_>,
-    dataset: &Package,
-    faults: &KeyErrors,
-) -> Result<bool, AllocError>
-    requires { faults.now
-        ≡ dataset_errors (context_view context.now).people context.now.call.now.request.body (Some dataset.now) }
-    ensures { IfOk result (λ is. IsTrue is → IsTrue (has_error (codes "resources") faults.now)) }
-{
-    if faults.is_empty() {
-        return Ok(false);
-    }
-    build::has_resources_error(alloc, &context.call.request.body, Some(dataset))
-}
-
-/// Adds the error of a table that `changed` loses, unless the key `resources` has an error.
-pub fn add_lost_table_error<H: TableLookup>(
-    faults: &mut KeyErrors,
     tables: &H,
-    changed: &Package,
-) -> Result<(), AllocError>
-    ensures { OnOk result (faults.new
-        ≡ error_if (codes "resources") (lost_table_error (H.summaries tables.now) changed.now) faults.old) }
+    whole: bool,
+    dataset: &Package,
+) -> Result<DatasetReading, AllocError>
+    ensures errors { IfOk result (λ read. read.errors ≡ change_errors (context_view context.now).people
+        (H.summaries tables.now) context.now.call.now.request.body dataset.now
+        (changed_dataset context.now.call.now whole dataset.now)) }
+    ensures built { IfOk result (λ read. read.errors ≡ [] →
+        read.dataset ≡ built_dataset context.now.call.now.request.body (Some dataset.now) whole) }
 {
-    add_error(faults, "resources", lost_table_error(tables, changed))
+    let mut read = read_dataset(alloc, context, Some(dataset), whole)?;
+    let error = lost_table_error(tables, &read.dataset);
+    add_error(&mut read.errors, "resources", error)?;
+    Ok(read)
 }
 
 /// The errors of the deletion of a resource, which changes its dataset to `changed`.
@@ -166,14 +169,18 @@ fn name_of_caller(alloc: Global, caller: &Caller) -> Result<Text, AllocError>
     }
 }
 
-/// The new dataset that a call describes.
-pub fn created_dataset(alloc: Global, call: &Call) -> Result<Package, AllocError>
-    ensures { IfOk result (λ dataset. dataset ≡ created_dataset call.now) }
+/// The new dataset of a call whose body describes this dataset.
+pub fn created_dataset(
+    alloc: Global,
+    call: &Call,
+    described: Package,
+) -> Result<Package, AllocError>
+    ensures { IfOk result (λ dataset.
+        dataset ≡ with_origin described (id_text call.now.nonce.0) (caller_name call.now.caller) call.now.moment) }
 {
     let id = id_of(alloc, call.nonce)?;
     let creator = name_of_caller(alloc, &call.caller)?;
-    let dataset = build::built_dataset(alloc, &call.request.body, None, true)?;
-    Ok(with_origin(dataset, id, creator, call.moment))
+    Ok(with_origin(described, id, creator, call.moment))
 }
 
 /// The dataset with this id, created by this user at this moment. It takes no memory.
@@ -188,21 +195,6 @@ fn with_origin(dataset: Package, id: Text, creator: Text, moment: Moment) -> Pac
     dataset
 }
 
-/// The dataset with the changes of a call. With `whole` absent keys take their defaults, and without it they keep their
-/// values.
-pub fn changed_dataset(
-    alloc: Global,
-    call: &Call,
-    whole: bool,
-    dataset: &Package,
-) -> Result<Package, AllocError>
-    ensures { IfOk result (λ changed. changed ≡ changed_dataset call.now whole dataset.now) }
-{
-    let mut changed = build::built_dataset(alloc, &call.request.body, Some(dataset), whole)?;
-    changed.modified = call.moment;
-    Ok(changed)
-}
-
 /// The dataset after its deletion.
 pub fn deleted_dataset(alloc: Global, call: &Call, dataset: &Package) -> Result<Package, AllocError>
     ensures { IfOk result (λ deleted. deleted ≡ deleted_dataset call.now dataset.now) }
@@ -215,20 +207,21 @@ pub fn deleted_dataset(alloc: Global, call: &Call, dataset: &Package) -> Result<
 
 // ---- the resources of calls
 
-/// The errors of the body of one more resource of the dataset.
-pub fn new_resource_errors(
+/// Reads the body of one more resource of the dataset.
+pub fn read_new_resource(
     alloc: Global,
     dataset: &Package,
     body: &Json,
-) -> Result<KeyErrors, AllocError>
-    ensures { IfOk result (λ faults. faults ≡ new_resource_errors dataset.now body.now) }
+) -> Result<ResourceReading, AllocError>
+    ensures errors { IfOk result (λ read. read.errors ≡ new_resource_errors dataset.now body.now) }
+    ensures built { IfOk result (λ read.
+        read.errors ≡ [] → read.resource ≡ resource_for dataset.now.next_resource body.now) }
 {
-    let mut faults = resource_errors(alloc, body)?;
-    if dataset.resources.len() >= MAX_RESOURCES {
-        let message = Text::from_static("More than 200 resources");
-        faults.add_error(Text::from_static("package_id"), message)?;
-    }
-    Ok(faults)
+    let mut read = read_resource(alloc, body, dataset.next_resource)?;
+    let has_room = dataset.resources.len() < MAX_RESOURCES;
+    let error = message_unless(has_room, "More than 200 resources");
+    add_error(&mut read.errors, "package_id", error)?;
+    Ok(read)
 }
 
 /// The dataset with one more resource, which has the next number. If the next number exceeds its type's range, that

@@ -7,6 +7,7 @@ pub mod ErrorLemmas
 pub mod FindLemmas
 pub mod NoErrors
 pub mod OwnerCounts
+pub mod Reading
 pub mod ResourceNumbers
 pub mod ShelfInvariantLemmas
 pub mod ShelfLemmas

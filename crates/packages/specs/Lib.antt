@@ -7,6 +7,7 @@ pub mod Numbered
 pub mod Order
 pub mod Owners
 pub mod Package
+pub mod Reading
 pub mod Resources
 pub mod Shelf
 pub mod ShelfInvariant

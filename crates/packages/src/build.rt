@@ -1,19 +1,19 @@
 //! The dataset that a call's body describes.
-ghost use Rattle.std.specs.Prelude.{◌≡◌, [], IfOk, IfErr, IfNone, IsTrue, OnOk, codes, is_some};
+ghost use Rattle.std.specs.Prelude.{◌≡◌, ◌⊎◌, [], IfOk, IfErr, IfNone, IsTrue, None, OnOk, codes, drop, pos, take};
 ghost use Rattle.std.specs.Option.{option_copied};
-ghost use Rattle.packages.specs.Body.{body_errors, new_dataset, reset_dataset, base_dataset, with_body, built_dataset};
+ghost use Rattle.packages.specs.Body.{body_checks, body_errors, reset_dataset, built_dataset};
 ghost use Rattle.packages.specs.Body.{IsRefusal};
-ghost use Rattle.packages.specs.Resources.{resources_key_error};
-ghost use Rattle.portal_base.specs.KeyErrors.{has_error};
+ghost use Rattle.packages.specs.Package.{fresh_package};
+ghost use Rattle.packages.specs.Reading.{base_read, with_reading, with_authors_read, with_names_read};
+ghost use Rattle.packages.specs.Reading.{with_lists_read, with_title_read};
 ghost use Rattle.packages.specs.declared.build.BuildFault.TheVariants.{Fields};
+ghost use Rattle.portal_base.specs.KeyErrors.{has_error, with_rule_errors};
 
-use crate::errors::{add_error, add_text_error};
-use crate::package::{LONGEST_NOTES, LONGEST_TEXT, LONGEST_TITLE, Package};
-use crate::resource_list::{replace_resources, resources_key_error};
-use crate::tags::{replace_tags, tags_key_error};
+use crate::package::{LONGEST_NOTES, LONGEST_TEXT, Package};
+use crate::resource_list::read_resources;
+use crate::tags::read_tags;
 use crate::texts::{
-    name_key_error, organization_key_error, private_key_error, private_or, replace_text,
-    replace_title, state_key_error, state_or, text_or,
+    copy_if_new, read_name, read_organization, read_private, read_state, read_text, read_title,
 };
 use portal_base::copy::TryClone;
 use portal_base::json_value::Json;
@@ -42,6 +42,14 @@ impl From<AllocError> for BuildFault {
     }
 }
 
+/// What is read of a body: the dataset that it describes, and the errors of its keys.
+#[derive(Drop)]
+pub struct DatasetReading {
+    /// The dataset, in which a faulty key counts as absent.
+    pub dataset: Package,
+    pub errors: KeyErrors,
+}
+
 /// The dataset that a body describes: a new one, or `old` changed. With `whole` absent keys take their defaults (CKAN's
 /// `package_create` and `package_update`), and without it the values of `old` (`package_patch`). A faulty body is
 /// refused with the error of each faulty key. The function doesn't check whether the organization exists, nor whether a
@@ -57,8 +65,9 @@ pub fn build(
     ensures faultless { OnOk result (body_errors body.now (option_copied old.entry) ≡ []) }
     ensures errors { IfErr result (IsRefusal (body_errors body.now (option_copied old.entry))) }
 {
-    unless_error(body_errors(alloc, body, old)?)?;
-    Ok(built_dataset(alloc, body, old, whole)?)
+    let read = read_dataset(alloc, body, old, whole)?;
+    unless_error(read.errors)?;
+    Ok(read.dataset)
 }
 
 /// Refuses a body with errors. It takes no memory.
@@ -74,104 +83,184 @@ pub fn unless_error(faults: KeyErrors) -> Result<(), BuildFault>
     }
 }
 
-// ---- the errors
+// ---- the reading
 
-/// The errors of a dataset's body, in the order of the keys.
-pub fn body_errors(
-    alloc: Global,
-    body: &Json,
-    old: Option<&Package>,
-) -> Result<KeyErrors, AllocError>
-    ensures { IfOk result (λ faults. faults ≡ body_errors body.now (option_copied old.entry)) }
-{
-    let mut faults = KeyErrors::new(alloc);
-    add_text_error(alloc, &mut faults, body, "author", LONGEST_TEXT)?;
-    add_text_error(alloc, &mut faults, body, "license_id", LONGEST_TEXT)?;
-    add_text_error(alloc, &mut faults, body, "maintainer", LONGEST_TEXT)?;
-    add_error(&mut faults, "name", name_key_error(alloc, old, body)?)?;
-    add_text_error(alloc, &mut faults, body, "notes", LONGEST_NOTES)?;
-    add_error(
-        &mut faults,
-        "owner_org",
-        organization_key_error(alloc, old, body)?,
-    )?;
-    add_error(&mut faults, "private", private_key_error(alloc, body)?)?;
-    add_error(
-        &mut faults,
-        "resources",
-        resources_key_error(alloc, old, body)?,
-    )?;
-    add_error(&mut faults, "state", state_key_error(alloc, body)?)?;
-    add_error(&mut faults, "tags", tags_key_error(alloc, body)?)?;
-    add_text_error(alloc, &mut faults, body, "title", LONGEST_TITLE)?;
-    add_text_error(alloc, &mut faults, body, "url", LONGEST_TEXT)?;
-    add_text_error(alloc, &mut faults, body, "version", LONGEST_TEXT)?;
-    Ok(faults)
-}
-
-/// Whether the list of resources in a dataset's body has an error. If so, nothing has to be built of it.
-pub fn has_resources_error(
-    alloc: Global,
-    body: &Json,
-    old: Option<&Package>,
-) -> Result<bool, AllocError>
-    ensures error { IfOk result (λ is. is ≡ is_some (resources_key_error (option_copied old.entry) body.now)) }
-    ensures listed { IfOk result (λ is. IsTrue is →
-        IsTrue (has_error (codes "resources") (body_errors body.now (option_copied old.entry)))) }
-{
-    Ok(resources_key_error(alloc, old, body)?.is_some())
-}
-
-// ---- the dataset
-
-/// The dataset that a body without errors describes. A faulty key counts as absent, or gives what can be read of it.
-pub fn built_dataset(
+/// Reads each key of a dataset's body once: into the dataset, or to its error. The dataset is new, or `old` changed, as
+/// `build` says. It is the one that the body describes if no key has an error, and its resources are those if their key
+/// has none.
+pub fn read_dataset(
     alloc: Global,
     body: &Json,
     old: Option<&Package>,
     whole: bool,
-) -> Result<Package, AllocError>
-    ensures { IfOk result (λ dataset. dataset ≡ built_dataset body.now (option_copied old.entry) whole) }
+) -> Result<DatasetReading, AllocError>
+    ensures errors { IfOk result (λ read. read.errors ≡ body_errors body.now (option_copied old.entry)) }
+    ensures built { IfOk result (λ read.
+        read.errors ≡ [] → read.dataset ≡ built_dataset body.now (option_copied old.entry) whole) }
+    ensures id { IfOk result (λ read.
+        read.dataset.id ≡ (built_dataset body.now (option_copied old.entry) whole).id) }
+    ensures resources { IfOk result (λ read. IsTrue (has_error (codes "resources") read.errors)
+        ⊎ (read.dataset.resources ≡ (built_dataset body.now (option_copied old.entry) whole).resources)) }
 {
-    let mut dataset = base_dataset(alloc, body, old, whole)?;
-    apply_body(alloc, body, old, &mut dataset)?;
-    Ok(dataset)
+    let mut errors = KeyErrors::new(alloc);
+    let mut dataset = base_dataset(alloc, old, whole)?;
+    read_keys(alloc, &mut errors, body, old, &mut dataset)?;
+    Ok(DatasetReading { dataset, errors })
 }
+
+/// Reads the keys of the body in their order into the dataset, and adds their errors.
+fn read_keys(
+    alloc: Global,
+    faults: &mut KeyErrors,
+    body: &Json,
+    old: Option<&Package>,
+    dataset: &mut Package,
+) -> Result<(), AllocError>
+    ensures errors { OnOk result
+        (faults.new ≡ with_rule_errors (body_checks body.now (option_copied old.entry)) faults.old) }
+    ensures dataset { OnOk result (dataset.new ≡ with_reading body.now (option_copied old.entry) dataset.old) }
+{
+    read_authors(alloc, faults, body, dataset)?;
+    read_names(alloc, faults, body, old, dataset)?;
+    read_lists(alloc, faults, body, old, dataset)?;
+    read_title_and_links(alloc, faults, body, dataset)
+}
+
+/// Reads the first three keys.
+fn read_authors(
+    alloc: Global,
+    faults: &mut KeyErrors,
+    body: &Json,
+    dataset: &mut Package,
+) -> Result<(), AllocError>
+    ensures errors { OnOk result (faults.new ≡ with_rule_errors (take 3 (body_checks body.now None)) faults.old) }
+    ensures dataset { OnOk result (dataset.new ≡ with_authors_read body.now dataset.old) }
+{
+    read_text(
+        alloc,
+        faults,
+        body,
+        "author",
+        LONGEST_TEXT,
+        &mut dataset.author,
+    )?;
+    read_text(
+        alloc,
+        faults,
+        body,
+        "license_id",
+        LONGEST_TEXT,
+        &mut dataset.license_id,
+    )?;
+    read_text(
+        alloc,
+        faults,
+        body,
+        "maintainer",
+        LONGEST_TEXT,
+        &mut dataset.maintainer,
+    )
+}
+
+/// Reads the next three keys: name, notes and organization. The title of a new dataset is its name by default.
+fn read_names(
+    alloc: Global,
+    faults: &mut KeyErrors,
+    body: &Json,
+    old: Option<&Package>,
+    dataset: &mut Package,
+) -> Result<(), AllocError>
+    ensures errors { OnOk result (faults.new
+        ≡ with_rule_errors (take 3 (drop 3 (body_checks body.now (option_copied old.entry)))) faults.old) }
+    ensures dataset { OnOk result (dataset.new ≡ with_names_read body.now (option_copied old.entry) dataset.old) }
+{
+    read_name(alloc, faults, body, old, &mut dataset.name)?;
+    copy_if_new(alloc, old, &dataset.name, &mut dataset.title)?;
+    read_text(
+        alloc,
+        faults,
+        body,
+        "notes",
+        LONGEST_NOTES,
+        &mut dataset.notes,
+    )?;
+    read_organization(alloc, faults, body, old, &mut dataset.owner_org)
+}
+
+/// Reads the next four keys.
+fn read_lists(
+    alloc: Global,
+    faults: &mut KeyErrors,
+    body: &Json,
+    old: Option<&Package>,
+    dataset: &mut Package,
+) -> Result<(), AllocError>
+    ensures errors { OnOk result (faults.new
+        ≡ with_rule_errors (take 4 (drop 6 (body_checks body.now (option_copied old.entry)))) faults.old) }
+    ensures dataset { OnOk result (dataset.new ≡ with_lists_read body.now (option_copied old.entry) dataset.old) }
+{
+    read_private(alloc, faults, body, &mut dataset.private)?;
+    read_resources(
+        alloc,
+        faults,
+        body,
+        old,
+        &mut dataset.resources,
+        &mut dataset.next_resource,
+    )?;
+    read_state(alloc, faults, body, &mut dataset.state)?;
+    read_tags(alloc, faults, body, &mut dataset.tags)
+}
+
+/// Reads the last three keys.
+fn read_title_and_links(
+    alloc: Global,
+    faults: &mut KeyErrors,
+    body: &Json,
+    dataset: &mut Package,
+) -> Result<(), AllocError>
+    ensures errors { OnOk result (faults.new ≡ with_rule_errors (drop 10 (body_checks body.now None)) faults.old) }
+    ensures dataset { OnOk result (dataset.new ≡ with_title_read body.now dataset.old) }
+{
+    read_title(alloc, faults, body, &dataset.name, &mut dataset.title)?;
+    read_text(alloc, faults, body, "url", LONGEST_TEXT, &mut dataset.url)?;
+    read_text(
+        alloc,
+        faults,
+        body,
+        "version",
+        LONGEST_TEXT,
+        &mut dataset.version,
+    )
+}
+
+// ---- the dataset into which a body is read
 
 /// The dataset that gives the values for absent keys.
-fn base_dataset(
-    alloc: Global,
-    body: &Json,
-    old: Option<&Package>,
-    whole: bool,
-) -> Result<Package, AllocError>
-    ensures { IfOk result (λ dataset. dataset ≡ base_dataset body.now (option_copied old.entry) whole) }
+fn base_dataset(alloc: Global, old: Option<&Package>, whole: bool) -> Result<Package, AllocError>
+    ensures { IfOk result (λ dataset. dataset ≡ base_read (option_copied old.entry) whole) }
 {
     match old {
-        None => new_dataset(alloc, body),
+        None => Ok(blank_dataset(alloc)),
         Some(old) if whole => reset_dataset(alloc, old),
         Some(old) => old.try_clone(alloc),
     }
 }
 
-/// A new dataset with the name and the organization of the body. The caller sets its id, its creator and its moments.
-fn new_dataset(alloc: Global, body: &Json) -> Result<Package, AllocError>
-    ensures { IfOk result (λ dataset. dataset ≡ new_dataset body.now) }
+/// A new dataset before its body is read. It takes no memory.
+fn blank_dataset(alloc: Global) -> Package
+    ensures { result ≡ fresh_package [] [] [] [] [] (pos 0) }
 {
-    let none = Text::new(alloc);
-    let name = text_or(alloc, &none, body, "name")?;
-    let title = name.try_clone(alloc)?;
-    let owner_org = text_or(alloc, &none, body, "owner_org")?;
     let moment = Moment::from_seconds(0).unwrap();
-    Ok(Package::fresh(
+    Package::fresh(
         alloc,
         Text::new(alloc),
-        name,
-        title,
-        owner_org,
-        none,
+        Text::new(alloc),
+        Text::new(alloc),
+        Text::new(alloc),
+        Text::new(alloc),
         moment,
-    ))
+    )
 }
 
 /// The dataset with the defaults for all keys of bodies but its name, its organization and its state.
@@ -193,32 +282,4 @@ fn reset_dataset(alloc: Global, old: &Package) -> Result<Package, AllocError>
     dataset.source = old.source.try_clone(alloc)?;
     dataset.iri = old.iri.try_clone(alloc)?;
     Ok(dataset)
-}
-
-/// Sets the values of the body's keys. Absent keys keep the values of the dataset.
-fn apply_body(
-    alloc: Global,
-    body: &Json,
-    old: Option<&Package>,
-    dataset: &mut Package,
-) -> Result<(), AllocError>
-    ensures { OnOk result (dataset.new ≡ with_body body.now (option_copied old.entry) dataset.old) }
-{
-    replace_title(alloc, &mut dataset.title, &dataset.name, body)?;
-    replace_text(alloc, &mut dataset.notes, body, "notes")?;
-    replace_text(alloc, &mut dataset.author, body, "author")?;
-    replace_text(alloc, &mut dataset.maintainer, body, "maintainer")?;
-    replace_text(alloc, &mut dataset.license_id, body, "license_id")?;
-    replace_text(alloc, &mut dataset.url, body, "url")?;
-    replace_text(alloc, &mut dataset.version, body, "version")?;
-    dataset.private = private_or(dataset.private, body);
-    dataset.state = state_or(dataset.state, body);
-    replace_tags(alloc, &mut dataset.tags, body)?;
-    replace_resources(
-        alloc,
-        old,
-        body,
-        &mut dataset.resources,
-        &mut dataset.next_resource,
-    )
 }

@@ -1,43 +1,94 @@
 //! A single resource: the values of its body, and the body's errors.
 ghost use Rattle.std.specs.Prelude.{◌≡◌, [], IfOk, IfErr, OnOk};
+ghost use Rattle.portal_base.specs.KeyErrors.{with_rule_errors};
 ghost use Rattle.packages.specs.Body.{IsRefusal};
-ghost use Rattle.packages.specs.Resources.{resource_errors, resource_for};
+ghost use Rattle.packages.specs.Resources.{resource_checks, resource_errors, resource_for};
+ghost use Rattle.packages.specs.Reading.{blank_resource, with_texts_read};
 
 use crate::build::{BuildFault, unless_error};
-use crate::errors::add_text_error;
 use crate::package::{LONGEST_DESCRIPTION, LONGEST_TEXT, Resource};
-use crate::texts::text_or;
+use crate::texts::read_text;
 use portal_base::json_value::Json;
 use portal_base::key_errors::KeyErrors;
 use portal_base::text::Text;
 use std::alloc::{AllocError, Global};
 
-/// The errors of a resource's body, in the order of the keys.
-pub fn resource_errors(alloc: Global, body: &Json) -> Result<KeyErrors, AllocError>
-    ensures { IfOk result (λ faults. faults ≡ resource_errors body.now) }
-{
-    let mut faults = KeyErrors::new(alloc);
-    add_text_error(alloc, &mut faults, body, "name", LONGEST_TEXT)?;
-    add_text_error(alloc, &mut faults, body, "url", LONGEST_TEXT)?;
-    add_text_error(alloc, &mut faults, body, "format", LONGEST_TEXT)?;
-    add_text_error(alloc, &mut faults, body, "mimetype", LONGEST_TEXT)?;
-    add_text_error(alloc, &mut faults, body, "description", LONGEST_DESCRIPTION)?;
-    Ok(faults)
+/// What is read of a resource's body: the resource, in which a faulty key counts as absent, and the errors of the keys.
+#[derive(Drop)]
+pub struct ResourceReading {
+    pub resource: Resource,
+    pub errors: KeyErrors,
 }
 
-/// The resource with this number that a body describes. Its texts are empty by default.
-pub fn resource_for(alloc: Global, number: u32, body: &Json) -> Result<Resource, AllocError>
-    ensures { IfOk result (λ resource. resource ≡ resource_for number body.now) }
+/// Reads each key of a resource's body once: into the resource with this number, or to its error. The texts are empty by
+/// default.
+pub fn read_resource(alloc: Global, body: &Json, number: u32) -> Result<ResourceReading, AllocError>
+    ensures errors { IfOk result (λ read. read.errors ≡ resource_errors body.now) }
+    ensures built { IfOk result (λ read. read.errors ≡ [] → read.resource ≡ resource_for number body.now) }
 {
-    let none = Text::new(alloc);
-    Ok(Resource {
+    let mut errors = KeyErrors::new(alloc);
+    let mut resource = blank_resource(alloc, number);
+    read_texts(alloc, &mut errors, body, &mut resource)?;
+    Ok(ResourceReading { resource, errors })
+}
+
+/// A resource before its body is read. It takes no memory.
+fn blank_resource(alloc: Global, number: u32) -> Resource
+    ensures { result ≡ blank_resource number }
+{
+    Resource {
         number,
-        name: text_or(alloc, &none, body, "name")?,
-        url: text_or(alloc, &none, body, "url")?,
-        format: text_or(alloc, &none, body, "format")?,
-        description: text_or(alloc, &none, body, "description")?,
-        mimetype: text_or(alloc, &none, body, "mimetype")?,
-    })
+        name: Text::new(alloc),
+        url: Text::new(alloc),
+        format: Text::new(alloc),
+        description: Text::new(alloc),
+        mimetype: Text::new(alloc),
+    }
+}
+
+/// Reads the texts of the body in their order into the resource, and adds their errors.
+fn read_texts(
+    alloc: Global,
+    faults: &mut KeyErrors,
+    body: &Json,
+    resource: &mut Resource,
+) -> Result<(), AllocError>
+    ensures errors { OnOk result (faults.new ≡ with_rule_errors (resource_checks body.now) faults.old) }
+    ensures resource { OnOk result (resource.new ≡ with_texts_read body.now resource.old) }
+{
+    read_text(
+        alloc,
+        faults,
+        body,
+        "name",
+        LONGEST_TEXT,
+        &mut resource.name,
+    )?;
+    read_text(alloc, faults, body, "url", LONGEST_TEXT, &mut resource.url)?;
+    read_text(
+        alloc,
+        faults,
+        body,
+        "format",
+        LONGEST_TEXT,
+        &mut resource.format,
+    )?;
+    read_text(
+        alloc,
+        faults,
+        body,
+        "mimetype",
+        LONGEST_TEXT,
+        &mut resource.mimetype,
+    )?;
+    read_text(
+        alloc,
+        faults,
+        body,
+        "description",
+        LONGEST_DESCRIPTION,
+        &mut resource.description,
+    )
 }
 
 /// The resource with this number that a body describes, or the body's faulty keys.
@@ -46,6 +97,7 @@ pub fn resource_of(alloc: Global, body: &Json, number: u32) -> Result<Resource, 
     ensures faultless { OnOk result (resource_errors body.now ≡ []) }
     ensures errors { IfErr result (IsRefusal (resource_errors body.now)) }
 {
-    unless_error(resource_errors(alloc, body)?)?;
-    Ok(resource_for(alloc, number, body)?)
+    let read = read_resource(alloc, body, number)?;
+    unless_error(read.errors)?;
+    Ok(read.resource)
 }

@@ -1,15 +1,18 @@
 //! The keys of a dataset's body that have a single value: their values and their errors.
-ghost use Rattle.std.specs.Prelude.{◌≡◌, IfOk, OnErr, OnOk};
+ghost use Rattle.std.specs.Prelude.{◌≡◌, IfOk, OnOk, codes, unwrap_or};
 ghost use Rattle.std.specs.Option.{option_copied};
-ghost use Rattle.packages.specs.Texts.{text_given, text_or, title_or, change_error, name_error, dataset_name_error};
+ghost use Rattle.portal_base.specs.KeyErrors.{error_if};
+ghost use Rattle.packages.specs.Texts.{text_given, short_text_error, change_error, name_error, dataset_name_error};
 ghost use Rattle.packages.specs.Texts.{missing_error, name_key_error, organization_change_error};
-ghost use Rattle.packages.specs.Texts.{organization_key_error, state_named};
-ghost use Rattle.packages.specs.Texts.{state_key_error, state_or, private_key_error, private_or};
+ghost use Rattle.packages.specs.Texts.{organization_key_error, state_error, state_named, state_key_error, state_or};
+ghost use Rattle.packages.specs.Texts.{private_key_error, private_or};
+ghost use Rattle.packages.specs.Reading.{if_new, name_read, organization_read, short_text_read, title_read, value_or};
 
-use crate::errors::message_unless;
-use crate::package::{LONGEST_NAME, Package, State};
+use crate::errors::{add_error, add_kind_fault, message_unless};
+use crate::package::{LONGEST_NAME, LONGEST_TITLE, Package, State};
 use portal_base::copy::TryClone;
 use portal_base::json_value::Json;
+use portal_base::key_errors::KeyErrors;
 use portal_base::kinds::{KindFault, text_at, truth_at};
 use portal_base::name::name_fault;
 use portal_base::text::Text;
@@ -27,44 +30,41 @@ pub fn text_given<'a>(body: &'a Json, key: &str) -> Option<&'a Text>
     }
 }
 
-/// A copy of the text at a key, or else of this one.
-pub fn text_or(alloc: Global, kept: &Text, body: &Json, key: &str) -> Result<Text, AllocError>
-    ensures { IfOk result (λ text. text ≡ text_or kept.now key.now body.now) }
-{
-    match text_given(body, key) {
-        Some(text) => text.try_clone(alloc),
-        None => kept.try_clone(alloc),
-    }
-}
-
-/// Replaces the text by the one at a key, if there is one. If memory is out, nothing changes.
-pub fn replace_text(
+/// Reads the text of a key, of at most `longest` bytes, into `text`, or adds the error of the key. If memory is out,
+/// nothing changes.
+#[tactic(auto, using(crate::proofs::Reading::short_text_is_read))]
+pub fn read_text(
     alloc: Global,
-    text: &mut Text,
+    faults: &mut KeyErrors,
     body: &Json,
-    key: &str,
+    key: &'static str,
+    longest: usize,
+    text: &mut Text,
 ) -> Result<(), AllocError>
-    ensures ok { OnOk result (text.new ≡ text_or text.old key.now body.now) }
-    ensures err { OnErr result (text.new ≡ text.old) }
+    ensures errors { OnOk result
+        (faults.new ≡ error_if key.now (short_text_error longest key.now body.now) faults.old) }
+    ensures text { OnOk result (text.new ≡ short_text_read longest text.old key.now body.now) }
 {
-    if let Some(given) = text_given(body, key) {
+    if let Some(given) = faults.short_text(alloc, body, key, longest)? {
         *text = given.try_clone(alloc)?;
     }
     Ok(())
 }
 
-/// Replaces the title by the one of the body, if there is one. An empty title becomes the name. If memory is out,
-/// nothing changes.
-pub fn replace_title(
+/// Reads the title, or adds its error. An empty title becomes the name.
+#[tactic(auto, using(crate::proofs::Reading::title_is_read))]
+pub fn read_title(
     alloc: Global,
-    title: &mut Text,
-    name: &Text,
+    faults: &mut KeyErrors,
     body: &Json,
+    name: &Text,
+    title: &mut Text,
 ) -> Result<(), AllocError>
-    ensures ok { OnOk result (title.new ≡ title_or title.old name.now body.now) }
-    ensures err { OnErr result (title.new ≡ title.old) }
+    ensures errors { OnOk result
+        (faults.new ≡ error_if (codes "title") (short_text_error 2000 (codes "title") body.now) faults.old) }
+    ensures title { OnOk result (title.new ≡ title_read title.old name.now body.now) }
 {
-    match text_given(body, "title") {
+    match faults.short_text(alloc, body, "title", LONGEST_TITLE)? {
         Some(given) if given.is_empty() => *title = name.try_clone(alloc)?,
         Some(given) => *title = given.try_clone(alloc)?,
         None => {}
@@ -118,36 +118,6 @@ fn missing_error(alloc: Global, old: Option<&Package>) -> Result<Option<Text>, A
     }
 }
 
-/// The error of the key `name`.
-pub fn name_key_error(
-    alloc: Global,
-    old: Option<&Package>,
-    body: &Json,
-) -> Result<Option<Text>, AllocError>
-    ensures { IfOk result (λ error. error ≡ name_key_error (option_copied old.entry) body.now) }
-{
-    match text_at(body, "name") {
-        Ok(Some(text)) => dataset_name_error(alloc, old, text),
-        Ok(None) => missing_error(alloc, old),
-        Err(fault) => Ok(Some(fault.message(alloc)?)),
-    }
-}
-
-/// The error of the key `owner_org`. It doesn't check whether the organization exists.
-pub fn organization_key_error(
-    alloc: Global,
-    old: Option<&Package>,
-    body: &Json,
-) -> Result<Option<Text>, AllocError>
-    ensures { IfOk result (λ error. error ≡ organization_key_error (option_copied old.entry) body.now) }
-{
-    match text_at(body, "owner_org") {
-        Ok(Some(text)) => Ok(organization_change_error(old, text)),
-        Ok(None) => missing_error(alloc, old),
-        Err(fault) => Ok(Some(fault.message(alloc)?)),
-    }
-}
-
 /// The error of an organization that differs from the old one.
 fn organization_change_error(old: Option<&Package>, text: &Text) -> Option<Text>
     ensures { result ≡ organization_change_error (option_copied old.entry) text.now }
@@ -155,6 +125,87 @@ fn organization_change_error(old: Option<&Package>, text: &Text) -> Option<Text>
     match old {
         Some(old) => change_error("Organization cannot be changed", &old.owner_org, text),
         None => None,
+    }
+}
+
+/// Copies the value of a new dataset. An old one keeps its own.
+pub fn copy_if_new(
+    alloc: Global,
+    old: Option<&Package>,
+    value: &Text,
+    kept: &mut Text,
+) -> Result<(), AllocError>
+    ensures { OnOk result (kept.new ≡ if_new (option_copied old.entry) value.now kept.old) }
+{
+    if old.is_none() {
+        *kept = value.try_clone(alloc)?;
+    }
+    Ok(())
+}
+
+/// Adds the error of a text, or copies it into a new dataset.
+fn take_text(
+    alloc: Global,
+    faults: &mut KeyErrors,
+    key: &'static str,
+    old: Option<&Package>,
+    error: Option<Text>,
+    text: &Text,
+    kept: &mut Text,
+) -> Result<(), AllocError>
+    ensures errors { OnOk result (faults.new ≡ error_if key.now error faults.old) }
+    ensures text { OnOk result
+        (kept.new ≡ if_new (option_copied old.entry) (value_or error text.now kept.old) kept.old) }
+{
+    match error {
+        Some(message) => faults.add_error(Text::from_static(key), message),
+        None => copy_if_new(alloc, old, text, kept),
+    }
+}
+
+/// Reads the name of a new dataset, or adds the key's error. An old dataset keeps its name.
+pub fn read_name(
+    alloc: Global,
+    faults: &mut KeyErrors,
+    body: &Json,
+    old: Option<&Package>,
+    name: &mut Text,
+) -> Result<(), AllocError>
+    ensures errors { OnOk result
+        (faults.new ≡ error_if (codes "name") (name_key_error (option_copied old.entry) body.now) faults.old) }
+    ensures name { OnOk result (name.new ≡ name_read (option_copied old.entry) name.old body.now) }
+{
+    match text_at(body, "name") {
+        Ok(Some(text)) => {
+            let error = dataset_name_error(alloc, old, text)?;
+            take_text(alloc, faults, "name", old, error, text, name)
+        }
+        Ok(None) => add_error(faults, "name", missing_error(alloc, old)?),
+        Err(fault) => add_kind_fault(alloc, faults, "name", fault),
+    }
+}
+
+/// Reads the organization of a new dataset, or adds the key's error. An old dataset keeps its organization. The function
+/// doesn't check whether the organization exists.
+pub fn read_organization(
+    alloc: Global,
+    faults: &mut KeyErrors,
+    body: &Json,
+    old: Option<&Package>,
+    organization: &mut Text,
+) -> Result<(), AllocError>
+    ensures errors { OnOk result (faults.new
+        ≡ error_if (codes "owner_org") (organization_key_error (option_copied old.entry) body.now) faults.old) }
+    ensures organization { OnOk result
+        (organization.new ≡ organization_read (option_copied old.entry) organization.old body.now) }
+{
+    match text_at(body, "owner_org") {
+        Ok(Some(text)) => {
+            let error = organization_change_error(old, text);
+            take_text(alloc, faults, "owner_org", old, error, text, organization)
+        }
+        Ok(None) => add_error(faults, "owner_org", missing_error(alloc, old)?),
+        Err(fault) => add_kind_fault(alloc, faults, "owner_org", fault),
     }
 }
 
@@ -173,49 +224,54 @@ fn state_named(text: &str) -> Option<State>
     }
 }
 
-/// The error of the key `state`.
-pub fn state_key_error(alloc: Global, body: &Json) -> Result<Option<Text>, AllocError>
-    ensures { IfOk result (λ error. error ≡ state_key_error body.now) }
+/// Reads the state, or adds the key's error.
+pub fn read_state(
+    alloc: Global,
+    faults: &mut KeyErrors,
+    body: &Json,
+    state: &mut State,
+) -> Result<(), AllocError>
+    ensures errors { OnOk result (faults.new ≡ error_if (codes "state") (state_key_error body.now) faults.old) }
+    ensures state { OnOk result (state.new ≡ state_or state.old body.now) }
 {
     match text_at(body, "state") {
-        Ok(Some(text)) => {
-            let is_state = state_named(text.as_str()).is_some();
-            Ok(message_unless(is_state, "State must be draft or active"))
-        }
-        Ok(None) => Ok(None),
-        Err(fault) => Ok(Some(fault.message(alloc)?)),
+        Ok(Some(text)) => take_state(faults, text.as_str(), state),
+        Ok(None) => Ok(()),
+        Err(fault) => add_kind_fault(alloc, faults, "state", fault),
     }
 }
 
-/// The state of the body, or else this one.
-pub fn state_or(kept: State, body: &Json) -> State
-    ensures { result ≡ state_or kept body.now }
+/// Sets the state with this name, or adds the error of the key `state`.
+fn take_state(faults: &mut KeyErrors, name: &str, state: &mut State) -> Result<(), AllocError>
+    ensures errors { OnOk result (faults.new ≡ error_if (codes "state") (state_error name.now) faults.old) }
+    ensures state { OnOk result (state.new ≡ unwrap_or (state_named name.now) state.old) }
 {
-    match text_given(body, "state") {
-        Some(text) => state_named(text.as_str()).unwrap_or(kept),
-        None => kept,
+    match state_named(name) {
+        Some(given) => {
+            *state = given;
+            Ok(())
+        }
+        None => {
+            let message = Text::from_static("State must be draft or active");
+            faults.add_error(Text::from_static("state"), message)
+        }
     }
 }
 
 // ---- whether it is private
 
-/// The error of the key `private`.
-pub fn private_key_error(alloc: Global, body: &Json) -> Result<Option<Text>, AllocError>
-    ensures { IfOk result (λ error. error ≡ private_key_error body.now) }
+/// Reads the key `private`, or adds its error.
+pub fn read_private(
+    alloc: Global,
+    faults: &mut KeyErrors,
+    body: &Json,
+    private: &mut bool,
+) -> Result<(), AllocError>
+    ensures errors { OnOk result (faults.new ≡ error_if (codes "private") (private_key_error body.now) faults.old) }
+    ensures private { OnOk result (private.new ≡ private_or private.old body.now) }
 {
-    match truth_at(body, "private") {
-        Ok(_) => Ok(None),
-        Err(fault) => Ok(Some(fault.message(alloc)?)),
+    if let Some(Some(given)) = faults.check(alloc, "private", truth_at(body, "private"))? {
+        *private = given;
     }
-}
-
-/// The value of the body's key `private`, or else this one.
-pub fn private_or(kept: bool, body: &Json) -> bool
-    ensures { result ≡ private_or kept body.now }
-{
-    match truth_at(body, "private") {
-        Ok(Some(private)) => private,
-        Ok(None) => kept,
-        Err(_) => kept,
-    }
+    Ok(())
 }

@@ -1,12 +1,15 @@
 use Rattle.std.proofs.Common.{sym, refl}
 use Rattle.visibility.specs.CallView.{context_view}
 use Rattle.portal_calls.proofs.Answering.{found_thing, no_rule_broken}
+use Rattle.dataset_answers.proofs.BodyLemmas.{no_errors}
 use Rattle.dataset_answers.proofs.TableSummaryAnswers.{by_all_tables, resource_create_same}
 use Rattle.dataset_answers.proofs.answers.resource_create.Goals as goal
 
 pub returns : goal.returns
 returns g c =
+    let described =
+    c.in_ok-read.ensures.built (no_errors c.args.context.now.quota c.in_ok-read.read.errors c.in_ok-validate_change.ensures) in
     by_all_tables (resource_create_same (context_view c.args.context.now) (g.H.TableLookup.summaries c.args.tables.now))
     (found_thing _ _ _ c.in_ok-dataset.dataset.now (sym c.in_ok-dataset.ensures)
-    (no_rule_broken _ _ _ _ _ _ c.in_ok-faults.ensures c.in_ok-validate_change.ensures refl
-    (rw (c.in_ok-shown.ensures, c.in_ok-changed.ensures, c.in_ok-resource.ensures, c.len.ensures) refl)))
+    (no_rule_broken _ _ _ _ _ _ c.in_ok-read.ensures.errors c.in_ok-validate_change.ensures refl
+    (rw (c.in_ok-shown.ensures, c.in_ok-changed.ensures, described, c.len.ensures) refl)))
