@@ -1,15 +1,14 @@
 //! The dataset that a call's body describes.
-ghost use Rattle.std.specs.Prelude.{◌≡◌, ◌⊎◌, [], IfOk, IfErr, IfNone, IsTrue, None, OnOk, codes, drop, pos, take};
+ghost use Rattle.std.specs.Prelude.{◌≡◌, ◌⊎◌, [], IfOk, IfErr, IfNone, IsTrue, None, OnOk, codes, drop, take};
 ghost use Rattle.std.specs.Option.{option_copied};
 ghost use Rattle.packages.specs.Body.{body_checks, body_errors, reset_dataset, built_dataset};
 ghost use Rattle.packages.specs.Body.{IsRefusal};
-ghost use Rattle.packages.specs.Package.{fresh_package};
 ghost use Rattle.packages.specs.Reading.{base_read, with_reading, with_authors_read, with_names_read};
 ghost use Rattle.packages.specs.Reading.{with_lists_read, with_title_read};
 ghost use Rattle.packages.specs.declared.build.BuildFault.TheVariants.{Fields};
 ghost use Rattle.portal_base.specs.KeyErrors.{has_error, with_rule_errors};
 
-use crate::package::{LONGEST_NOTES, LONGEST_TEXT, Package};
+use crate::package::{LONGEST_NOTES, LONGEST_TEXT, Package, copy_kept};
 use crate::resource_list::read_resources;
 use crate::tags::read_tags;
 use crate::texts::{
@@ -18,7 +17,6 @@ use crate::texts::{
 use portal_base::copy::TryClone;
 use portal_base::json_value::Json;
 use portal_base::key_errors::KeyErrors;
-use portal_base::moment::Moment;
 use portal_base::seq::Seq;
 use portal_base::text::Text;
 use std::alloc::{AllocError, Global};
@@ -241,45 +239,18 @@ fn base_dataset(alloc: Global, old: Option<&Package>, whole: bool) -> Result<Pac
     ensures { IfOk result (λ dataset. dataset ≡ base_read (option_copied old.entry) whole) }
 {
     match old {
-        None => Ok(blank_dataset(alloc)),
+        None => Ok(Package::blank(alloc)),
         Some(old) if whole => reset_dataset(alloc, old),
         Some(old) => old.try_clone(alloc),
     }
-}
-
-/// A new dataset before its body is read. It takes no memory.
-fn blank_dataset(alloc: Global) -> Package
-    ensures { result ≡ fresh_package [] [] [] [] [] (pos 0) }
-{
-    let moment = Moment::from_seconds(0).unwrap();
-    Package::fresh(
-        alloc,
-        Text::new(alloc),
-        Text::new(alloc),
-        Text::new(alloc),
-        Text::new(alloc),
-        Text::new(alloc),
-        moment,
-    )
 }
 
 /// The dataset with the defaults for all keys of bodies but its name, its organization and its state.
 fn reset_dataset(alloc: Global, old: &Package) -> Result<Package, AllocError>
     ensures { IfOk result (λ dataset. dataset ≡ reset_dataset old.now) }
 {
-    let mut dataset = Package::fresh(
-        alloc,
-        old.id.try_clone(alloc)?,
-        old.name.try_clone(alloc)?,
-        old.name.try_clone(alloc)?,
-        old.owner_org.try_clone(alloc)?,
-        old.creator.try_clone(alloc)?,
-        old.created,
-    );
-    dataset.state = old.state;
-    dataset.next_resource = old.next_resource;
-    dataset.modified = old.modified;
-    dataset.source = old.source.try_clone(alloc)?;
-    dataset.iri = old.iri.try_clone(alloc)?;
+    let mut dataset = Package::blank(alloc);
+    copy_kept(alloc, old, &mut dataset)?;
+    dataset.title = old.name.try_clone(alloc)?;
     Ok(dataset)
 }

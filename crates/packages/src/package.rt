@@ -1,5 +1,6 @@
 //! A dataset, its resources and its state.
-ghost use Rattle.std.specs.Prelude.{◌≡◌};
+ghost use Rattle.std.specs.Prelude.{◌≡◌, OnOk};
+ghost use Rattle.packages.specs.Package.{with_kept_of, with_names_of, with_values_of, with_texts_of, with_links_of};
 
 use portal_base::copy::TryClone;
 use portal_base::moment::Moment;
@@ -76,6 +77,7 @@ pub struct Package {
 }
 
 impl Package {
+    ghost use Rattle.std.specs.Prelude.{[], pos};
     ghost use Rattle.packages.specs.Package.{fresh_package};
 
     /// A new active, public dataset without notes, tags and resources. It takes no memory.
@@ -113,6 +115,22 @@ impl Package {
             iri: Text::new(alloc),
         }
     }
+
+    /// A new dataset whose texts are empty. It takes no memory.
+    pub(crate) fn blank(alloc: Global) -> Package
+        ensures { result ≡ fresh_package [] [] [] [] [] (pos 0) }
+    {
+        let moment = Moment::from_seconds(0).unwrap();
+        Package::fresh(
+            alloc,
+            Text::new(alloc),
+            Text::new(alloc),
+            Text::new(alloc),
+            Text::new(alloc),
+            Text::new(alloc),
+            moment,
+        )
+    }
 }
 
 impl TryClone for Resource {
@@ -130,27 +148,70 @@ impl TryClone for Resource {
 
 impl TryClone for Package {
     fn try_clone(&self, alloc: Global) -> Result<Package, AllocError> {
-        Ok(Package {
-            id: self.id.try_clone(alloc)?,
-            name: self.name.try_clone(alloc)?,
-            title: self.title.try_clone(alloc)?,
-            notes: self.notes.try_clone(alloc)?,
-            author: self.author.try_clone(alloc)?,
-            maintainer: self.maintainer.try_clone(alloc)?,
-            license_id: self.license_id.try_clone(alloc)?,
-            url: self.url.try_clone(alloc)?,
-            version: self.version.try_clone(alloc)?,
-            owner_org: self.owner_org.try_clone(alloc)?,
-            private: self.private,
-            state: self.state,
-            tags: self.tags.try_clone(alloc)?,
-            resources: self.resources.try_clone(alloc)?,
-            next_resource: self.next_resource,
-            creator: self.creator.try_clone(alloc)?,
-            created: self.created,
-            modified: self.modified,
-            source: self.source.try_clone(alloc)?,
-            iri: self.iri.try_clone(alloc)?,
-        })
+        let mut copy = Package::blank(alloc);
+        copy_kept(alloc, self, &mut copy)?;
+        copy_values(alloc, self, &mut copy)?;
+        Ok(copy)
     }
+}
+
+// ---- the parts of a copy
+
+/// Replaces a value by a copy of another one.
+fn copy_to<T: TryClone + Drop>(alloc: Global, from: &T, to: &mut T) -> Result<(), AllocError>
+    ensures { OnOk result (to.new ≡ from.now) }
+{
+    *to = from.try_clone(alloc)?;
+    Ok(())
+}
+
+/// Copies what no body sets, and the state.
+pub(crate) fn copy_kept(alloc: Global, from: &Package, to: &mut Package) -> Result<(), AllocError>
+    ensures { OnOk result (to.new ≡ with_kept_of from.now to.old) }
+{
+    copy_names(alloc, from, to)?;
+    copy_to(alloc, &from.creator, &mut to.creator)?;
+    copy_to(alloc, &from.source, &mut to.source)?;
+    copy_to(alloc, &from.iri, &mut to.iri)?;
+    to.state = from.state;
+    to.next_resource = from.next_resource;
+    to.created = from.created;
+    to.modified = from.modified;
+    Ok(())
+}
+
+fn copy_names(alloc: Global, from: &Package, to: &mut Package) -> Result<(), AllocError>
+    ensures { OnOk result (to.new ≡ with_names_of from.now to.old) }
+{
+    copy_to(alloc, &from.id, &mut to.id)?;
+    copy_to(alloc, &from.name, &mut to.name)?;
+    copy_to(alloc, &from.owner_org, &mut to.owner_org)
+}
+
+/// Copies what bodies set, the state aside.
+fn copy_values(alloc: Global, from: &Package, to: &mut Package) -> Result<(), AllocError>
+    ensures { OnOk result (to.new ≡ with_values_of from.now to.old) }
+{
+    copy_texts(alloc, from, to)?;
+    copy_links(alloc, from, to)?;
+    copy_to(alloc, &from.version, &mut to.version)?;
+    copy_to(alloc, &from.tags, &mut to.tags)?;
+    to.private = from.private;
+    copy_to(alloc, &from.resources, &mut to.resources)
+}
+
+fn copy_texts(alloc: Global, from: &Package, to: &mut Package) -> Result<(), AllocError>
+    ensures { OnOk result (to.new ≡ with_texts_of from.now to.old) }
+{
+    copy_to(alloc, &from.title, &mut to.title)?;
+    copy_to(alloc, &from.notes, &mut to.notes)?;
+    copy_to(alloc, &from.author, &mut to.author)
+}
+
+fn copy_links(alloc: Global, from: &Package, to: &mut Package) -> Result<(), AllocError>
+    ensures { OnOk result (to.new ≡ with_links_of from.now to.old) }
+{
+    copy_to(alloc, &from.maintainer, &mut to.maintainer)?;
+    copy_to(alloc, &from.license_id, &mut to.license_id)?;
+    copy_to(alloc, &from.url, &mut to.url)
 }
