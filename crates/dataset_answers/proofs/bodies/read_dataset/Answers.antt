@@ -6,7 +6,7 @@ use Rattle.packages.proofs.ErrorLemmas.{with_errors-has}
 use Rattle.dataset_answers.proofs.Fitting.{with_errors-none}
 use Rattle.dataset_answers.proofs.bodies.read_dataset.Goals as goal
 
-HasResourcesError : List KeyError → Type 0
+abbrev HasResourcesError : List KeyError → Type 0
 HasResourcesError errors = has_error (codes "resources") errors ≡ true
 
 more : {A B C : Type 0} → A ⊎ B → (A → C) → C ⊎ B
