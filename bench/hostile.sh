@@ -93,6 +93,10 @@ def one_field_often(size):
     return [], plain_table(size // 10), on_table("datastore_search", fields=["n"] * size, limit=32_000)
 
 
+def distinct_one_field_often(size):
+    return [], plain_table(size // 10), on_table("datastore_search", distinct=True, fields=["n"] * size)
+
+
 def delete_referring_rows(size):
     """Rows of which each refers to the one before it."""
     fields = [{"name": "k", "type": "integer"}, {"name": "before", "type": "integer"}]
@@ -115,6 +119,12 @@ def one_batch(size):
     fields = [{"name": "k", "type": "integer"}, {"name": "u", "type": "integer", "constraints": {"unique": True}}]
     records = [{"k": row, "u": row} for row in range(size)]
     return [], described_table(fields, [], primaryKey="k"), on_table("datastore_upsert", records=records)
+
+
+def update_backwards(size):
+    """One call that updates all rows, from the last to the first."""
+    records = [{"k": row} for row in reversed(range(size))]
+    return [], plain_table(size), on_table("datastore_upsert", method="update", records=records)
 
 
 def long_enum(size):
@@ -176,10 +186,12 @@ KINDS = {
     one_word_often: 100_000,
     distinct_null_and_zero: 100_000,
     one_field_often: 20_000,
+    distinct_one_field_often: 60_000,
     delete_referring_rows: 8_000,
     delete_all_rows: 100_000,
     long_filter_list: 100_000,
     one_batch: 8_000,
+    update_backwards: 20_000,
     long_enum: 16_000,
     sorted_page: 200_000,
     page_far_on: 200_000,

@@ -49,32 +49,32 @@ written_uniques column (field ∷ fields) written rows up apart =
     rw (first, written_uniques (column + 1) fields written rows up parts.1) refl
 
 pub draft_searchable : (schema : SchemaValue) (draft : Draft) (rows : List Row) → IsDraft draft
-    → draft.store.column_lists.items ≡ column_lists_of schema
-    → AreDistinct schema (rows_after draft.store.rows.items rows)
-    → IsSearchable schema draft.store.rows.items draft.store.index
+    → draft.column_lists.items ≡ column_lists_of schema
+    → AreDistinct schema (rows_after draft.rows rows)
+    → IsSearchable schema draft.rows draft.index
 draft_searchable schema draft rows is lists distinct =
-    let written = draft.store.rows.items in
-    let indexed : IsIndexed (column_lists_of schema) written draft.store.index =
-    subst (λ cs. IsIndexed cs written draft.store.index) lists is.sound.indexed in
+    let written = draft.rows in
+    let indexed : IsIndexed (column_lists_of schema) written draft.index =
+    subst (λ cs. IsIndexed cs written draft.index) lists is.indexed in
     record {
       keyed = record {
         ascending = is.ascending;
         apart = either (is_empty schema.key) (are_apart (has_key_of schema.key) (rows_after written rows))
             (are_apart (has_key_of schema.key) written)
             (written_apart (has_key_of schema.key) (key_turned schema.key) written rows is.ascending) distinct.keys;
-        indexed = key_indexed schema written draft.store.index indexed;
+        indexed = key_indexed schema written draft.index indexed;
       };
       uniques = written_uniques 0 schema.fields written rows is.ascending distinct.uniques;
-      unique = unique_indexed schema written draft.store.index indexed;
+      unique = unique_indexed schema written draft.index indexed;
     }
 
 -- One more record keeps the current rows apart.
 pub distinct_after : (method : Method) (schema : SchemaValue) (number : ℕ) (given : Json) (rows : List Row)
-    (old new : Draft) → IsAscending row_cmp rows → AreDistinct schema (rows_after old.store.rows.items rows)
+    (old new : Draft) → IsAscending row_cmp rows → AreDistinct schema (rows_after old.rows rows)
     → put_record method schema number given (worked_on rows (drafted old)) ≡ Ok (worked_on rows (drafted new))
-    → AreDistinct schema (rows_after new.store.rows.items rows)
+    → AreDistinct schema (rows_after new.rows rows)
 distinct_after method schema number given rows old new up distinct put =
-    let current = IsAscending-merged row_cmp row_cmp_total old.store.rows.items rows up in
+    let current = IsAscending-merged row_cmp row_cmp_total old.rows rows up in
     record {
       keys = put_record-keys method schema number given (worked_on rows (drafted old)) (worked_on rows (drafted new))
           current distinct.keys put;

@@ -23,3 +23,4 @@ pub mod RuleLemmas
 pub mod SearchLemmas
 pub mod StoreLemmas
 pub mod WorkLemmas
+mod WrittenLemmas

@@ -10,5 +10,7 @@ pub mod Record
 pub mod References
 pub mod Results
 pub mod Rows
+pub mod RowsById
 pub mod Rules
 pub mod Table
+pub mod WrittenRows

@@ -9,6 +9,7 @@ use crate::ids::Ids;
 use crate::references::check_all;
 use crate::removal::{Removal, check_referred_from};
 use crate::rows::CurrentRows;
+use crate::rows_by_id::RowsById;
 use crate::table::Table;
 use digest_index::DigestIndex;
 use table_schema::Foreign;
@@ -25,17 +26,17 @@ pub fn check_foreign(batch: &Batch, foreign: u32, target: &Table) -> Result<(), 
     let columns = foreign_fields(batch.schema.foreign().as_slice(), foreign);
     let none = DigestIndex::new(target.alloc());
     let rows = CurrentRows {
-        rows: target.rows(),
+        rows: RowsById::of_slice(target.rows()),
         index: target.index(),
-        written: &[],
+        written: RowsById::none(),
         written_index: &none,
     };
     check_all(
         columns,
         target.schema().key().as_slice(),
         &rows,
-        batch.work.changed(),
-        &[],
+        &RowsById::of_slice(batch.work.changed()),
+        &RowsById::none(),
         batch.work.written(),
     )
 }

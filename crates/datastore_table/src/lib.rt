@@ -21,15 +21,16 @@ mod references;
 mod removal;
 mod row;
 mod rows;
+mod rows_by_id;
 mod store;
 mod table;
 mod validation;
 mod work;
+mod written_rows;
 
 pub use batch::Batch;
 pub use checks::{check_foreign, check_referred};
 pub use fault::TableFault;
-pub use lookup_key::cells_digest;
 pub use method::Method;
 pub use removal::Removal;
 pub use row::Row;

@@ -8,13 +8,13 @@ ghost use Rattle.datastore_table.specs.Rows.{has_cells, row_cmp};
 
 use crate::lookup_key::LookupKey;
 use crate::row::Row;
-use crate::rows::row_at;
+use crate::rows_by_id::RowsById;
 use digest_index::{DigestIndex, Further};
 
 /// Finds the row that has the look-up key's cells in these columns, which the index covers. At most one row has them,
 /// and none of the cells is Null.
 pub(crate) fn find_by_index<'a>(
-    rows: &'a [Row],
+    rows: &RowsById<'a>,
     index: &DigestIndex<u64>,
     columns: &[u32],
     lookup_key: LookupKey,
@@ -26,14 +26,14 @@ pub(crate) fn find_by_index<'a>(
     ensures { option_copied result ≡ find (has_cells columns.now (lookup_cells lookup_key.entry)) rows.now }
 {
     match find_id(rows, index, columns, lookup_key) {
-        Some(id) => row_at(rows, id),
+        Some(id) => rows.row_at(id),
         None => None,
     }
 }
 
 // Finds the `_id` of a row that has the look-up key's cells.
 fn find_id(
-    rows: &[Row],
+    rows: &RowsById,
     index: &DigestIndex<u64>,
     columns: &[u32],
     lookup_key: LookupKey,
@@ -53,7 +53,12 @@ fn find_id(
 }
 
 // The `_id`, if its row has the look-up key's cells.
-fn find_first(rows: &[Row], id: Option<u64>, columns: &[u32], lookup_key: LookupKey) -> Option<u64>
+fn find_first(
+    rows: &RowsById,
+    id: Option<u64>,
+    columns: &[u32],
+    lookup_key: LookupKey,
+) -> Option<u64>
     requires { IsAscending row_cmp rows.now }
     ensures found { IfSome result (λ id.
         IsTrue (has_cells_at columns.now (lookup_cells lookup_key.entry) rows.now id)) }
@@ -68,7 +73,7 @@ fn find_first(rows: &[Row], id: Option<u64>, columns: &[u32], lookup_key: Lookup
 
 // The first of the further `_id`s whose row has the look-up key's cells.
 fn find_further(
-    rows: &[Row],
+    rows: &RowsById,
     further: &[Further<u64>],
     columns: &[u32],
     lookup_key: LookupKey,
@@ -84,11 +89,11 @@ fn find_further(
 }
 
 // Whether the row with this `_id` has the look-up key's cells.
-fn has_cells_at(rows: &[Row], columns: &[u32], lookup_key: LookupKey, id: u64) -> bool
+fn has_cells_at(rows: &RowsById, columns: &[u32], lookup_key: LookupKey, id: u64) -> bool
     requires { IsAscending row_cmp rows.now }
     ensures { result ≡ has_cells_at columns.now (lookup_cells lookup_key.entry) rows.now id }
 {
-    match row_at(rows, id) {
+    match rows.row_at(id) {
         Some(row) => lookup_key.are_at(columns, row.cells.as_slice()),
         None => false,
     }

@@ -66,7 +66,7 @@ fn take_cell(hasher: &mut DefaultHasher, cell: &Cell)
 }
 
 /// A digest of cells. Equal lists of cells have equal digests. Unequal lists seldom do.
-pub fn cells_digest(cells: &[Cell]) -> u64
+pub(crate) fn cells_digest(cells: &[Cell]) -> u64
     ensures { result ≡ digest_of [] cells.now }
 {
     digest_of(&[], cells)

@@ -15,6 +15,7 @@ use crate::lookup::find_by_index;
 use crate::lookup_key::LookupKey;
 use crate::row::Row;
 use crate::rows::{CurrentRows, current_row_at, has_row};
+use crate::rows_by_id::RowsById;
 use digest_index::DigestIndex;
 use table_schema::{Foreign, Schema};
 
@@ -28,9 +29,9 @@ pub(crate) fn refers(row: &Row, columns: &[u32]) -> bool
 // Whether a row has the key that this row has in these columns, among the rows that no written row replaces. The key has
 // a column.
 fn exists_by_index(
-    rows: &[Row],
+    rows: &RowsById,
     index: &DigestIndex<u64>,
-    written: &[Row],
+    written: &RowsById,
     key: &[u32],
     row: &Row,
     columns: &[u32],
@@ -49,7 +50,7 @@ fn exists_by_index(
 }
 
 // Whether there is a row, and no written row has its `_id`.
-fn is_unwritten(written: &[Row], row: Option<&Row>) -> bool
+fn is_unwritten(written: &RowsById, row: Option<&Row>) -> bool
     requires { IsAscending row_cmp written.now }
     ensures { result ≡ is_some (unwritten written.now (option_copied row.entry)) }
 {
@@ -63,9 +64,9 @@ fn is_unwritten(written: &[Row], row: Option<&Row>) -> bool
 // has no such row.
 #[tactic(auto, using(crate::proofs::LookupLemmas::refers_full))]
 fn exists_among(
-    rows: &[Row],
+    rows: &RowsById,
     index: &DigestIndex<u64>,
-    written: &[Row],
+    written: &RowsById,
     key: &[u32],
     row: &Row,
     columns: &[u32],
@@ -83,14 +84,27 @@ fn exists_among(
 // Whether a current row has the key that this row refers to.
 #[tactic(auto, using(crate::proofs::RowLemmas::exists_current))]
 fn key_exists(target: &CurrentRows, key: &[u32], row: &Row, columns: &[u32]) -> bool
-    requires keyed { IsKeyed key.now target.now.rows.now target.now.index.now }
-    requires written { IsKeyed key.now target.now.written.now target.now.written_index.now }
+    requires keyed { IsKeyed key.now target.now.rows target.now.index.now }
+    requires written { IsKeyed key.now target.now.written target.now.written_index.now }
     requires refers { refers columns.now row.now ≡ true }
     ensures { result ≡ key_exists key.now (cells_at columns.now row.now.cells)
-        (rows_after target.now.written.now target.now.rows.now) }
+        (rows_after target.now.written target.now.rows) }
 {
-    exists_among(target.written, target.written_index, &[], key, row, columns)
-        || exists_among(target.rows, target.index, target.written, key, row, columns)
+    exists_among(
+        &target.written,
+        target.written_index,
+        &RowsById::none(),
+        key,
+        row,
+        columns,
+    ) || exists_among(
+        &target.rows,
+        target.index,
+        &target.written,
+        key,
+        row,
+        columns,
+    )
 }
 
 /// Whether the row refers to a row, and none of these rows has that key.
@@ -105,15 +119,23 @@ pub(crate) fn is_broken_among(
     requires { IsKeyed key.now rows.now index.now }
     ensures { result ≡ is_broken columns.now key.now rows.now row.now }
 {
-    refers(row, columns) && !exists_among(rows, index, &[], key, row, columns)
+    refers(row, columns)
+        && !exists_among(
+            &RowsById::of_slice(rows),
+            index,
+            &RowsById::none(),
+            key,
+            row,
+            columns,
+        )
 }
 
 /// Whether the row refers to a row, and no current row of the target has that key.
 pub(crate) fn is_broken(columns: &[u32], key: &[u32], target: &CurrentRows, row: &Row) -> bool
-    requires keyed { IsKeyed key.now target.now.rows.now target.now.index.now }
-    requires written { IsKeyed key.now target.now.written.now target.now.written_index.now }
+    requires keyed { IsKeyed key.now target.now.rows target.now.index.now }
+    requires written { IsKeyed key.now target.now.written target.now.written_index.now }
     ensures { result ≡ is_broken columns.now key.now
-        (rows_after target.now.written.now target.now.rows.now) row.now }
+        (rows_after target.now.written target.now.rows) row.now }
 {
     refers(row, columns) && !key_exists(target, key, row, columns)
 }
@@ -122,15 +144,15 @@ fn is_broken_at(
     columns: &[u32],
     key: &[u32],
     target: &CurrentRows,
-    rows: &[Row],
-    changed: &[Row],
+    rows: &RowsById,
+    changed: &RowsById,
     id: u64,
 ) -> bool
-    requires keyed { IsKeyed key.now target.now.rows.now target.now.index.now }
-    requires written { IsKeyed key.now target.now.written.now target.now.written_index.now }
+    requires keyed { IsKeyed key.now target.now.rows target.now.index.now }
+    requires written { IsKeyed key.now target.now.written target.now.written_index.now }
     requires rows { IsAscending row_cmp rows.now }
     requires changed { IsAscending row_cmp changed.now }
-    ensures { result ≡ is_broken_at columns.now key.now (rows_after target.now.written.now target.now.rows.now)
+    ensures { result ≡ is_broken_at columns.now key.now (rows_after target.now.written target.now.rows)
         (row_at id (rows_after changed.now rows.now)) }
 {
     match current_row_at(rows, changed, id) {
@@ -144,16 +166,16 @@ fn check_written(
     columns: &[u32],
     key: &[u32],
     target: &CurrentRows,
-    rows: &[Row],
-    changed: &[Row],
+    rows: &RowsById,
+    changed: &RowsById,
     number: u64,
     id: u64,
 ) -> Result<(), TableFault>
-    requires keyed { IsKeyed key.now target.now.rows.now target.now.index.now }
-    requires written { IsKeyed key.now target.now.written.now target.now.written_index.now }
+    requires keyed { IsKeyed key.now target.now.rows target.now.index.now }
+    requires written { IsKeyed key.now target.now.written target.now.written_index.now }
     requires rows { IsAscending row_cmp rows.now }
     requires changed { IsAscending row_cmp changed.now }
-    ensures { result ≡ written_checked columns.now key.now (rows_after target.now.written.now target.now.rows.now)
+    ensures { result ≡ written_checked columns.now key.now (rows_after target.now.written target.now.rows)
         (rows_after changed.now rows.now) number id tt }
 {
     if is_broken_at(columns, key, target, rows, changed, id) {
@@ -169,15 +191,15 @@ pub(crate) fn check_all(
     columns: &[u32],
     key: &[u32],
     target: &CurrentRows,
-    rows: &[Row],
-    changed: &[Row],
+    rows: &RowsById,
+    changed: &RowsById,
     written: &[u64],
 ) -> Result<(), TableFault>
-    requires keyed { IsKeyed key.now target.now.rows.now target.now.index.now }
-    requires written { IsKeyed key.now target.now.written.now target.now.written_index.now }
+    requires keyed { IsKeyed key.now target.now.rows target.now.index.now }
+    requires written { IsKeyed key.now target.now.written target.now.written_index.now }
     requires rows { IsAscending row_cmp rows.now }
     requires changed { IsAscending row_cmp changed.now }
-    ensures { result ≡ foreign_checked columns.now key.now (rows_after target.now.written.now target.now.rows.now)
+    ensures { result ≡ foreign_checked columns.now key.now (rows_after target.now.written target.now.rows)
         (rows_after changed.now rows.now) written.now }
 {
     for (record_index, id) in written.iter().enumerate() {
@@ -201,9 +223,9 @@ pub(crate) fn check_self_references(
     current: &CurrentRows,
     written: &[u64],
 ) -> Result<(), TableFault>
-    requires keyed { IsKeyed schema.now.key current.now.rows.now current.now.index.now }
-    requires written { IsKeyed schema.now.key current.now.written.now current.now.written_index.now }
-    ensures { result ≡ self_references_checked schema.now (rows_after current.now.written.now current.now.rows.now)
+    requires keyed { IsKeyed schema.now.key current.now.rows current.now.index.now }
+    requires written { IsKeyed schema.now.key current.now.written current.now.written_index.now }
+    ensures { result ≡ self_references_checked schema.now (rows_after current.now.written current.now.rows)
         written.now }
 {
     let key = schema.key().as_slice();
@@ -219,9 +241,9 @@ fn check_self_reference(
     written: &[u64],
     foreign: &Foreign,
 ) -> Result<(), TableFault>
-    requires keyed { IsKeyed key.now current.now.rows.now current.now.index.now }
-    requires written { IsKeyed key.now current.now.written.now current.now.written_index.now }
-    ensures { result ≡ self_reference_checked key.now (rows_after current.now.written.now current.now.rows.now)
+    requires keyed { IsKeyed key.now current.now.rows current.now.index.now }
+    requires written { IsKeyed key.now current.now.written current.now.written_index.now }
+    ensures { result ≡ self_reference_checked key.now (rows_after current.now.written current.now.rows)
         written.now 0 foreign.now tt }
 {
     if !foreign.resource.is_empty() {
@@ -231,8 +253,8 @@ fn check_self_reference(
         foreign.fields.as_slice(),
         key,
         current,
-        current.rows,
-        current.written,
+        &current.rows,
+        &current.written,
         written,
     )
 }

@@ -17,6 +17,7 @@ use crate::cells::{has_null, is_null_at};
 use crate::lookup::find_by_index;
 use crate::lookup_key::LookupKey;
 use crate::row::Row;
+use crate::rows_by_id::RowsById;
 use digest_index::DigestIndex;
 use portal_base::ordered::Ordered;
 use std::mem;
@@ -26,9 +27,9 @@ use table_schema::Cell;
 /// two lists has an index of its own.
 #[derive(Drop)]
 pub(crate) struct CurrentRows<'a> {
-    pub rows: &'a [Row],
+    pub rows: RowsById<'a>,
     pub index: &'a DigestIndex<u64>,
-    pub written: &'a [Row],
+    pub written: RowsById<'a>,
     pub written_index: &'a DigestIndex<u64>,
 }
 
@@ -65,11 +66,11 @@ fn index_of_id(rows: &[Row], id: u64) -> usize
 }
 
 /// Whether one of the rows has this `_id`.
-pub(crate) fn has_row(rows: &[Row], id: u64) -> bool
+pub(crate) fn has_row(rows: &RowsById, id: u64) -> bool
     requires { IsAscending row_cmp rows.now }
     ensures { result ≡ list_any (λ row. is_eq (nat_cmp id row.id)) rows.now }
 {
-    row_at(rows, id).is_some()
+    rows.row_at(id).is_some()
 }
 
 // Whether no row can match: there is no column, or one of the cells is Null.
@@ -82,7 +83,7 @@ fn matches_nothing(columns: &[u32], cells: &[Cell]) -> bool
 // Finds the row that has these cells in these columns, which are those of the primary key.
 #[tactic(auto, using(crate::proofs::LookupLemmas::alone_key))]
 fn find_keyed<'a>(
-    rows: &'a [Row],
+    rows: &RowsById<'a>,
     index: &DigestIndex<u64>,
     columns: &[u32],
     cells: &[Cell],
@@ -101,20 +102,20 @@ fn first_unwritten_with<'a>(
     columns: &[u32],
     cells: &[Cell],
 ) -> Option<&'a Row>
-    requires keyed { IsKeyed columns.now current.now.rows.now current.now.index.now }
-    requires written { IsAscending row_cmp current.now.written.now }
+    requires keyed { IsKeyed columns.now current.now.rows current.now.index.now }
+    requires written { IsAscending row_cmp current.now.written }
     requires some { is_empty columns.now ≡ false }
     requires full { has_null cells.now ≡ false }
     ensures { option_copied result ≡ find
-        (λ row. has_cells columns.now cells.now row && not (has_like current.now.written.now row))
-        current.now.rows.now }
+        (λ row. has_cells columns.now cells.now row && not (has_like current.now.written row))
+        current.now.rows }
 {
-    let row = find_keyed(current.rows, current.index, columns, cells);
-    unwritten(current.written, row)
+    let row = find_keyed(&current.rows, current.index, columns, cells);
+    unwritten(&current.written, row)
 }
 
 // The row, unless a written row has its `_id`.
-fn unwritten<'a>(written: &[Row], row: Option<&'a Row>) -> Option<&'a Row>
+fn unwritten<'a>(written: &RowsById, row: Option<&'a Row>) -> Option<&'a Row>
     requires { IsAscending row_cmp written.now }
     ensures { option_copied result ≡ unwritten written.now (option_copied row.entry) }
 {
@@ -137,7 +138,7 @@ pub(crate) fn row_with<'a>(
     if matches_nothing(columns, cells) {
         None
     } else {
-        find_keyed(rows, index, columns, cells)
+        find_keyed(&RowsById::of_slice(rows), index, columns, cells)
     }
 }
 
@@ -148,16 +149,16 @@ pub(crate) fn current_row_with<'a>(
     columns: &[u32],
     cells: &[Cell],
 ) -> Option<&'a Row>
-    requires keyed { IsKeyed columns.now current.now.rows.now current.now.index.now }
-    requires written { IsKeyed columns.now current.now.written.now current.now.written_index.now }
+    requires keyed { IsKeyed columns.now current.now.rows current.now.index.now }
+    requires written { IsKeyed columns.now current.now.written current.now.written_index.now }
     ensures { option_copied result ≡ row_with columns.now cells.now
-        (rows_after current.now.written.now current.now.rows.now) }
+        (rows_after current.now.written current.now.rows) }
 {
     if matches_nothing(columns, cells) {
         return None;
     }
     earlier(
-        find_keyed(current.written, current.written_index, columns, cells),
+        find_keyed(&current.written, current.written_index, columns, cells),
         first_unwritten_with(current, columns, cells),
     )
 }
@@ -181,14 +182,18 @@ fn earlier<'a>(one: Option<&'a Row>, other: Option<&'a Row>) -> Option<&'a Row>
 
 /// Finds the current row with this `_id`.
 #[tactic(auto, using(crate::proofs::RowLemmas::current_at))]
-pub(crate) fn current_row_at<'a>(rows: &'a [Row], written: &'a [Row], id: u64) -> Option<&'a Row>
+pub(crate) fn current_row_at<'a>(
+    rows: &RowsById<'a>,
+    written: &RowsById<'a>,
+    id: u64,
+) -> Option<&'a Row>
     requires rows { IsAscending row_cmp rows.now }
     requires written { IsAscending row_cmp written.now }
     ensures { option_copied result ≡ row_at id (rows_after written.now rows.now) }
 {
-    match row_at(written, id) {
+    match written.row_at(id) {
         Some(row) => Some(row),
-        None => row_at(rows, id),
+        None => rows.row_at(id),
     }
 }
 
@@ -202,7 +207,7 @@ fn is_other(row: &Row, except: Option<u64>) -> bool
 }
 
 // Whether there is a row, it is not the excepted one, and no written row has its `_id`.
-fn is_other_unwritten(except: Option<u64>, written: &[Row], row: Option<&Row>) -> bool
+fn is_other_unwritten(except: Option<u64>, written: &RowsById, row: Option<&Row>) -> bool
     requires { IsAscending row_cmp written.now }
     ensures { result ≡ is_other_unwritten except written.now (option_copied row.entry) }
 {
@@ -214,9 +219,9 @@ fn is_other_unwritten(except: Option<u64>, written: &[Row], row: Option<&Row>) -
 
 // Whether another row than the excepted one has the cell in this column, among the rows that no written row replaces.
 fn is_taken_among(
-    rows: &[Row],
+    rows: &RowsById,
     index: &DigestIndex<u64>,
-    written: &[Row],
+    written: &RowsById,
     except: Option<u64>,
     column: u32,
     cells: &[Cell],
@@ -243,29 +248,29 @@ pub(crate) fn is_taken(
     column: u32,
     cells: &[Cell],
 ) -> bool
-    requires rows { IsAscending row_cmp current.now.rows.now }
-    requires written { IsAscending row_cmp current.now.written.now }
+    requires rows { IsAscending row_cmp current.now.rows }
+    requires written { IsAscending row_cmp current.now.written }
     requires alone { is_null (cell_at cells.now column) ≡ false →
-        IsAlone (column ∷ []) (cell_at cells.now column ∷ []) current.now.rows.now }
+        IsAlone (column ∷ []) (cell_at cells.now column ∷ []) current.now.rows }
     requires alone_written { is_null (cell_at cells.now column) ≡ false →
-        IsAlone (column ∷ []) (cell_at cells.now column ∷ []) current.now.written.now }
-    requires indexed { IsIndexedAt (column ∷ []) current.now.rows.now current.now.index.now }
-    requires indexed_written { IsIndexedAt (column ∷ []) current.now.written.now current.now.written_index.now }
+        IsAlone (column ∷ []) (cell_at cells.now column ∷ []) current.now.written }
+    requires indexed { IsIndexedAt (column ∷ []) current.now.rows current.now.index.now }
+    requires indexed_written { IsIndexedAt (column ∷ []) current.now.written current.now.written_index.now }
     ensures { result ≡ is_taken except column (cell_at cells.now column)
-        (rows_after current.now.written.now current.now.rows.now) }
+        (rows_after current.now.written current.now.rows) }
 {
     !is_null_at(cells, column as usize)
         && (is_taken_among(
-            current.written,
+            &current.written,
             current.written_index,
-            &[],
+            &RowsById::none(),
             except,
             column,
             cells,
         ) || is_taken_among(
-            current.rows,
+            &current.rows,
             current.index,
-            current.written,
+            &current.written,
             except,
             column,
             cells,

@@ -16,7 +16,8 @@ use crate::ids::Ids;
 use crate::lookup_key::digest_at;
 use crate::removal::delete;
 use crate::row::Row;
-use crate::rows::{put_sorted, row_at};
+use crate::rows::put_sorted;
+use crate::rows_by_id::RowsById;
 use digest_index::DigestIndex;
 use portal_base::seq::Seq;
 use std::alloc::{AllocError, Global};
@@ -86,7 +87,12 @@ impl RowStore {
         ensures ready { self.new.ready + 1 ≡ self.old.ready }
     {
         let column_lists = self.column_lists.as_slice();
-        leave_id(&mut self.index, column_lists, self.rows.as_slice(), row.id);
+        leave_id(
+            &mut self.index,
+            column_lists,
+            &RowsById::of_slice(self.rows.as_slice()),
+            row.id,
+        );
         enter_row(&mut self.index, column_lists, &row);
         put_row(&mut self.rows, row);
         self.ready -= 1;
@@ -117,7 +123,7 @@ impl RowStore {
         leave_all(
             &mut self.index,
             self.column_lists.as_slice(),
-            self.rows.as_slice(),
+            &RowsById::of_slice(self.rows.as_slice()),
             ids.as_slice(),
         );
         delete(&mut self.rows, ids);
@@ -126,7 +132,7 @@ impl RowStore {
 }
 
 /// The lists of columns that the index covers.
-fn column_lists_of(alloc: Global, schema: &Schema) -> Result<Vec<Seq<u32>>, AllocError>
+pub(crate) fn column_lists_of(alloc: Global, schema: &Schema) -> Result<Vec<Seq<u32>>, AllocError>
     ensures { IfOk result (λ column_lists. column_lists.items ≡ column_lists_of schema.now) }
 {
     let mut column_lists = key_column_lists(alloc, schema.key().as_slice())?;
@@ -221,7 +227,7 @@ fn enter_all(index: &mut DigestIndex<u64>, column_lists: &[Seq<u32>], rows: &[Ro
 }
 
 /// Enters a row by each of these lists of columns.
-fn enter_row(index: &mut DigestIndex<u64>, column_lists: &[Seq<u32>], row: &Row)
+pub(crate) fn enter_row(index: &mut DigestIndex<u64>, column_lists: &[Seq<u32>], row: &Row)
     requires { length column_lists.now ≤ index.old.room }
     ensures { EntersRow index.old index.new column_lists.now row.now }
 {
@@ -242,7 +248,7 @@ fn enter_at(index: &mut DigestIndex<u64>, columns: &[u32], row: &Row)
 }
 
 /// Removes the index entries of the rows with these `_id`s.
-fn leave_all(index: &mut DigestIndex<u64>, column_lists: &[Seq<u32>], rows: &[Row], ids: &[u64])
+fn leave_all(index: &mut DigestIndex<u64>, column_lists: &[Seq<u32>], rows: &RowsById, ids: &[u64])
     requires { IsAscending row_cmp rows.now }
     ensures leaves { LeavesAll index.old index.new ids.now }
     ensures left { (id : ℕ) → IsIn id ids.now → IsLeft column_lists.now rows.now id index.new }
@@ -252,12 +258,18 @@ fn leave_all(index: &mut DigestIndex<u64>, column_lists: &[Seq<u32>], rows: &[Ro
     }
 }
 
-fn leave_id(index: &mut DigestIndex<u64>, column_lists: &[Seq<u32>], rows: &[Row], id: u64)
+/// Removes the index entries of the row with this `_id`, if there is one.
+pub(crate) fn leave_id(
+    index: &mut DigestIndex<u64>,
+    column_lists: &[Seq<u32>],
+    rows: &RowsById,
+    id: u64,
+)
     requires { IsAscending row_cmp rows.now }
     ensures leaves { LeavesRow index.old index.new id }
     ensures left { IsLeft column_lists.now rows.now id index.new }
 {
-    if let Some(row) = row_at(rows, id) {
+    if let Some(row) = rows.row_at(id) {
         leave_row(index, column_lists, row.cells.as_slice(), id);
     }
 }

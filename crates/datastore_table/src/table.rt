@@ -26,6 +26,7 @@ use crate::references::check_self_references;
 use crate::removal::{Removal, removed_keys, restrict_self_references};
 use crate::row::{Row, rows_of};
 use crate::rows::{CurrentRows, row_at, row_with};
+use crate::rows_by_id::RowsById;
 use crate::store::RowStore;
 use crate::work::{Work, put_all};
 use digest_index::DigestIndex;
@@ -281,13 +282,13 @@ impl Table {
             self.next_id,
         )?;
         let current = CurrentRows {
-            rows,
+            rows: RowsById::of_slice(rows),
             index,
-            written: draft.store.rows.as_slice(),
-            written_index: &draft.store.index,
+            written: RowsById::of_written(&draft.rows),
+            written_index: &draft.index,
         };
         check_self_references(&self.schema, &current, draft.written.as_slice())?;
-        Ok(Work::of_draft(draft))
+        Ok(Work::of_draft(self.alloc, draft)?)
     }
 }
 

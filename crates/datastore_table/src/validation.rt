@@ -31,10 +31,10 @@ pub(crate) fn validated_record(
     given: &Json,
     current: &CurrentRows,
 ) -> Result<(Option<u64>, Seq<Cell>), TableFault>
-    requires searchable { IsSearchable schema.now current.now.rows.now current.now.index.now }
-    requires written { IsSearchable schema.now current.now.written.now current.now.written_index.now }
+    requires searchable { IsSearchable schema.now current.now.rows current.now.index.now }
+    requires written { IsSearchable schema.now current.now.written current.now.written_index.now }
     ensures { Answers result (validated_record method schema.now number given.now
-        (rows_after current.now.written.now current.now.rows.now)) }
+        (rows_after current.now.written current.now.rows)) }
 {
     let key = key_of(alloc, schema, given)?;
     let row = current_row_with(current, schema.key().as_slice(), key.as_slice());
@@ -51,10 +51,10 @@ fn validated_against(
     row: Option<&Row>,
     current: &CurrentRows,
 ) -> Result<(Option<u64>, Seq<Cell>), TableFault>
-    requires searchable { IsSearchable schema.now current.now.rows.now current.now.index.now }
-    requires written { IsSearchable schema.now current.now.written.now current.now.written_index.now }
+    requires searchable { IsSearchable schema.now current.now.rows current.now.index.now }
+    requires written { IsSearchable schema.now current.now.written current.now.written_index.now }
     ensures { Answers result (validated_against method schema.now number given.now (option_copied row.entry)
-        (rows_after current.now.written.now current.now.rows.now)) }
+        (rows_after current.now.written current.now.rows)) }
 {
     let fields = schema.fields().as_slice();
     let cells = cells_of(alloc, number, fields, kept_cells(method, row), given)?;
@@ -126,10 +126,10 @@ fn check_unique(
     cells: &[Cell],
     current: &CurrentRows,
 ) -> Result<(), TableFault>
-    requires searchable { IsSearchable schema.now current.now.rows.now current.now.index.now }
-    requires written { IsSearchable schema.now current.now.written.now current.now.written_index.now }
+    requires searchable { IsSearchable schema.now current.now.rows current.now.index.now }
+    requires written { IsSearchable schema.now current.now.written current.now.written_index.now }
     ensures { Answers result (in_turn (unique_fault number except cells.now
-        (rows_after current.now.written.now current.now.rows.now)) 0 schema.now.fields tt) }
+        (rows_after current.now.written current.now.rows)) 0 schema.now.fields tt) }
 {
     let fields = schema.fields().as_slice();
     for (column, field) in fields.iter().enumerate() {
@@ -148,11 +148,11 @@ fn check_field(
     cells: &[Cell],
     current: &CurrentRows,
 ) -> Result<(), TableFault>
-    requires searchable { IsSearchable schema.now current.now.rows.now current.now.index.now }
-    requires written { IsSearchable schema.now current.now.written.now current.now.written_index.now }
+    requires searchable { IsSearchable schema.now current.now.rows current.now.index.now }
+    requires written { IsSearchable schema.now current.now.written current.now.written_index.now }
     requires at { slice_get schema.now.fields column ≡ Some field.now }
     ensures { Answers result (unique_fault number except cells.now
-        (rows_after current.now.written.now current.now.rows.now) column field.now tt) }
+        (rows_after current.now.written current.now.rows) column field.now tt) }
 {
     if !field.constraints().unique || !is_taken_at(schema, field, current, except, column, cells)? {
         return Ok(());
@@ -172,12 +172,12 @@ fn is_taken_at(
     column: usize,
     cells: &[Cell],
 ) -> Result<bool, AllocError>
-    requires searchable { IsSearchable schema.now current.now.rows.now current.now.index.now }
-    requires written { IsSearchable schema.now current.now.written.now current.now.written_index.now }
+    requires searchable { IsSearchable schema.now current.now.rows current.now.index.now }
+    requires written { IsSearchable schema.now current.now.written current.now.written_index.now }
     requires at { slice_get schema.now.fields column ≡ Some field.now }
     requires unique { field.now.constraints.unique ≡ true }
     ensures { IfOk result (λ taken. taken ≡ is_taken except column (cell_at cells.now column)
-        (rows_after current.now.written.now current.now.rows.now)) }
+        (rows_after current.now.written current.now.rows)) }
 {
     match u32::try_from(column) {
         Ok(column) => Ok(is_taken(current, except, column, cells)),

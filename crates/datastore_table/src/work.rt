@@ -13,10 +13,11 @@ use crate::fault::TableFault;
 use crate::method::Method;
 use crate::row::Row;
 use crate::rows::CurrentRows;
+use crate::rows_by_id::RowsById;
 use crate::validation::validated_record;
 use digest_index::DigestIndex;
 use portal_base::json_value::Json;
-use std::alloc::Global;
+use std::alloc::{AllocError, Global};
 use std::marker::Model;
 use table_schema::Schema;
 
@@ -44,20 +45,15 @@ impl Model for Work {
 
 impl Work {
     /// The rows of a draft.
-    pub(crate) fn of_draft(draft: Draft) -> Work
+    pub(crate) fn of_draft(alloc: Global, draft: Draft) -> Result<Work, AllocError>
         requires { IsDraft draft }
-        ensures { result ≡ drafted draft }
+        ensures { IfOk result (λ work. work ≡ drafted draft) }
     {
-        let Draft {
-            store,
-            next_id,
-            written,
-        } = draft;
-        Work {
-            changed: store.rows,
-            next_id,
-            written,
-        }
+        Ok(Work {
+            changed: draft.rows.into_vec(alloc)?,
+            next_id: draft.next_id,
+            written: draft.written,
+        })
     }
 
     pub(crate) fn changed(&self) -> &[Row]
@@ -100,20 +96,20 @@ fn put_record(
     draft: &mut Draft,
 ) -> Result<(), TableFault>
     requires rows { IsSearchable schema.now rows.now index.now }
-    requires found { IsSearchable schema.now draft.old.store.rows.items draft.old.store.index }
+    requires found { IsSearchable schema.now draft.old.rows draft.old.index }
     requires draft { IsDraft draft.old }
     ensures ok { OnOk result (put_record method schema.now number given.now (worked_on rows.now (drafted draft.old))
         ≡ Ok (worked_on rows.now (drafted draft.new))) }
     ensures draft { OnOk result (IsDraft draft.new) }
-    ensures column_lists { OnOk result (draft.new.store.column_lists.items ≡ draft.old.store.column_lists.items) }
+    ensures column_lists { OnOk result (draft.new.column_lists.items ≡ draft.old.column_lists.items) }
     ensures err { IfErr result (λ fault. (fault ≡ OutOfMemory)
         ⊎ (put_record method schema.now number given.now (worked_on rows.now (drafted draft.old)) ≡ Err fault)) }
 {
     let current = CurrentRows {
-        rows,
+        rows: RowsById::of_slice(rows),
         index,
-        written: draft.store.rows.as_slice(),
-        written_index: &draft.store.index,
+        written: RowsById::of_written(&draft.rows),
+        written_index: &draft.index,
     };
     let (id, cells) = validated_record(alloc, method, schema, number, given, &current)?;
     draft.write(id, cells)
@@ -133,7 +129,7 @@ pub(crate) fn put_all(
     ensures ok { IfOk result (λ draft. put_from method schema.now 1 records.now (begun rows.now next_id)
         ≡ Ok (worked_on rows.now (drafted draft))) }
     ensures draft { IfOk result IsDraft }
-    ensures found { IfOk result (λ draft. IsSearchable schema.now draft.store.rows.items draft.store.index) }
+    ensures found { IfOk result (λ draft. IsSearchable schema.now draft.rows draft.index) }
     ensures err { IfErr result (λ fault. (fault ≡ OutOfMemory)
         ⊎ (put_from method schema.now 1 records.now (begun rows.now next_id) ≡ Err fault)) }
 {

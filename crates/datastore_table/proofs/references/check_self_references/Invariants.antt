@@ -6,7 +6,7 @@ use Rattle.datastore_table.proofs.references.check_self_references.Given as goal
 
 abbrev pub invariant-loop-foreign : goal.invariant-loop-foreign
 invariant-loop-foreign l =
-    in_turn (self_reference_checked l.key (rows_after l.current.written.now l.current.rows.now) l.written) 0 l.foreign-items
+    in_turn (self_reference_checked l.key (rows_after l.current.written l.current.rows) l.written) 0 l.foreign-items
     tt
-    ≡ in_turn (self_reference_checked l.key (rows_after l.current.written.now l.current.rows.now) l.written) l.foreign-index
+    ≡ in_turn (self_reference_checked l.key (rows_after l.current.written l.current.rows) l.written) l.foreign-index
     (drop l.foreign-index l.foreign-items) tt

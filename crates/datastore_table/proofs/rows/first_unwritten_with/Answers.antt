@@ -7,8 +7,8 @@ pub returns : goal.returns
 returns c =
     let columns = c.args.columns.now in
     let cells = c.args.cells.now in
-    let rows = c.args.current.now.rows.now in
-    let written = c.args.current.now.written.now in
+    let rows = c.args.current.now.rows in
+    let written = c.args.current.now.written in
     c.unwritten.ensures ∙ ap (unwritten written) c.find_keyed-row.ensures
     ∙ sym (find_unwritten columns cells written rows c.requires.keyed.ascending
     (alone_key columns cells rows c.requires.keyed.apart c.requires.some))

@@ -6,7 +6,7 @@ use Rattle.datastore_table.proofs.validation.check_unique.Given as goal
 
 abbrev pub invariant-loop-column : goal.invariant-loop-column
 invariant-loop-column l =
-    in_turn (unique_fault l.number l.except l.cells (rows_after l.current.written.now l.current.rows.now)) 0
+    in_turn (unique_fault l.number l.except l.cells (rows_after l.current.written l.current.rows)) 0
     l.schema.fields tt
-    ≡ in_turn (unique_fault l.number l.except l.cells (rows_after l.current.written.now l.current.rows.now)) l.column
+    ≡ in_turn (unique_fault l.number l.except l.cells (rows_after l.current.written l.current.rows)) l.column
     (drop l.column l.schema.fields) tt

@@ -9,7 +9,7 @@ pub returns : goal.returns
 returns c =
     let schema = c.args.schema.now in
     let given = c.args.given.now in
-    let rows = rows_after c.args.current.now.written.now c.args.current.now.rows.now in
+    let rows = rows_after c.args.current.now.written c.args.current.now.rows in
     let columns : c.as_slice.result.now ≡ schema.key = c.as_slice.ensures ∙ c.key.ensures in
     let key : c.as_slice-2.result.now ≡ key_of schema given = c.as_slice-2.ensures ∙ c.in_ok-key.ensures in
     let row : option_copied c.current_row_with-row.result ≡ row_with schema.key (key_of schema given) rows =

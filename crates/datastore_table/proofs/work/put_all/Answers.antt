@@ -12,7 +12,7 @@ pub loop-record_index-init : goal.loop-record_index-init
 loop-record_index-init c =
     let rows = c.args.rows.now in
     let draft = c.in_ok-draft.draft in
-    let none : rows_after draft.store.rows.items rows ≡ rows =
+    let none : rows_after draft.rows rows ≡ rows =
     ap (λ (ws : List Row). rows_after ws rows) c.in_ok-draft.ensures.changed in
     record {
       put = rw (c.in_ok-draft.ensures.changed, c.in_ok-draft.ensures.next_id, c.in_ok-draft.ensures.written) refl;

@@ -13,6 +13,6 @@ invariant-loop-record_index l = record {
       ≡ put_from l.method l.schema (l.record_index + 1) (drop l.record_index l.records)
       (worked_on l.rows (drafted l.draft));
   draft : IsDraft l.draft;
-  column_lists : l.draft.store.column_lists.items ≡ column_lists_of l.schema;
-  distinct : AreDistinct l.schema (rows_after l.draft.store.rows.items l.rows);
+  column_lists : l.draft.column_lists.items ≡ column_lists_of l.schema;
+  distinct : AreDistinct l.schema (rows_after l.draft.rows l.rows);
 }
