@@ -1,3 +1,4 @@
+mod AsciiLemmas
 pub mod DecidingLemmas
 pub mod DistinctLemmas
 mod Examples

@@ -1,3 +1,4 @@
+pub mod AsciiWords
 pub mod Column
 pub mod Distinct
 pub mod FieldNames

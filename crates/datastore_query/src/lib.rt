@@ -2,6 +2,7 @@
 //! in the query's order.
 #![tactic(auto)]
 
+mod ascii_words;
 mod column;
 mod distinct;
 mod fault;

@@ -10,6 +10,7 @@ ghost use Rattle.table_schema.specs.Printed.{IsValue};
 ghost use Rattle.datastore_query.specs.Repeats.{PassAlike};
 ghost use Rattle.datastore_query.specs.Words.{cell_tokens, has_word, has_words, row_tokens};
 
+use crate::ascii_words::{has_ascii_token, starts_with_digit};
 use caseless::default_case_fold_str;
 use datastore_table::Row;
 use portal_base::characters::is_word_character;
@@ -105,8 +106,8 @@ fn is_token_of(alloc: Global, word: &str, token: &str) -> Result<bool, AllocErro
     Ok(folded.as_str() == token)
 }
 
-// Whether the text has this token. The buffer takes one word after another, whatever it had before.
-fn has_token(
+// Whether the text has this token. Its words are read one after another into the buffer, and folded.
+fn has_folded_token(
     alloc: Global,
     buffer: &mut String,
     text: &str,
@@ -128,7 +129,22 @@ fn has_token(
     is_token_of(alloc, buffer.as_str(), token)
 }
 
-// Whether the cell has this token. A text is looked through where it is.
+// Whether the text has this token. An ASCII text is looked through where it is.
+fn has_token(
+    alloc: Global,
+    buffer: &mut String,
+    text: &str,
+    token: &str,
+) -> Result<bool, AllocError>
+    ensures { IfOk result (λ has. has ≡ has_word (tokens text.now) token.now) }
+{
+    if text.is_ascii() {
+        return Ok(has_ascii_token(text.as_bytes(), token.as_bytes()));
+    }
+    has_folded_token(alloc, buffer, text, token)
+}
+
+// Whether the cell has this token. A whole number is printed only where the token begins with a digit.
 fn cell_has(
     alloc: Global,
     buffer: &mut String,
@@ -138,11 +154,14 @@ fn cell_has(
     requires { IsValue cell.now }
     ensures { IfOk result (λ has. has ≡ has_word (cell_tokens cell.now) token.now) }
 {
-    if let Cell::Text(text) = cell {
-        return has_token(alloc, buffer, text.as_str(), token);
+    match cell {
+        Cell::Text(text) => has_token(alloc, buffer, text.as_str(), token),
+        Cell::Int(_) if !starts_with_digit(token.as_bytes()) => Ok(false),
+        other => {
+            let text = cell_text(alloc, other)?;
+            has_token(alloc, buffer, text.as_str(), token)
+        }
     }
-    let text = cell_text(alloc, cell)?;
-    has_token(alloc, buffer, text.as_str(), token)
 }
 
 // Whether one of the row's cells has this token.

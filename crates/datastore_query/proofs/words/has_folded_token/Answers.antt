@@ -5,7 +5,7 @@ use Rattle.std.proofs.lemmas.Str.{IsUtf8-string_bytes}
 use Rattle.portal_base.specs.Tokens.{token_of_word}
 use Rattle.datastore_query.specs.Words.{has_word}
 use Rattle.datastore_query.proofs.TokenLemmas.{search_begins, search_ends, search_finds, search_goes_on, search_passes}
-use Rattle.datastore_query.proofs.words.has_token.Goals as goal
+use Rattle.datastore_query.proofs.words.has_folded_token.Goals as goal
 
 pub loop-character-init : goal.loop-character-init
 loop-character-init c =
