@@ -81,7 +81,10 @@ pub record IsEmptyTable (placed : Located) (beside : List ResourceTable) (t : Re
 
 schema-ok : (read : Result SchemaValue SchemaFault) (schema : SchemaValue) → schema_or_error read ≡ Ok schema
     → read ≡ Ok schema
-schema-ok (Ok own) schema is = is
+schema-ok (Ok own) schema is = ap Ok (same own schema is)
+  where
+    same : (a b : SchemaValue) → ◌≡◌ {A = OrError SchemaValue} (Ok a) (Ok b) → a ≡ b
+    same a b alike = cc
 schema-ok (Err why) schema is = absurd (cc)
 
 descriptor-empty_table : (placed : Located) (beside : List ResourceTable) (descriptor : Json) (t : ResourceTable)
