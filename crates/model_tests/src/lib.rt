@@ -1,6 +1,8 @@
-//! Tests of what nothing above calls yet. They stand above org_roles, so that it is proved once. Everything else of it and
-//! of packages is tested by `portal_cases`.
+//! Tests of what nothing above calls yet. They stand above org_roles and portal_keeper, so that these are proved once.
+//! Everything else of org_roles and of packages is tested by `portal_cases`.
 #![tactic(auto)]
 
+#[cfg(test)]
+mod keeper;
 #[cfg(test)]
 mod people;

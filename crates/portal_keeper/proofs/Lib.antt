@@ -1,0 +1,3 @@
+mod Examples
+pub mod RowLemmas
+pub mod SlotLemmas

@@ -1,0 +1,5 @@
+pub mod Changed
+pub mod Keeping
+pub mod Memory
+pub mod Rows
+pub mod Slots
