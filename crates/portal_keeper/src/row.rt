@@ -1,5 +1,6 @@
 //! The rows of a store.
-ghost use Rattle.std.specs.Prelude.{◌≡◌};
+ghost use Rattle.std.specs.Prelude.{◌≡◌, ◌≢◌, IfSome, IsNone};
+ghost use Rattle.portal_keeper.specs.declared.row.RowKind.{RowKind};
 ghost use Rattle.portal_keeper.specs.Rows.{kind_number, key_cmp, are_distinct};
 
 use portal_base::copy::TryClone;
@@ -40,6 +41,23 @@ impl RowKind {
             RowKind::Row => 5,
             RowKind::Source => 6,
             RowKind::Job => 7,
+        }
+    }
+
+    /// The kind of that number, if there is one.
+    pub fn of_number(number: u8) -> Option<RowKind>
+        ensures kind { IfSome result (λ kind. kind_number kind ≡ number) }
+        ensures none { IsNone result → (kind : RowKind) → kind_number kind ≢ number }
+    {
+        match number {
+            1 => Some(RowKind::Version),
+            2 => Some(RowKind::Org),
+            3 => Some(RowKind::Set),
+            4 => Some(RowKind::Table),
+            5 => Some(RowKind::Row),
+            6 => Some(RowKind::Source),
+            7 => Some(RowKind::Job),
+            _ => None,
         }
     }
 }
