@@ -1,9 +1,8 @@
 -- What is read of the bodies of calls, and what follows where they have no errors.
-use Rattle.std.proofs.Common.{◌≡◌, ◌⊎◌, inl, inr, ℕ, Bool, true, List, [], ◌∷◌, Option, Some, None, refl, sym, ap, ◌∙◌}
+use Rattle.std.proofs.Common.{◌≡◌, ◌⊎◌, inl, inr, true, List, [], ◌∷◌, None, refl, sym, ap, ◌∙◌}
 use Rattle.std.specs.Prelude.{codes}
 use Rattle.portal_base.specs.KeyErrors.{KeyError, error_if, has_error}
 use Rattle.packages.specs.declared.package.Package.{Package}
-use Rattle.packages.specs.declared.package.Resource.{Resource}
 use Rattle.packages.proofs.ErrorLemmas.{error_if-masked}
 use Rattle.portal_calls.specs.Answer.{denial_of, quota_error}
 use Rattle.portal_calls.specs.declared.answer.Quota.{Quota}

@@ -4,7 +4,7 @@ use Rattle.std.specs.Prelude.{ℕ, List, [], codes, Bool, true, false, not, ◌&
 use Rattle.std.specs.Prelude.{Option, Some, None, Result, unwrap_or}
 use Rattle.portal_base.specs.declared.caller.Caller.{Caller}
 use Rattle.portal_base.specs.declared.json_value.Json as json
-use Rattle.portal_base.specs.KeyErrors.{KeyError, error_if, kind_message, found_value}
+use Rattle.portal_base.specs.KeyErrors.{error_if, kind_message, found_value}
 use Rattle.portal_base.specs.Kinds.{count_at}
 use Rattle.org_roles.specs.PeopleLists.{PeopleLists, is_sysadmin_in}
 use Rattle.org_roles.specs.Rights.{rights_for}

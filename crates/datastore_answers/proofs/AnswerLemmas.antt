@@ -1,5 +1,5 @@
 -- How an answer on a table is found.
-use Rattle.std.proofs.Common.{◌≡◌, ℕ, true, List, [], Some, None, Result, Ok, Err, refl, sym, ap, ◌∙◌, subst}
+use Rattle.std.proofs.Common.{◌≡◌, ℕ, true, List, [], Some, None, Result, Ok, Err, refl, sym, ap, ◌∙◌}
 use Rattle.std.specs.Prelude.{IfOk, codes}
 use Rattle.std.specs.Borrow.{Bor}
 use Rattle.std.specs.Result.{result_map_both}
@@ -13,7 +13,7 @@ use Rattle.portal_calls.specs.declared.answer.Denial.{Denial}
 use Rattle.visibility.specs.CallView.{CallView}
 use Rattle.visibility.specs.Visibility.{may_edit_in}
 use Rattle.datastore_table.specs.declared.method.Method.{Method}
-use Rattle.datastore_answers.specs.TableAnswers.{answer_for_table, answer_for_resource, map_answer, or_no_table}
+use Rattle.datastore_answers.specs.TableAnswers.{answer_for_table, answer_for_resource, or_no_table}
 use Rattle.datastore_answers.specs.TableAnswers.{or_refused}
 use Rattle.visibility.specs.Lookup.{resource_at}
 use Rattle.datastore_answers.specs.TableAnswers.{tables_beside}

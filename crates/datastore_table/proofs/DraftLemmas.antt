@@ -1,9 +1,8 @@
 -- The rows of a draft are found by its index, as the table's rows are.
-use Rattle.std.proofs.Common.{◌≡◌, ◌∙◌, ℕ, ◌+◌, Bool, true, false, ◌||◌, not, List, [], ◌∷◌, ap, refl, subst, sym, Ok}
+use Rattle.std.proofs.Common.{◌≡◌, ℕ, ◌+◌, Bool, true, false, ◌||◌, not, List, [], ◌∷◌, refl, subst, Ok}
 use Rattle.lexical_forms.specs.Digits.{is_empty}
 use Rattle.portal_base.specs.Ordered.{IsAscending}
 use Rattle.portal_base.specs.declared.json_value.Json.{Json}
-use Rattle.portal_base.proofs.Unique.{IsIn}
 use Rattle.table_schema.specs.Field.{FieldValue, SchemaValue}
 use Rattle.datastore_table.specs.declared.draft.Draft.{Draft}
 use Rattle.datastore_table.specs.declared.method.Method.{Method}

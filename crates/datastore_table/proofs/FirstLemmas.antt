@@ -1,7 +1,7 @@
 -- The first key that has the cells of a row, or that one of some rows refers to.
 use Rattle.std.proofs.Common.{◌≡◌, ◌∙◌, ◌⊎◌, inl, inr, ◌<◌, ◌≤◌, ℕ, ◌+◌, ◌++◌, ◌==◌, Bool, true, false, ◌&&◌, ◌||◌, not, cond}
 use Rattle.std.proofs.Common.{List, [], ◌∷◌, Option, Some, None, find, filter, map, ap, refl, subst, sym, arith, drop}
-use Rattle.std.proofs.Common.{if◌then◌else◌, length, get_or, take, suc}
+use Rattle.std.proofs.Common.{if◌then◌else◌, length, get_or, take}
 use Rattle.std.proofs.lemmas.Bool.Decides.{nat_tests}
 use Rattle.std.proofs.lemmas.List.Folds.{list_any-append}
 use Rattle.std.proofs.lemmas.List.{take_more}

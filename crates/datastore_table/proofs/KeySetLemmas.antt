@@ -1,11 +1,11 @@
 -- A set of keys: its index leads to the number of each key.
-use Rattle.std.proofs.Common.{◌≡◌, ◌∙◌, ◌⊎◌, inl, inr, ◌<◌, ◌++◌, ℕ, zero, suc, Bool, true, false, ◌||◌, List, [], ◌∷◌}
-use Rattle.std.proofs.Common.{Option, Some, None, ap, arith, length, map, refl, slice_get, subst, sym}
+use Rattle.std.proofs.Common.{◌≡◌, ◌∙◌, ◌⊎◌, inl, inr, ◌++◌, ℕ, zero, suc, Bool, true, false, ◌||◌, List, [], ◌∷◌}
+use Rattle.std.proofs.Common.{Option, Some, None, ap, length, refl, slice_get, subst, sym}
 use Rattle.std.specs.List.{Contains, list_any}
 use Rattle.std.specs.Option.{option_map_or}
 use Rattle.digest_index.specs.Index.{Enters, IndexState, IsUnder, entries_under, first_under, further_under}
 use Rattle.digest_index.specs.declared.Further.{Further}
-use Rattle.portal_base.proofs.Unique.{IsIn, IsIn-Contains}
+use Rattle.portal_base.proofs.Unique.{IsIn-Contains}
 use Rattle.table_schema.specs.declared.cell.Cell.{Cell}
 use Rattle.datastore_table.specs.Cells.{same_cells}
 use Rattle.datastore_table.specs.Index.{digest_of}

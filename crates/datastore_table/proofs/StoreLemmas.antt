@@ -26,10 +26,10 @@ use Rattle.datastore_table.specs.Index.{IsLeft, IsSound, IsStoreOf, IsSearchable
 use Rattle.datastore_table.specs.Index.{column_lists_of, digest_of, unique_column_lists}
 use Rattle.datastore_table.specs.Meets.{keeps_self_reference, is_numbered, IsTable, keys_apart, meets_schema, row_meets}
 use Rattle.datastore_table.specs.Meets.{uniques_apart}
-use Rattle.datastore_table.specs.Rows.{has_like, row_cmp}
+use Rattle.datastore_table.specs.Rows.{row_cmp}
 use Rattle.datastore_table.proofs.ReferenceLemmas.{found-any}
 use Rattle.datastore_table.proofs.KeptLemmas.{met-parts, restorable-table}
-use Rattle.datastore_table.proofs.KeyLemmas.{any-in, not_true, true_false}
+use Rattle.datastore_table.proofs.KeyLemmas.{not_true, true_false}
 
 -- ---- the lists of columns
 

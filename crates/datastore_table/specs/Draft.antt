@@ -1,8 +1,6 @@
 -- What the records of a batch have written so far, with the index that finds it. No public clause cites this.
-use Rattle.std.specs.Prelude.{◌≡◌, ℕ, List, All, map}
 use Rattle.portal_base.specs.Ordered.{IsAscending}
 use Rattle.datastore_table.specs.declared.draft.Draft.{Draft}
-use Rattle.datastore_table.specs.declared.row.Row.{Row}
 use Rattle.datastore_table.specs.Batch.{AreThoseOf, Written}
 use Rattle.datastore_table.specs.Index.{IsIndexed}
 use Rattle.datastore_table.specs.Rows.{row_cmp}

@@ -5,13 +5,12 @@ use Rattle.std.specs.Prelude.{Option, Some, None, Result, Ok, Err, IfSome, IfOk,
 use Rattle.std.proofs.lemmas.Bool.{lt-ltb}
 use Rattle.httparse.specs.Grammar.{RequestHead, ReadsRequest}
 use Rattle.portal_base.specs.Outside.{Gives, IsAtEnd}
-use Rattle.http_front.specs.Head.{extent, marked}
+use Rattle.http_front.specs.Head.{marked}
 use Rattle.http_front.specs.HeadParse.{HasHeadOf}
 use Rattle.http_front.specs.LinkRead.{IsOutside}
-use Rattle.http_front.specs.ActionTarget.{incoming_of}
 use Rattle.http_front.specs.Request.{Reads, IsActionTarget, IsRequest, HasNone, UnlessOutside}
 use Rattle.http_front.specs.Taken.{IsOfHead, Leaves, LeavesAfter, ReadsBody, ReadsNoHead, TakesFor, TakesPastHead}
-use Rattle.http_front.specs.Taken.{IsUnfinished, body_in, body_length}
+use Rattle.http_front.specs.Taken.{body_in, body_length}
 use Rattle.http_front.specs.declared.fault.FrontFault.{FrontFault}
 use Rattle.http_front.specs.declared.fault.FrontFault.TheVariants.{BadHead, NoLength, TooLong, NoRoute}
 use Rattle.http_front.specs.declared.fault.FrontFault.TheVariants.{Method, EndedEarly, LinkFault, OutOfMemory}

@@ -1,23 +1,23 @@
 -- What a request takes off its link, and what it leaves.
 use Rattle.std.proofs.Common.{◌≡◌, ◌≢◌, ℕ, ◌+◌, ◌-◌, ◌<◌, ◌≤◌, List, [], ◌∷◌, ◌++◌, ◌∙◌, refl, sym, ap, subst, append_assoc}
 use Rattle.std.proofs.Common.{length, take, drop, arith, append-nil, length-append, inl, inr, Bool, true, false, All}
-use Rattle.std.proofs.Common.{flat_map, max}
-use Rattle.std.specs.Prelude.{Option, Some, None, Result, Ok, Err, IfSome, ◌==◌, ◌||◌, nat_le}
+use Rattle.std.proofs.Common.{flat_map}
+use Rattle.std.specs.Prelude.{Option, Some, None, Result, Err, ◌==◌, ◌||◌}
 use Rattle.std.specs.List.{list_any}
-use Rattle.std.proofs.lemmas.List.{length-map, take_at, take-append-drop}
+use Rattle.std.proofs.lemmas.List.{length-map, take-append-drop}
 use Rattle.std.proofs.lemmas.List.Elements.{All-head, All-map, All-nil, All-cons}
 use Rattle.std.proofs.lemmas.Bool.{cases_lt, false≢true}
-use Rattle.httparse.specs.Grammar.{RequestHead, ReadsRequest, print_request, print_field, HasNoRequest, LineEnd, crlf, lf}
+use Rattle.httparse.specs.Grammar.{RequestHead, print_request, print_field, HasNoRequest, LineEnd, crlf, lf}
 use Rattle.httparse.specs.Grammar.{print_end}
 use Rattle.portal_base.specs.Outside.{Gives, IsAtEnd}
 use Rattle.portal_base.proofs.OutsideLemmas.{Gives-none, Gives-append}
-use Rattle.http_front.specs.Head.{marked, marked_byte, extent, Begins, HasNoHead}
+use Rattle.http_front.specs.Head.{marked, marked_byte}
 use Rattle.http_front.specs.HeadParse.{HasHeadOf, IsParseOfBuffer, is_due}
 use Rattle.http_front.specs.LinkRead.{IsOutside, LosesPiece, ReadsOn}
 use Rattle.http_front.specs.Taken.{ReadsBody, ReadsNoHead}
 use Rattle.http_front.specs.declared.fault.FrontFault.{FrontFault}
 use Rattle.http_front.specs.declared.fault.FrontFault.TheVariants.{BadHead, EndedEarly, LinkFault, OutOfMemory}
-use Rattle.http_front.proofs.HeadLemmas.{marked-append, begins_on, end_none}
+use Rattle.http_front.proofs.HeadLemmas.{marked-append}
 use Rattle.http_front.proofs.EndLemmas.{parted, all_front, all_back}
 use Rattle.http_front.proofs.StartLemmas.{start_of, print_parts}
 

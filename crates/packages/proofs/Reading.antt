@@ -8,7 +8,7 @@ use Rattle.portal_base.specs.declared.kinds.KindFault.{KindFault}
 use Rattle.portal_base.specs.declared.kinds.KindFault.TheVariants.{Longer}
 use Rattle.portal_base.specs.KeyErrors.{found_value, kind_message}
 use Rattle.portal_base.specs.Kinds.{bounded_by, short_text_at, text_at}
-use Rattle.packages.specs.Body.{base_dataset, body_checks, body_errors, built_dataset}
+use Rattle.packages.specs.Body.{body_checks, body_errors, built_dataset}
 use Rattle.packages.specs.Errors.{first_error, or_error}
 use Rattle.packages.specs.Reading.{HasError, base_read, blank_resource, short_text_read, title_read, value_or}
 use Rattle.packages.specs.Reading.{with_reading, with_texts_read}

@@ -10,7 +10,7 @@ use mathlib.Core.Option.{none, some}
 use native.Mathlib.Decide.{ℕ_discrete, dec_le}
 use lib.ListN.{get_elem?}
 use Rattle.atomic_table.specs.Table as table
-use Rattle.atomic_table.specs.Table.{step, keeps, takes, gives, Allows}
+use Rattle.atomic_table.specs.Table.{step, keeps, gives, Allows}
 use Rattle.atomic_table.proofs.Lists.{set_here}
 use Rattle.portal_hall.specs.History.{Step, Begins, times, once_below}
 use Rattle.portal_hall.specs.declared.board.HeldMachine.{HeldMachine}

@@ -10,7 +10,7 @@ use native.Mathlib.Decide.{ℕ_discrete}
 use lib.ListN.{get_elem?}
 use lib.Seq.{set-get_or}
 use Rattle.atomic_table.specs.Table as table
-use Rattle.atomic_table.specs.Table.{step, keeps, takes, gives, Allows, Splits, Joins}
+use Rattle.atomic_table.specs.Table.{step, keeps, takes, Allows}
 use Rattle.atomic_table.proofs.Lists.{at_set, set_again, set_here, set_else, one_turn}
 use Rattle.portal_hall.specs.History.{Step, Begins, times}
 use Rattle.portal_hall.specs.declared.board.HeldMachine.{HeldMachine}

@@ -1,4 +1,4 @@
-use Rattle.std.proofs.Common.{◌≡◌, ◌∙◌, [], ap, arith, subst, sym}
+use Rattle.std.proofs.Common.{◌≡◌, ◌∙◌, [], ap, subst}
 use Rattle.digest_index.specs.Index.{IsUnder}
 use Rattle.datastore_table.specs.Index.{digest_of}
 use Rattle.datastore_table.proofs.StoreLemmas.{entered_kept, entered_one}

@@ -1,4 +1,4 @@
-use Rattle.std.proofs.Common.{◌+◌, arith, ap, drop, inl, length}
+use Rattle.std.proofs.Common.{arith, ap, inl, length}
 use Rattle.datastore_table.specs.declared.row.Row.{Row}
 use Rattle.datastore_table.specs.Keys.{IsLedToKey}
 use Rattle.datastore_table.proofs.FirstLemmas.{key_entered, key_room}

@@ -1,6 +1,6 @@
 -- If the first number of the digest doesn't match, the further ones are searched.
-use Rattle.std.proofs.Common.{◌≡◌, ◌∙◌, ap, map, subst, sym, inl, inr, Contains}
-use Rattle.digest_index.specs.Index.{IsUnder, first_under}
+use Rattle.std.proofs.Common.{◌≡◌, ◌∙◌, map, subst, sym, inl, inr, Contains}
+use Rattle.digest_index.specs.Index.{IsUnder}
 use Rattle.datastore_table.specs.Index.{digest_of, has_cells_at, lookup_cells}
 use Rattle.datastore_table.proofs.LookupLemmas.{find_IfSome, find_IfNone, IfNone_from}
 use Rattle.datastore_table.proofs.lookup.find_id.Goals as goal

@@ -1,4 +1,4 @@
-use Rattle.std.proofs.Common.{◌≤◌, arith, length, subst}
+use Rattle.std.proofs.Common.{arith, subst}
 use Rattle.datastore_table.specs.Index.{EntersAt}
 use Rattle.datastore_table.proofs.StoreLemmas.{entered_all, led_more}
 use Rattle.datastore_table.proofs.store.enter_row.Goals as goal

@@ -1,6 +1,6 @@
 use Rattle.std.proofs.Common.{◌≡◌, ◌∙◌, ◌+◌, ◌<◌, List, ap, arith, length, refl, subst, sym}
 use Rattle.datastore_table.specs.declared.row.Row.{Row}
-use Rattle.datastore_table.specs.Batch.{Written, worked_on}
+use Rattle.datastore_table.specs.Batch.{worked_on}
 use Rattle.datastore_table.specs.Draft.{drafted}
 use Rattle.datastore_table.specs.Put.{begun, put_from}
 use Rattle.datastore_table.specs.Rows.{rows_after}

@@ -1,4 +1,4 @@
-use Rattle.std.proofs.Common.{◌≡◌, ◌≤◌, [], refl, ◌+◌, ◌-◌, ◌++◌, ◌∙◌, ap, subst, sym, take, length, length-append, arith}
+use Rattle.std.proofs.Common.{◌≡◌, ◌≤◌, [], refl, ◌-◌, ◌∙◌, ap, subst, sym, take, length, length-append, arith}
 use Rattle.std.proofs.lemmas.List.{take_at}
 use Rattle.httparse.specs.Grammar.{HasNoRequest}
 use Rattle.http_front.specs.Head.{marked}

@@ -1,4 +1,3 @@
-use Rattle.std.proofs.Common.{◌∙◌}
 use Rattle.portal_file.proofs.KeyedLemmas.{distinct_by, digests_distinct}
 use Rattle.portal_file.proofs.rules.have_distinct_digests.Goals as goal
 

@@ -1,4 +1,4 @@
-use Rattle.std.proofs.Common.{◌≡◌, ◌∙◌, ℕ, List, Bool, true, false, cond, refl, ap}
+use Rattle.std.proofs.Common.{◌≡◌, ◌∙◌, Bool, true, false, cond, refl, ap}
 use Rattle.std.specs.Prelude.{◌||◌}
 use Rattle.std.specs.String.{string_bytes}
 use Rattle.std.specs.HashSet.{contains_text}

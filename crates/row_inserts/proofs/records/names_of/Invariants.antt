@@ -1,4 +1,4 @@
-use Rattle.std.proofs.Common.{◌≡◌, List, map, take}
+use Rattle.std.proofs.Common.{◌≡◌, map, take}
 use Rattle.table_schema.specs.Field.{FieldValue}
 use Rattle.row_inserts.proofs.records.names_of.Given as goal
 

@@ -2,7 +2,7 @@ use Rattle.std.proofs.Common.{◌∙◌, ◌&&◌, ap}
 use Rattle.std.specs.List.{list_any}
 use Rattle.visibility.specs.TableSummary.{breaks_references, is_among, refers_outside}
 use Rattle.datastore_answers.specs.Summaries.{summaries_of}
-use Rattle.datastore_answers.specs.Tables.{Stored, tables_in, tables_of}
+use Rattle.datastore_answers.specs.Tables.{Stored, tables_of}
 use Rattle.datastore_answers.specs.declared.resource_table.ResourceTable.{ResourceTable}
 use Rattle.datastore_answers.proofs.SummaryLemmas.{any-breaks_reference}
 use Rattle.datastore_answers.proofs.table_lookup.TablesTableLookup.breaks_references.Goals as goal

@@ -1,4 +1,4 @@
-use Rattle.std.proofs.Common.{◌≡◌, ◌≤◌, List, ℕ, arith, length, refl, subst, sym}
+use Rattle.std.proofs.Common.{List, ℕ, arith, refl, subst, sym}
 use Rattle.datastore_table.specs.declared.row.Row.{Row}
 use Rattle.datastore_table.specs.Index.{EntersRow, IsIndexed}
 use Rattle.datastore_table.proofs.StoreLemmas.{indexed_same, put_indexed}

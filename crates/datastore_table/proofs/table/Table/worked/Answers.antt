@@ -1,6 +1,5 @@
 use Rattle.std.proofs.Common.{◌≡◌, ◌∙◌, List, Ok, ap, inr, sym}
 use Rattle.std.specs.Arc.{arc_value}
-use Rattle.table_schema.specs.Field.{SchemaValue}
 use Rattle.datastore_table.specs.declared.row.Row.{Row}
 use Rattle.datastore_table.specs.Batch.{Written, worked_on}
 use Rattle.datastore_table.specs.Draft.{drafted}

@@ -1,8 +1,5 @@
-use Rattle.std.proofs.Common.{◌≡◌, ◌∙◌, List, ℕ, ap, subst, sym}
-use Rattle.std.specs.BTreeMap.{insert_entry}
-use Rattle.std.specs.Ordering.{nat_cmp}
+use Rattle.std.proofs.Common.{◌∙◌, ap, subst, sym}
 use Rattle.portal_base.specs.Ordered.{upserted}
-use Rattle.datastore_table.specs.declared.row.Row.{Row}
 use Rattle.datastore_table.specs.Rows.{row_cmp}
 use Rattle.datastore_table.specs.WrittenRows.{AreById, rows_in}
 use Rattle.datastore_table.proofs.WrittenLemmas.{put_by_id, put_rows}
