@@ -1,0 +1,5 @@
+pub mod JsonRow
+pub mod OrgRows
+pub mod Readings
+pub mod TableRows
+pub mod VersionRow
