@@ -1,0 +1,13 @@
+use Rattle.keeper_sqlite.specs.Statements.{remove_text}
+use Rattle.keeper_sqlite.proofs.statements.remove_row.Goals as goal
+
+pub returns-clause-runs : goal.returns-clause-runs
+unfolding remove_text
+returns-clause-runs g c clean inside =
+    rw (
+      c.params-to_sql.ensures,
+      c.params-to_sql-2.ensures,
+      c.from-kind.ensures,
+      c.number.ensures,
+      c.as_str.ensures,
+    ) at (c.execute.ensures.runs clean inside)
