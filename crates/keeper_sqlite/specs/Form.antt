@@ -1,14 +1,16 @@
 -- The form of the keeper's table (SQLite, "CREATE TABLE" and "STRICT Tables"): three strict columns that are never NULL
 -- and compare by their bytes, and a key of the first two. Rules that only refuse rows, as CHECK, are no part of it.
-use Rattle.std.specs.Prelude.{ℕ, Bool, true, false, not, ◌&&◌, ◌||◌, nat_eq, List, [], ◌∷◌, codes}
+use Rattle.std.specs.Prelude.{ℕ, Bool, true, false, not, ◌&&◌, ◌||◌, nat_eq, List, [], ◌∷◌, Result, Ok, Err, codes}
 use Rattle.std.specs.Cmp.Lexicographic.{pointwise}
 use Rattle.std.specs.List.{list_any}
 use Rattle.sqlite.specs.Collation.{Collation}
 use Rattle.sqlite.specs.Collation.TheVariants.{Binary, NoCase, RTrim}
+use Rattle.sqlite.specs.Compile.{table_defined_by}
 use Rattle.sqlite.specs.Kind.{Kind}
 use Rattle.sqlite.specs.Kind.TheVariants.{Integer, Real, Text, Blob, Any}
 use Rattle.sqlite.specs.Schema.{Schema}
 use Rattle.sqlite.specs.Table.{Table}
+use Rattle.sqlite_resolve.specs.declared.error.CompileError.{CompileError}
 use Rattle.sqlite_schema.specs.Names.{same_name}
 use Rattle.sqlite_schema.specs.declared.schema.Column.{Column}
 use Rattle.sqlite_schema.specs.declared.schema.View.{View}
@@ -71,3 +73,11 @@ is_kept_view view = is_kept_name view.name
 -- Whether the keeper's name is taken: by a table in another form, or by a view.
 abbrev pub is_name_taken : Schema → Bool
 is_name_taken schema = list_any is_other_table schema.tables || list_any is_kept_view schema.views
+
+abbrev pub is_form : Result Table CompileError → Bool
+is_form (Ok table) = has_form table
+is_form (Err _) = false
+
+-- whether the text of a statement defines a table of this form
+abbrev pub defines_form : List ℕ → Bool
+defines_form text = is_form (table_defined_by text)

@@ -4,6 +4,7 @@
 mod faults;
 mod form;
 mod keeper;
+pub mod laws;
 mod row_values;
 mod statements;
 mod transactions;
