@@ -1,0 +1,111 @@
+-- The entries of a change of datasets make it.
+use Rattle.std.proofs.Common.{◌≡◌, ℕ, Bool, true, false, not, ◌&&◌, ◌||◌, List, [], ◌∷◌, refl, sym, ap, ◌∙◌}
+use Rattle.std.specs.List.{flat_map, list_any}
+use Rattle.std.specs.Ordering.{is_eq}
+use Rattle.std.specs.Str.{bytes_eq}
+use Rattle.std.specs.declared.cmp.Ordering.{Ordering}
+use Rattle.std.proofs.lemmas.Cmp.{tied_itself}
+use Rattle.portal_base.specs.Ordered.{dropped, upserted}
+use Rattle.portal_base.proofs.Filtered.{IsIn-filter, filter-IsIn}
+use Rattle.portal_base.proofs.Unique.{IsIn}
+use Rattle.packages.specs.Order.{dataset_cmp}
+use Rattle.packages.specs.declared.package.Resource.{Resource}
+use Rattle.packages.proofs.FindLemmas.{none-list_any}
+use Rattle.visibility.specs.TableSummary.{is_among}
+use Rattle.dataset_answers.specs.Changed.{dataset_at_id}
+use Rattle.dataset_answers.specs.declared.change.DatasetChange.{DatasetChange}
+use Rattle.dataset_answers.specs.declared.change.DatasetChange.TheVariants as dataset
+use Rattle.datastore_answers.specs.Order.{at_address, is_at, table_cmp_total}
+use Rattle.datastore_answers.specs.Tables.{tables_kept}
+use Rattle.datastore_answers.specs.declared.address.Address.{Address}
+use Rattle.datastore_answers.specs.declared.resource_table.ResourceTable.{ResourceTable}
+use Rattle.datastore_answers.proofs.KeepLemmas.{at-is}
+use Rattle.portal_core.specs.Change.{Datasets}
+use Rattle.portal_core.specs.Changed.{changed}
+use Rattle.portal_core.specs.State.{State}
+use Rattle.portal_core.proofs.TableViewing.{any-among}
+use Rattle.change_entries.specs.Entries.{DropDataset, PutDataset, changed_by, state_after}
+use Rattle.change_entries.specs.EntriesOf.{drops_of_table, entries_of_datasets, is_gone, tables_gone}
+use Rattle.change_entries.proofs.ListLemmas.{all_dropped, all_dropped-filter, filter-agree_in}
+use Rattle.change_entries.proofs.StateLemmas.{state_after-++, with_tables}
+use Rattle.change_entries.proofs.TableEntries.{state_after-drops_of_table}
+
+-- ---- tables that are dropped
+
+-- the order of a table's address against that of this one
+abbrev at_table : ResourceTable → ResourceTable → Ordering
+at_table t u = at_address t.address u
+
+state_after-tables : (gone : List ResourceTable) (state : State)
+    → state_after (flat_map drops_of_table gone) state ≡ with_tables (all_dropped at_table gone state.tables) state
+state_after-tables [] state = refl
+state_after-tables (t ∷ gone) state =
+    state_after-++ (drops_of_table t) (flat_map drops_of_table gone) state
+    ∙ ap (state_after (flat_map drops_of_table gone)) (state_after-drops_of_table t state)
+    ∙ state_after-tables gone (with_tables (dropped (at_address t.address) state.tables) state)
+
+-- To drop each table that goes is to keep those that stay.
+tables-dropped : (id : List ℕ) (resources : List Resource) (tables : List ResourceTable)
+    → all_dropped at_table (tables_gone id resources tables) tables ≡ tables_kept id resources tables
+tables-dropped id resources tables =
+    all_dropped-filter at_table gone tables
+    ∙ filter-agree_in (λ u. not (list_any (λ t. is_eq (at_table t u)) gone))
+    (λ u. not (bytes_eq u.address.dataset id) || is_among resources u.address.number) tables
+    (λ u within. ap not (by u within (is_gone id resources u) refl)
+    ∙ stays (bytes_eq u.address.dataset id) (is_among resources u.address.number))
+  where
+    gone : List ResourceTable
+    gone = tables_gone id resources tables
+
+    stays : (a b : Bool) → not (a && not b) ≡ (not a || b)
+    stays true true = refl
+    stays true false = refl
+    stays false b = refl
+
+    apart : (u t : ResourceTable) → is_gone id resources u ≡ false → is_gone id resources t ≡ true
+        → is_at t.address u ≡ false
+    apart u t stay goes = by_address (is_at t.address u) refl
+      where
+        by_address : (b : Bool) → is_at t.address u ≡ b → b ≡ false
+        by_address false is = refl
+        by_address true is =
+            let go : is_gone id resources u ≡ true =
+            ap (λ (a : Address). bytes_eq a.dataset id && not (is_among resources a.number)) (at-is t.address u is)
+            ∙ goes in
+            absurd (cc)
+
+    by : (u : ResourceTable) → IsIn u tables → (b : Bool) → is_gone id resources u ≡ b
+        → list_any (λ t. is_eq (at_table t u)) gone ≡ is_gone id resources u
+    by u within true is =
+        any-among (λ t. is_eq (at_table t u)) u gone
+        (filter-IsIn (is_gone id resources) u tables within is)
+        (ap is_eq (tied_itself table_cmp_total u))
+        ∙ sym is
+    by u within false is =
+        none-list_any (λ t. is_eq (at_table t u)) gone
+        (λ t among. apart u t is (IsIn-filter (is_gone id resources) t tables among).1)
+        ∙ sym is
+
+-- ---- changes of datasets
+
+pub dataset-entries : (change : DatasetChange) (state : State)
+    → state_after (entries_of_datasets change state.tables) state ≡ changed (Datasets change) state
+dataset-entries (dataset.Create d) state = refl
+dataset-entries (dataset.Replace d) state =
+    state_after-++ (flat_map drops_of_table (tables_gone d.id d.resources state.tables)) (PutDataset d ∷ []) state
+    ∙ ap (changed_by (PutDataset d)) (state_after-tables (tables_gone d.id d.resources state.tables) state)
+    ∙ ap
+    (λ (tables : List ResourceTable). record state {
+      datasets = upserted dataset_cmp d state.datasets;
+      tables = tables;
+    })
+    (tables-dropped d.id d.resources state.tables)
+dataset-entries (dataset.Remove id) state =
+    state_after-++ (flat_map drops_of_table (tables_gone id [] state.tables)) (DropDataset id ∷ []) state
+    ∙ ap (changed_by (DropDataset id)) (state_after-tables (tables_gone id [] state.tables) state)
+    ∙ ap
+    (λ (tables : List ResourceTable). record state {
+      datasets = dropped (dataset_at_id id) state.datasets;
+      tables = tables;
+    })
+    (tables-dropped id [] state.tables)
