@@ -93,7 +93,7 @@ own-found view ts a own =
     ∙ own.exists
 
 -- and in the state.
-own-there : (call : Call) (state : State) (a : Address)
+pub own-there : (call : Call) (state : State) (a : Address)
     (own : IsOwn (call_view_of call (view_of call.caller state)) (view_of call.caller state).tables a)
     → found (at_address a) state.tables ≡ Some own.table
 own-there call state a own =

@@ -33,10 +33,10 @@ use Rattle.change_entries.proofs.TableEntries.{state_after-drops_of_table}
 -- ---- tables that are dropped
 
 -- the order of a table's address against that of this one
-abbrev at_table : ResourceTable → ResourceTable → Ordering
+abbrev pub at_table : ResourceTable → ResourceTable → Ordering
 at_table t u = at_address t.address u
 
-state_after-tables : (gone : List ResourceTable) (state : State)
+pub state_after-tables : (gone : List ResourceTable) (state : State)
     → state_after (flat_map drops_of_table gone) state ≡ with_tables (all_dropped at_table gone state.tables) state
 state_after-tables [] state = refl
 state_after-tables (t ∷ gone) state =
@@ -45,7 +45,7 @@ state_after-tables (t ∷ gone) state =
     ∙ state_after-tables gone (with_tables (dropped (at_address t.address) state.tables) state)
 
 -- To drop each table that goes is to keep those that stay.
-tables-dropped : (id : List ℕ) (resources : List Resource) (tables : List ResourceTable)
+pub tables-dropped : (id : List ℕ) (resources : List Resource) (tables : List ResourceTable)
     → all_dropped at_table (tables_gone id resources tables) tables ≡ tables_kept id resources tables
 tables-dropped id resources tables =
     all_dropped-filter at_table gone tables

@@ -1,3 +1,4 @@
+pub mod AloneEntries
 pub mod BatchEntries
 pub mod ChangeEntries
 pub mod DatasetEntries

@@ -37,6 +37,13 @@ filter-agree_in p q (x ∷ xs) same =
     ap (λ b. cond b (x ∷ filter p xs) (filter p xs)) (same x (inl refl))
     ∙ ap (λ l. cond (q x) (x ∷ l) l) (filter-agree_in p q xs (λ z m. same z (inr m)))
 
+-- Of items none of which passes nothing is kept.
+pub filter-none : {X : Type 0} (p : X → Bool) (xs : List X) → ((x : X) → IsIn x xs → p x ≡ false) → filter p xs ≡ []
+filter-none p [] fails = refl
+filter-none p (x ∷ xs) fails =
+    ap (λ b. cond b (x ∷ filter p xs) (filter p xs)) (fails x (inl refl))
+    ∙ filter-none p xs (λ z m. fails z (inr m))
+
 -- ---- several keys
 
 -- without all items that have one of the keys

@@ -28,20 +28,20 @@ use Rattle.change_entries.proofs.StateLemmas.{state_after-++}
 -- ---- roles that are dropped
 
 -- the state with these roles
-abbrev with_roles : List Membership → State → State
+abbrev pub with_roles : List Membership → State → State
 with_roles roles state = record state { people = record state.people { roles = roles } }
 
 -- the order of a role against the organization and the user of this one
-abbrev at_role : Membership → Membership → Ordering
+abbrev pub at_role : Membership → Membership → Ordering
 at_role role other = pair_at role.org role.user other
 
-state_after-roles : (gone : List Membership) (state : State)
+pub state_after-roles : (gone : List Membership) (state : State)
     → state_after (map drop_of_role gone) state ≡ with_roles (all_dropped at_role gone state.people.roles) state
 state_after-roles [] state = refl
 state_after-roles (role ∷ gone) state = state_after-roles gone (changed_by (drop_of_role role) state)
 
 -- To drop each role in an organization by its user is to drop all roles of the organization.
-roles-dropped : (name : List ℕ) (roles : List Membership)
+pub roles-dropped : (name : List ℕ) (roles : List Membership)
     → all_dropped at_role (roles_in name roles) roles ≡ dropped (membership_in_org_at name) roles
 roles-dropped name roles =
     all_dropped-filter at_role (roles_in name roles) roles

@@ -11,7 +11,7 @@ use Rattle.portal_base.proofs.Inserted.{list_any-same}
 use Rattle.portal_base.proofs.Unique.{IsIn, unique}
 use Rattle.portal_base.proofs.Upserted.{upserted-none}
 use Rattle.packages.proofs.FindLemmas.{find-none}
-use Rattle.datastore_table.specs.Batch.{is_among}
+use Rattle.datastore_table.specs.Batch.{cut_rows, is_among}
 use Rattle.datastore_table.specs.Rows.{row_cmp, row_cmp_total, rows_after}
 use Rattle.datastore_table.specs.declared.row.Row.{Row}
 use Rattle.datastore_table.proofs.Merged.{IsApart, IsAscending-merged, IsIn-merged, merged-IsIn}
@@ -24,7 +24,7 @@ use Rattle.portal_core.specs.State.{State}
 use Rattle.portal_core.proofs.Keeping.{first_unused}
 use Rattle.change_entries.specs.Entries.{DropRow, DropTable, PutRow, changed_by, row_at_id, rows_of, state_after}
 use Rattle.change_entries.specs.Entries.{table_of, with_head, with_row, without_row}
-use Rattle.change_entries.specs.EntriesOf.{drops_of_table, head_of, puts_of_table}
+use Rattle.change_entries.specs.EntriesOf.{drops_of_table, head_of, ids_of, puts_of_table}
 use Rattle.change_entries.proofs.ListLemmas.{all_dropped, all_dropped-filter, map-agree_in, map-same}
 use Rattle.change_entries.proofs.StateLemmas.{with_tables}
 
@@ -182,22 +182,25 @@ state_after-new t state new =
 -- ---- rows that are dropped
 
 -- the table without the rows of these `_id`s
-abbrev without_each : List ℕ → ResourceTable → ResourceTable
+abbrev pub without_each : List ℕ → ResourceTable → ResourceTable
 without_each ids t = record t { table = record t.table { rows = all_dropped row_at_id ids t.table.rows } }
 
-without_each-is : (ids : List ℕ) (t : ResourceTable) → without_each ids t ≡ without_rows ids t
-without_each-is ids t =
-    ap (λ (rows : List Row). record t { table = record t.table { rows = rows } })
-    (all_dropped-filter row_at_id ids t.table.rows
+pub all_dropped-rows : (ids : List ℕ) (rows : List Row) → all_dropped row_at_id ids rows ≡ cut_rows ids rows
+all_dropped-rows ids rows =
+    all_dropped-filter row_at_id ids rows
     ∙ filter_agree (λ (row : Row). not (list_any (λ i. is_eq (row_at_id i row)) ids))
     (λ (row : Row). not (is_among ids row.id))
     (λ row. ap not (list_any-same (λ i. is_eq (row_at_id i row)) (λ i. i == row.id)
-    (λ i. same_id row.id i ∙ turned row.id i) ids)) t.table.rows)
+    (λ i. same_id row.id i ∙ turned row.id i) ids)) rows
   where
     turned : (a b : ℕ) → (a == b) ≡ (b == a)
     turned a b = grind (arith, nat_tests)
 
-state_after-drops : (a : Address) (ids : List ℕ) (state : State)
+without_each-is : (ids : List ℕ) (t : ResourceTable) → without_each ids t ≡ without_rows ids t
+without_each-is ids t =
+    ap (λ (rows : List Row). record t { table = record t.table { rows = rows } }) (all_dropped-rows ids t.table.rows)
+
+pub state_after-drops : (a : Address) (ids : List ℕ) (state : State)
     → state_after (map (DropRow a) ids) state ≡ with_tables (with_table_at a (without_each ids) state.tables) state
 state_after-drops a [] state =
     ap (λ (ts : List ResourceTable). with_tables ts state)
@@ -216,15 +219,15 @@ state_after-delete_rows a ids state =
 
 -- ---- a table that is dropped
 
-rows-and-table_dropped : (a : Address) (rows : List Row) (state : State)
-    → state_after (map (λ row. DropRow a row.id) rows ++ DropTable a ∷ []) state
+rows-and-table_dropped : (a : Address) (ids : List ℕ) (state : State)
+    → state_after (map (DropRow a) ids ++ DropTable a ∷ []) state
     ≡ with_tables (dropped (at_address a) state.tables) state
 rows-and-table_dropped a [] state = refl
-rows-and-table_dropped a (row ∷ rows) state =
-    rows-and-table_dropped a rows (changed_by (DropRow a row.id) state)
+rows-and-table_dropped a (id ∷ ids) state =
+    rows-and-table_dropped a ids (changed_by (DropRow a id) state)
     ∙ ap (λ (ts : List ResourceTable). with_tables ts state)
-    (dropped-with_table_at a (without_row row.id) (λ t is. is) state.tables)
+    (dropped-with_table_at a (without_row id) (λ t is. is) state.tables)
 
 pub state_after-drops_of_table : (t : ResourceTable) (state : State)
     → state_after (drops_of_table t) state ≡ with_tables (dropped (at_address t.address) state.tables) state
-state_after-drops_of_table t state = rows-and-table_dropped t.address t.table.rows state
+state_after-drops_of_table t state = rows-and-table_dropped t.address (ids_of t.table.rows) state

@@ -45,9 +45,12 @@ entries_of_people (org.DropRole name user) roles = DropRole name user ∷ []
 
 -- ---- datasets
 
--- a table goes with its rows
+abbrev pub ids_of : List Row → List ℕ
+ids_of rows = map (λ row. row.id) rows
+
+-- a table goes after its rows
 abbrev pub drops_of_table : ResourceTable → List Entry
-drops_of_table t = map (λ row. DropRow t.address row.id) t.table.rows ++ DropTable t.address ∷ []
+drops_of_table t = map (DropRow t.address) (ids_of t.table.rows) ++ DropTable t.address ∷ []
 
 -- the table belongs to the dataset of that id, and to none of these resources
 abbrev pub is_gone : List ℕ → List Resource → ResourceTable → Bool

@@ -7,6 +7,7 @@ ghost use Rattle.portal_core.specs.Fit.{IsFit};
 ghost use Rattle.portal_core.specs.State.{State};
 ghost use Rattle.portal_core.specs.Valid.{IsValid};
 ghost use Rattle.portal_core.specs.View.{view_of};
+ghost use Rattle.change_entries.specs.Alone.{AllDropAlone};
 ghost use Rattle.change_entries.specs.Entries.{Entry, state_after};
 ghost use Rattle.change_entries.specs.EntriesOf.{entries_of};
 
@@ -31,6 +32,14 @@ pub fn entries_are_those_in_the_view()
     ensures { (call : Call) (state : State) (change : Change) →
         IsFit call (view_of call.caller state) change →
         entries_of change (view_of call.caller state) ≡ entries_of change state }
+{}
+
+/// Nothing goes without an entry of its own: when an entry drops an organization, a dataset or a table, its roles, its
+/// tables or its rows have been dropped by the entries before.
+pub fn nothing_goes_without_an_entry()
+    ensures { (call : Call) (state : State) (change : Change) →
+        IsValid state → IsFit call (view_of call.caller state) change →
+        AllDropAlone (entries_of change (view_of call.caller state)) state }
 {}
 
 /// Entries in two lists, made one after the other, are the entries of the one list that has both.
