@@ -1,7 +1,8 @@
 -- Numbers in twenty digits are in the order of their texts.
 use Rattle.std.proofs.Common.{◌≡◌, ℕ, zero, suc, ◌+◌, ◌-◌, ◌/◌, ◌%◌, ◌^◌, ◌<◌, ◌≤◌, ◌⊎◌, inl, inr, lit<, false, List, []}
 use Rattle.std.proofs.Common.{◌∷◌, ◌++◌, refl, sym, ap, ◌∙◌, arith, length, append_assoc, add-one, length-append, codes, subst}
-use Rattle.std.specs.Prelude.{decimal, replicate}
+use Rattle.std.proofs.Common.{◌*◌, drop, true}
+use Rattle.std.specs.Prelude.{Option, Some, None, decimal, nat_le, nat_lt, option_and_then, replicate}
 use Rattle.std.specs.Fmt.{char_count, format_spec, padded_integral}
 use Rattle.std.specs.Cmp.Lexicographic.{slice_cmp}
 use Rattle.std.specs.Ordering.{nat_cmp, ordering_then}
@@ -12,6 +13,7 @@ use Rattle.std.proofs.lemmas.Bool.Decides.{nat_tests}
 use Rattle.std.proofs.lemmas.Cmp.{nat_cmp_total, nat_list_cmp_total, tied_itself}
 use Rattle.std.proofs.lemmas.Fmt.{decimal_digit, decimal_nonempty, decimal_step, length-decimal-le}
 use Rattle.std.proofs.lemmas.List.{append-nil, replicate_more}
+use Rattle.portal_rows.specs.Readings.{digits_from, with_digit}
 use Rattle.portal_rows.specs.TableRows.{row_key, twenty_digits}
 
 -- ---- the last digits of a number
@@ -162,3 +164,61 @@ pub row_key-less : (resource : List ℕ) (m n : ℕ) → m < n → n < 2 ^ 64
     → slice_cmp nat_cmp (row_key resource m) (row_key resource n) ≡ Less
 row_key-less resource m n lt small =
     slice_cmp-front (resource ++ codes "/") (twenty_digits m) (twenty_digits n) ∙ twenty_digits-less m n lt small
+
+-- ---- the digits are read back
+
+then-some : (o : Option ℕ) → option_and_then (λ m. Some m) o ≡ o
+then-some None = refl
+then-some (Some m) = refl
+
+digits_from-last : (n : ℕ) (cs : List ℕ) (c : ℕ)
+    → digits_from n (cs ++ c ∷ []) ≡ option_and_then (λ m. with_digit m c) (digits_from n cs)
+digits_from-last n [] c = then-some (with_digit n c)
+digits_from-last n (x ∷ cs) c = by (with_digit n x) (λ m. digits_from-last m cs c)
+  where
+    by : (o : Option ℕ)
+        → ((m : ℕ) → digits_from m (cs ++ c ∷ []) ≡ option_and_then (λ k. with_digit k c) (digits_from m cs))
+        → option_and_then (λ m. digits_from m (cs ++ c ∷ [])) o
+        ≡ option_and_then (λ k. with_digit k c) (option_and_then (λ m. digits_from m cs) o)
+    by None rest = refl
+    by (Some m) rest = rest m
+
+with_digit-last : (n : ℕ) → n < 2 ^ 64 → with_digit (n / 10) (48 + n % 10) ≡ Some n
+with_digit-last n small =
+    let low : nat_le 48 (48 + n % 10) ≡ true = grind (arith, nat_tests) in
+    let high : nat_le (48 + n % 10) 57 ≡ true = (let below : 48 + n % 10 ≤ 57 = omega arith in grind (arith, nat_tests)) in
+    let same : n / 10 * 10 + (48 + n % 10 - 48) ≡ n = omega arith in
+    let fits : nat_lt n (2 ^ 64) ≡ true = grind (arith, nat_tests) in
+    rw (low, high, same, fits) refl
+
+last_digits-read : (k n : ℕ) → Fits k n → n < 2 ^ 64 → digits_from 0 (last_digits k n) ≡ Some n
+last_digits-read zero n fit small = ap Some (sym fit)
+last_digits-read (suc k) n fit small =
+    digits_from-last 0 (last_digits k (n / 10)) (48 + n % 10)
+    ∙ ap (option_and_then (λ m. with_digit m (48 + n % 10))) (last_digits-read k (n / 10) fit (omega arith))
+    ∙ with_digit-last n small
+
+twenty_digits-read : (n : ℕ) → n < 2 ^ 64 → digits_from 0 (twenty_digits n) ≡ Some n
+unfolding twenty_digits
+twenty_digits-read n small =
+    ap (digits_from 0) (padded-last_digits 20 n (short n small) small)
+    ∙ last_digits-read 20 n (fits 20 n (short n small) small) small
+
+pub length-twenty_digits : (n : ℕ) → n < 2 ^ 64 → length (twenty_digits n) ≡ 20
+unfolding twenty_digits
+length-twenty_digits n small =
+    ap length (padded-last_digits 20 n (short n small) small) ∙ length-last_digits 20 n
+
+drop-front : (front back : List ℕ) → drop (length front) (front ++ back) ≡ back
+drop-front [] back = refl
+drop-front (c ∷ front) back = drop-front front back
+
+-- The number at the end of a key is read back.
+pub last_number-read : (bytes front : List ℕ) (id start : ℕ) → id < 2 ^ 64 → bytes ≡ front ++ twenty_digits id
+    → start ≡ length bytes - 20 → digits_from 0 (drop start bytes) ≡ Some id
+last_number-read bytes front id start small is at =
+    let long : length bytes ≡ length front + 20 =
+    ap length is ∙ length-append front (twenty_digits id) ∙ ap (λ n. length front + n) (length-twenty_digits id small) in
+    let where_front : start ≡ length front = omega (arith, long, at) in
+    ap (λ n. digits_from 0 (drop n bytes)) where_front ∙ ap (λ l. digits_from 0 (drop (length front) l)) is
+    ∙ ap (digits_from 0) (drop-front front (twenty_digits id)) ∙ twenty_digits-read id small

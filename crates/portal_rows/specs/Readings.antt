@@ -1,6 +1,6 @@
 -- What the values of bodies are read as. A value that no row is written as may be read too: a reader writes what it read,
 -- and compares the texts.
-use Rattle.std.specs.Prelude.{ℕ, ◌^◌, nat_lt, if◌then◌else◌, List, [], ◌∷◌, codes, Option, Some, None, option_map}
+use Rattle.std.specs.Prelude.{ℕ, ◌+◌, ◌-◌, ◌*◌, ◌^◌, nat_le, nat_lt, ◌&&◌, if◌then◌else◌, List, [], ◌∷◌, codes, Option, Some, None, option_map}
 use Rattle.std.specs.Prelude.{option_and_then, ℤ, pos, negsuc}
 use Rattle.std.specs.Result.{result_ok}
 use Rattle.std.specs.Str.{bytes_eq}
@@ -125,3 +125,15 @@ cells_reading fields values = None
 -- the cells of a list of values
 abbrev pub cells_of_value : List FieldValue → Json → Option (List Cell)
 cells_of_value fields value = option_and_then (cells_reading fields) (list_in value)
+
+-- ---- keys
+
+-- the number with one more decimal digit, if that is below 2^64
+abbrev pub with_digit : ℕ → ℕ → Option ℕ
+with_digit n c =
+    if (nat_le 48 c && nat_le c 57) && nat_lt (n * 10 + (c - 48)) (2 ^ 64) then Some (n * 10 + (c - 48)) else None
+
+-- the number of these digits after the digits of a number
+abbrev pub digits_from : ℕ → List ℕ → Option ℕ
+digits_from n [] = Some n
+digits_from n (c ∷ cs) = option_and_then (λ m. digits_from m cs) (with_digit n c)

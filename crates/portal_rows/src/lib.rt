@@ -4,6 +4,7 @@
 
 mod body;
 pub mod cell_reading;
+pub mod key_reading;
 pub mod laws;
 pub mod org_reading;
 pub mod orgs;
