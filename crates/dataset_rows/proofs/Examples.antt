@@ -58,16 +58,20 @@ deleted = refl
 -- ---- values of other kinds
 
 absent : text_of (codes "name") (json.Map []) ≡ []
+unfolding text_of
 absent = search (rules, the_lemmas)
 
 text_for_a_number : number_of (codes "number") (json.Map ((codes "number", json.Text (codes "7")) ∷ [])) ≡ 0
+unfolding number_of
 text_for_a_number = search (rules, the_lemmas)
 
 -- 2 ^ 32 is no `u32`
 large : number_of (codes "number") (json.Map ((codes "number", json.Whole (pos 4294967296)) ∷ [])) ≡ 0
+unfolding number_of
 large = search (rules, the_lemmas)
 
 null_for_a_truth : truth_of (codes "private") (json.Map ((codes "private", json.Null) ∷ [])) ≡ false
+unfolding truth_of
 null_for_a_truth = search (rules, the_lemmas)
 
 -- an unknown state is read as active, which has another row

@@ -202,10 +202,18 @@ pub json_read-Ok : (text : List ℕ) (j : Json) → IsUtf8 text → json_reading
 unfolding json_read
 json_read-Ok text j utf8 is = value_of (read text) j (sym (reading_of_utf8 text utf8) ∙ is)
 
-pub json_read-Err : (text : List ℕ) (fault : JsonFault) → IsUtf8 text → (fault ≡ OutOfMemory → ⊥)
+-- the fault is that the text isn't JSON, or has a number with a fraction
+abbrev IsOfText : JsonFault → Type 0
+IsOfText fault = (fault ≡ NotJson) ⊎ (fault ≡ Fraction)
+
+of_text : (fault : JsonFault) → IsOfText fault → fault ≡ OutOfMemory → ⊥
+of_text fault (inl is) memory = cc
+of_text fault (inr is) memory = cc
+
+pub json_read-Err : (text : List ℕ) (fault : JsonFault) → IsUtf8 text → (fault ≡ NotJson) ⊎ (fault ≡ Fraction)
     → (fault ≡ OutOfMemory) ⊎ (json_reading text ≡ Err fault) → json_read text ≡ None
 unfolding json_read
-json_read-Err text fault utf8 other (inl memory) = absurd (other memory)
+json_read-Err text fault utf8 other (inl memory) = absurd (of_text fault other memory)
 json_read-Err text fault utf8 other (inr is) = none_of (read text) fault (sym (reading_of_utf8 text utf8) ∙ is)
 
 pub json_reading-Ok : (text : List ℕ) (j : Json) → IsUtf8 text → json_read text ≡ Some j → json_reading text ≡ Ok j

@@ -47,6 +47,7 @@ out-Map : (entries : List (List ℕ × Json)) → out-Json (json.Map entries) �
 out-Map entries = search (rules, the_lemmas)
 
 text_or_empty-Text : (text : List ℕ) → text_or_empty (json.Text text) ≡ text
+unfolding text_or_empty
 text_or_empty-Text text = ap (λ v. unwrap_or (kinds.text_of v) []) (out-Text text)
 
 items_or_none-List : (items : List Json) → items_or_none (json.List items) ≡ items
@@ -74,26 +75,31 @@ at_key-found read_value absent key es v found =
 
 text_of-found : (key : List ℕ) (es : List (List ℕ × Json)) (text : List ℕ) → first_of key es ≡ Some (json.Text text)
     → text_of key (json.Map es) ≡ text
+unfolding text_of
 text_of-found key es text found =
     at_key-found text_or_empty [] key es (json.Text text) found ∙ text_or_empty-Text text
 
 items_of-found : (key : List ℕ) (es : List (List ℕ × Json)) (items : List Json) → first_of key es ≡ Some (json.List items)
     → items_of key (json.Map es) ≡ items
+unfolding items_of
 items_of-found key es items found =
     at_key-found items_or_none [] key es (json.List items) found ∙ items_or_none-List items
 
 truth_of-found : (key : List ℕ) (es : List (List ℕ × Json)) (b : Bool) → first_of key es ≡ Some (json.Truth b)
     → truth_of key (json.Map es) ≡ b
+unfolding truth_of
 truth_of-found key es b found =
     at_key-found truth_or_false false key es (json.Truth b) found ∙ truth_or_false-Truth b
 
 number_of-found : (key : List ℕ) (es : List (List ℕ × Json)) (n : ℕ) → first_of key es ≡ Some (json.Whole (pos n))
     → n < 2 ^ 32 → number_of key (json.Map es) ≡ n
+unfolding number_of
 number_of-found key es n found fits =
     at_key-found number_or_zero 0 key es (json.Whole (pos n)) found ∙ number_or_zero-Whole n fits
 
 moment_of-found : (key : List ℕ) (es : List (List ℕ × Json)) (moment : ℤ)
     → first_of key es ≡ Some (json.Text (moment_text moment)) → IsMoment moment → moment_of key (json.Map es) ≡ moment
+unfolding moment_of
 moment_of-found key es moment found within =
     ap (λ text. unwrap_or (moment_reading text) (pos 0)) (text_of-found key es (moment_text moment) found)
     ∙ ap (λ o. unwrap_or o (pos 0)) (reading-moment_text moment within)
@@ -114,6 +120,7 @@ resource_with : (r : Resource) (number : ℕ) (name url format description mimet
 resource_with r number name url format description mimetype n a u f d m = rw (n, a, u, f, d, m) refl
 
 resource_in-resource_json : (r : Resource) → r.number < 2 ^ 32 → resource_in (resource_json r) ≡ r
+unfolding resource_in
 resource_in-resource_json r fits =
     let es = resource_members r in
     resource_with r _ _ _ _ _ _
@@ -176,6 +183,7 @@ dataset_with d name title notes author maintainer license_id url version owner_o
     rw (e1, e2, e3, e4, e5, e6, e7, e8, e9, e10, e11, e12, e13, e14, e15, e16, e17, e18, e19) refl
 
 pub dataset_in-row_json : (d : Package) → IsWellTyped d → dataset_in d.id (row_json d) ≡ d
+unfolding dataset_in
 dataset_in-row_json d typed =
     let es = members_of d in
     dataset_with d _ _ _ _ _ _ _ _ _ _ _ _ _ _ _ _ _ _ _
@@ -220,6 +228,7 @@ found_small None = omega arith
 found_small (Some value) = number_of_level-small (out-Json value)
 
 number_of-small : (key : List ℕ) (row : Json) → number_of key row < 2 ^ 32
+unfolding number_of
 number_of-small key row = found_small (member_of key row)
 
 moment_found : (text : List ℕ) (found : Option ℤ) → moment_reading text ≡ found → IsMoment (unwrap_or found (pos 0))
@@ -227,12 +236,15 @@ moment_found text None is = search rules
 moment_found text (Some moment) is = (reading-only moment text is).0
 
 moment_of-IsMoment : (key : List ℕ) (row : Json) → IsMoment (moment_of key row)
+unfolding moment_of
 moment_of-IsMoment key row = moment_found (text_of key row) (moment_reading (text_of key row)) refl
 
 resource_in-HasNumber : (value : Json) → HasNumber (resource_in value)
+unfolding resource_in
 resource_in-HasNumber value = number_of-small (codes "number") value
 
 pub dataset_in-IsWellTyped : (id : List ℕ) (row : Json) → IsWellTyped (dataset_in id row)
+unfolding dataset_in
 dataset_in-IsWellTyped id row = record {
   next_resource = number_of-small (codes "next_resource") row;
   numbers = All-map HasNumber resource_in (items_of (codes "resources") row)
@@ -360,6 +372,7 @@ abbrev IsNamed : List ℕ → Package → Type 0
 IsNamed id d = IsWellTyped d × (d.id ≡ id)
 
 named : (id : List ℕ) (row : Option Json) (read : Package) → option_map (dataset_in id) row ≡ Some read → IsNamed id read
+unfolding dataset_in
 named id None read is = absurd (cc)
 named id (Some row) read is =
     subst (IsNamed id) (same_Some (dataset_in id row) read is) (dataset_in-IsWellTyped id row, refl)

@@ -10,6 +10,7 @@ use Rattle.portal_base.specs.MomentReading.{moment_reading}
 use Rattle.portal_base.specs.declared.json_value.Json.{Json, out-Json}
 use Rattle.portal_base.specs.declared.json_value.Json.TheOpen.{Json-F}
 use Rattle.packages.specs.Package.{fresh_package}
+use Rattle.packages.specs.Reading.{blank_resource}
 use Rattle.packages.specs.declared.package.Package.{Package}
 use Rattle.packages.specs.declared.package.Resource.{Resource}
 use Rattle.packages.specs.declared.package.State.{State}
@@ -22,7 +23,7 @@ json_read bytes = option_and_then json_of (read bytes)
 -- ---- values by kind
 
 -- a text
-abbrev pub text_or_empty : Json → List ℕ
+unfoldable pub text_or_empty : Json → List ℕ
 text_or_empty value = unwrap_or (text_in value) []
 
 -- the items of a list
@@ -56,42 +57,42 @@ state_named text =
 abbrev pub at_key : {A : Type 0} → (Json → A) → A → List ℕ → Json → A
 at_key read_value absent key row = unwrap_or (option_map read_value (member_of key row)) absent
 
-abbrev pub text_of : List ℕ → Json → List ℕ
+unfoldable pub text_of : List ℕ → Json → List ℕ
 text_of key row = at_key text_or_empty [] key row
 
-abbrev pub items_of : List ℕ → Json → List Json
+unfoldable pub items_of : List ℕ → Json → List Json
 items_of key row = at_key items_or_none [] key row
 
-abbrev pub truth_of : List ℕ → Json → Bool
+unfoldable pub truth_of : List ℕ → Json → Bool
 truth_of key row = at_key truth_or_false false key row
 
-abbrev pub number_of : List ℕ → Json → ℕ
+unfoldable pub number_of : List ℕ → Json → ℕ
 number_of key row = at_key number_or_zero 0 key row
 
 -- 1970-01-01T00:00:00 by default
-abbrev pub moment_of : List ℕ → Json → ℤ
+unfoldable pub moment_of : List ℕ → Json → ℤ
 moment_of key row = unwrap_or (moment_reading (text_of key row)) (pos 0)
 
 -- ---- a resource
 
--- before its keys are read
-abbrev pub blank_resource : Resource
-blank_resource = record { number = 0; name = []; url = []; format = []; description = []; mimetype = [] }
-
--- the resource with the keys of the value
-abbrev pub with_resource_keys : Json → Resource → Resource
-with_resource_keys value start = record start {
-  number = number_of (codes "number") value;
+-- the resource with some keys of the value: those of what it is called
+abbrev pub with_labels : Json → Resource → Resource
+with_labels value start = record start {
   name = text_of (codes "name") value;
+  description = text_of (codes "description") value;
+}
+
+-- those of its file
+abbrev pub with_file : Json → Resource → Resource
+with_file value start = record start {
   url = text_of (codes "url") value;
   format = text_of (codes "format") value;
-  description = text_of (codes "description") value;
   mimetype = text_of (codes "mimetype") value;
 }
 
 -- the resource that is read of a value
-abbrev pub resource_in : Json → Resource
-resource_in value = with_resource_keys value blank_resource
+unfoldable pub resource_in : Json → Resource
+resource_in value = with_file value (with_labels value (blank_resource (number_of (codes "number") value)))
 
 -- ---- a dataset
 
@@ -149,7 +150,7 @@ with_values row start = record start {
 }
 
 -- the dataset with that id that is read of a row's value
-abbrev pub dataset_in : List ℕ → Json → Package
+unfoldable pub dataset_in : List ℕ → Json → Package
 dataset_in id row = with_values row (with_lists row (with_texts row (fresh_package id [] [] [] [] (pos 0))))
 
 -- the dataset that is read of a row, if its body is JSON

@@ -10,6 +10,7 @@ use portal_base::moment::Moment;
 
 // ---- values by kind
 
+#[tactic(auto, unfolding(crate::specs::Reading::text_or_empty))]
 pub fn text_or_empty(value: &Json) -> &str
     ensures { result.now ≡ text_or_empty value.now }
 {
@@ -62,6 +63,7 @@ pub fn state_named(name: &str) -> State
 
 // ---- the values of keys
 
+#[tactic(auto, unfolding(crate::specs::Reading::text_of))]
 pub fn text_of<'a>(row: &'a Json, key: &str) -> &'a str
     ensures { result.now ≡ text_of key.now row.now }
 {
@@ -71,6 +73,7 @@ pub fn text_of<'a>(row: &'a Json, key: &str) -> &'a str
     }
 }
 
+#[tactic(auto, unfolding(crate::specs::Reading::items_of))]
 pub fn items_of<'a>(row: &'a Json, key: &str) -> &'a [Json]
     ensures { result.now ≡ items_of key.now row.now }
 {
@@ -80,6 +83,7 @@ pub fn items_of<'a>(row: &'a Json, key: &str) -> &'a [Json]
     }
 }
 
+#[tactic(auto, unfolding(crate::specs::Reading::truth_of))]
 pub fn truth_of(row: &Json, key: &str) -> bool
     ensures { result ≡ truth_of key.now row.now }
 {
@@ -89,6 +93,7 @@ pub fn truth_of(row: &Json, key: &str) -> bool
     }
 }
 
+#[tactic(auto, unfolding(crate::specs::Reading::number_of))]
 pub fn number_of(row: &Json, key: &str) -> u32
     ensures { result ≡ number_of key.now row.now }
 {
@@ -98,6 +103,7 @@ pub fn number_of(row: &Json, key: &str) -> u32
     }
 }
 
+#[tactic(auto, unfolding(crate::specs::Reading::moment_of))]
 pub fn moment_of(row: &Json, key: &str) -> Moment
     ensures { result ≡ moment_of key.now row.now }
 {

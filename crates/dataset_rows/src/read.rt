@@ -2,7 +2,8 @@
 //! value was that of a dataset.
 ghost use Rattle.std.specs.Prelude.{◌≡◌, [], pos, map, IfOk, OnOk, codes};
 ghost use Rattle.packages.specs.Package.{fresh_package};
-ghost use Rattle.dataset_rows.specs.Reading.{json_read, text_or_empty, text_of, blank_resource, with_resource_keys};
+ghost use Rattle.packages.specs.Reading.{blank_resource};
+ghost use Rattle.dataset_rows.specs.Reading.{json_read, text_or_empty, text_of, with_labels, with_file};
 ghost use Rattle.dataset_rows.specs.Reading.{resource_in, with_people, with_names, with_origin, with_notes};
 ghost use Rattle.dataset_rows.specs.Reading.{with_texts, with_lists, with_values, dataset_in};
 ghost use Rattle.dataset_rows.specs.Reading.{dataset_read};
@@ -97,9 +98,15 @@ fn tags_in(alloc: Global, items: &[Json]) -> Result<Seq<Text>, AllocError>
 {
     let mut tags = Vec::with_capacity(alloc, items.len())?;
     for item in items {
-        tags.push(Text::from_str(alloc, text_or_empty(item))?)?;
+        tags.push(tag_in(alloc, item)?)?;
     }
     Ok(Seq::from(tags))
+}
+
+fn tag_in(alloc: Global, item: &Json) -> Result<Text, AllocError>
+    ensures { IfOk result (λ tag. tag ≡ text_or_empty item.now) }
+{
+    Text::from_str(alloc, text_or_empty(item))
 }
 
 fn resources_in(alloc: Global, items: &[Json]) -> Result<Seq<Resource>, AllocError>
@@ -112,20 +119,22 @@ fn resources_in(alloc: Global, items: &[Json]) -> Result<Seq<Resource>, AllocErr
     Ok(Seq::from(resources))
 }
 
+#[tactic(auto, unfolding(crate::specs::Reading::resource_in))]
 fn resource_in(alloc: Global, item: &Json) -> Result<Resource, AllocError>
     ensures { IfOk result (λ resource. resource ≡ resource_in item.now) }
 {
-    let mut resource = blank_resource(alloc);
-    read_resource(alloc, item, &mut resource)?;
+    let mut resource = blank_resource(alloc, number_of(item, "number"));
+    read_labels(alloc, item, &mut resource)?;
+    read_file(alloc, item, &mut resource)?;
     Ok(resource)
 }
 
 /// A resource whose texts are empty. It takes no memory.
-fn blank_resource(alloc: Global) -> Resource
-    ensures { result ≡ blank_resource }
+fn blank_resource(alloc: Global, number: u32) -> Resource
+    ensures { result ≡ blank_resource number }
 {
     Resource {
-        number: 0,
+        number,
         name: Text::new(alloc),
         url: Text::new(alloc),
         format: Text::new(alloc),
@@ -134,14 +143,18 @@ fn blank_resource(alloc: Global) -> Resource
     }
 }
 
-fn read_resource(alloc: Global, item: &Json, resource: &mut Resource) -> Result<(), AllocError>
-    ensures { OnOk result (resource.new ≡ with_resource_keys item.now resource.old) }
+fn read_labels(alloc: Global, item: &Json, resource: &mut Resource) -> Result<(), AllocError>
+    ensures { OnOk result (resource.new ≡ with_labels item.now resource.old) }
 {
-    resource.number = number_of(item, "number");
     read_text(alloc, item, "name", &mut resource.name)?;
+    read_text(alloc, item, "description", &mut resource.description)
+}
+
+fn read_file(alloc: Global, item: &Json, resource: &mut Resource) -> Result<(), AllocError>
+    ensures { OnOk result (resource.new ≡ with_file item.now resource.old) }
+{
     read_text(alloc, item, "url", &mut resource.url)?;
     read_text(alloc, item, "format", &mut resource.format)?;
-    read_text(alloc, item, "description", &mut resource.description)?;
     read_text(alloc, item, "mimetype", &mut resource.mimetype)
 }
 
@@ -174,6 +187,7 @@ fn blank_dataset(alloc: Global, id: Text) -> Package
 }
 
 /// The dataset with that id that is read of a row's JSON value.
+#[tactic(auto, unfolding(crate::specs::Reading::dataset_in))]
 fn dataset_in(alloc: Global, id: &Text, row: &Json) -> Result<Package, AllocError>
     ensures { IfOk result (λ dataset. dataset ≡ dataset_in id.now row.now) }
 {

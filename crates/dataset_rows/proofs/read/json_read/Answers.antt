@@ -1,5 +1,5 @@
 -- The value of a text in UTF-8 is the value that it is read as.
-use Rattle.std.proofs.Common.{◌≡◌, sym, ap, ◌∙◌}
+use Rattle.std.proofs.Common.{◌≡◌, inl, inr, sym, ap, ◌∙◌}
 use Rattle.dataset_rows.specs.Reading.{json_read}
 use Rattle.dataset_rows.proofs.ReadBack.{json_read-Ok, json_read-Err}
 use Rattle.dataset_rows.proofs.read.json_read.Goals as goal
@@ -14,12 +14,12 @@ pub returns-in-Err-NotJson : goal.returns-in-Err-NotJson
 returns-in-Err-NotJson c =
     let bytes = c.as_bytes.result.now in
     let same : bytes ≡ c.args.text.now = c.as_bytes.ensures.value ∙ c.as_str.ensures in
-    sym (ap json_read (sym same) ∙ json_read-Err bytes c.in-Err-NotJson.field-0 c.as_bytes.ensures.utf8 (λ memory. cc)
-    c.in-Err-NotJson.ensures.fault)
+    sym (ap json_read (sym same) ∙ json_read-Err bytes c.in-Err-NotJson.field-0 c.as_bytes.ensures.utf8
+    (inl c.in-Err-NotJson.field-0-is) c.in-Err-NotJson.ensures.fault)
 
 pub returns-in-Err-Fraction : goal.returns-in-Err-Fraction
 returns-in-Err-Fraction c =
     let bytes = c.as_bytes.result.now in
     let same : bytes ≡ c.args.text.now = c.as_bytes.ensures.value ∙ c.as_str.ensures in
-    sym (ap json_read (sym same) ∙ json_read-Err bytes c.in-Err-Fraction.field-0 c.as_bytes.ensures.utf8 (λ memory. cc)
-    c.in-Err-Fraction.ensures.fault)
+    sym (ap json_read (sym same) ∙ json_read-Err bytes c.in-Err-Fraction.field-0 c.as_bytes.ensures.utf8
+    (inr c.in-Err-Fraction.field-0-is) c.in-Err-Fraction.ensures.fault)
