@@ -24,9 +24,9 @@ use std::marker::Model;
 /// always does.
 ///
 /// The rows are those of the table `kept`, which the first call makes if it isn't there. Each call is one transaction,
-/// and none is open between the calls. Every refusal of SQLite is a fault, except for want of memory; so is a row that is
-/// loaded and has no kind's number, or no text where one belongs. A contract sees the keeper as its connection and the
-/// number of faults so far, up to the maximum of a `u64`.
+/// and none is open between the calls. Every refusal of SQLite is a fault, except for want of memory. So is a view or a
+/// table of that name in another form, and a row that is loaded and has no kind's number, or no text where one belongs.
+/// A contract sees the keeper as its connection and the number of faults so far, up to the maximum of a `u64`.
 #[derive(Drop)]
 pub struct SqliteKeeper<S: Alter> {
     connection: Connection<S>,
