@@ -1,0 +1,84 @@
+//! Laws of the rows of states and of their changes. Each function has an empty body, and its contract is the law.
+ghost use Rattle.std.specs.Prelude.{◌≡◌, ◌↔◌, [], List, Some};
+ghost use Rattle.std.specs.List.{Contains};
+ghost use Rattle.change_entries.specs.Alone.{AllDropAlone};
+ghost use Rattle.change_entries.specs.Entries.{Entry, state_after};
+ghost use Rattle.change_entries.specs.EntriesOf.{entries_of};
+ghost use Rattle.datastore_answers.specs.Order.{table_cmp};
+ghost use Rattle.portal_base.specs.Ordered.{IsAscending};
+ghost use Rattle.portal_calls.specs.declared.call.Call.{Call};
+ghost use Rattle.portal_core.specs.Change.{Change};
+ghost use Rattle.portal_core.specs.Changed.{IsUnused, applied, changed};
+ghost use Rattle.portal_core.specs.Fit.{IsFit};
+ghost use Rattle.portal_core.specs.State.{State};
+ghost use Rattle.portal_core.specs.Valid.{IsValid};
+ghost use Rattle.portal_core.specs.View.{view_of};
+ghost use Rattle.portal_keeper.specs.Changed.{rows_after};
+ghost use Rattle.portal_keeper.specs.Rows.{AreInOrder, body_at};
+ghost use Rattle.portal_keeper.specs.declared.row.KeptRow.{KeptRow};
+ghost use Rattle.state_rows.specs.KeptRows.{AreSized, kept_rows, listed_rows};
+ghost use Rattle.state_rows.specs.RowChanges.{effective_changes, row_changes};
+
+/// The rows of a valid state are in the order of a store, so that no two have the same kind and key.
+pub fn rows_of_a_valid_state_are_in_order()
+    ensures { (state : State) → IsValid state → AreSized state.tables → AreInOrder (kept_rows state) }
+{}
+
+/// In the rows of a valid state a row is found at its kind and key exactly if it is one of the rows that the state's lists
+/// have.
+pub fn each_row_of_a_valid_state_is_found()
+    ensures { (state : State) (row : KeptRow) → IsValid state → AreSized state.tables →
+        (body_at (kept_rows state) row.kind row.key ≡ Some row.body) ↔ Contains (listed_rows state) row }
+{}
+
+/// The changes of rows that follow from entries lead from the rows of the state before them to the rows of the state
+/// after them. The states between need not be valid.
+pub fn row_changes_follow_the_entries()
+    ensures { (entries : List Entry) (state : State) → IsAscending table_cmp state.tables →
+        AllDropAlone entries state → AreInOrder (kept_rows state) → AreInOrder (kept_rows (state_after entries state)) →
+        rows_after (row_changes entries (state_after entries state)) (kept_rows state)
+        ≡ kept_rows (state_after entries state) }
+{}
+
+/// The changes of rows that change nothing in the rows before the entries can be left out.
+pub fn effective_changes_follow_the_entries()
+    ensures { (entries : List Entry) (state : State) → IsAscending table_cmp state.tables →
+        AllDropAlone entries state → AreInOrder (kept_rows state) → AreInOrder (kept_rows (state_after entries state)) →
+        rows_after
+        (effective_changes (kept_rows state) (row_changes entries (state_after entries state))) (kept_rows state)
+        ≡ kept_rows (state_after entries state) }
+{}
+
+/// If the rows are the same before and after the entries, no change of rows changes something.
+pub fn no_change_is_effective_where_no_row_changes()
+    ensures { (entries : List Entry) (before after : State) → kept_rows before ≡ kept_rows after →
+        effective_changes (kept_rows before) (row_changes entries after) ≡ [] }
+{}
+
+/// If the portal accepts a change in a valid state, the changes of rows that follow from its entries lead from the rows
+/// of the state to those of the changed state.
+pub fn row_changes_follow_an_accepted_change()
+    ensures { (call : Call) (state : State) (change : Change) →
+        IsValid state → IsFit call (view_of call.caller state) change → IsUnused state change →
+        AreSized state.tables → AreSized (changed change state).tables →
+        rows_after (row_changes (entries_of change (view_of call.caller state)) (changed change state)) (kept_rows state)
+        ≡ kept_rows (changed change state) }
+{}
+
+/// If the portal accepts a change in a valid state, those of the changes of rows that change something lead from the rows
+/// of the state to those of the changed state.
+pub fn effective_changes_follow_an_accepted_change()
+    ensures { (call : Call) (state : State) (change : Change) →
+        IsValid state → IsFit call (view_of call.caller state) change → IsUnused state change →
+        AreSized state.tables → AreSized (changed change state).tables →
+        rows_after
+        (effective_changes (kept_rows state)
+        (row_changes (entries_of change (view_of call.caller state)) (changed change state))) (kept_rows state)
+        ≡ kept_rows (changed change state) }
+{}
+
+/// What is charged for a change is in no row.
+pub fn quotas_are_in_no_row()
+    ensures { (call : Call) (change : Change) (state : State) →
+        kept_rows (applied call change state) ≡ kept_rows (changed change state) }
+{}
