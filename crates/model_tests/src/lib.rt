@@ -1,5 +1,5 @@
-//! Tests of what nothing above calls yet. They stand above org_roles, portal_keeper and dataset_rows, so that these are
-//! proved once. Everything else of org_roles and of packages is tested by `portal_cases`.
+//! Tests of what nothing above calls yet. They stand above org_roles, portal_keeper, dataset_rows and portal_rows, so that
+//! these are proved once. Everything else of org_roles and of packages is tested by `portal_cases`.
 #![tactic(auto)]
 
 #[cfg(test)]
@@ -8,3 +8,5 @@ mod keeper;
 mod people;
 #[cfg(test)]
 mod rows;
+#[cfg(test)]
+mod table_rows;
