@@ -1,7 +1,6 @@
 -- Worked examples: the statements of changes, faults and their count, and tables of the keeper's form.
-use Rattle.std.proofs.Common.{◌≡◌, ◌-◌, ◌^◌, pos, Bool, true, false, List, ℕ, [], ◌∷◌, Result, Ok, Err, refl}
+use Rattle.std.proofs.Common.{◌≡◌, ◌-◌, ◌^◌, pos, false, ℕ, [], ◌∷◌, Err, refl}
 use Rattle.std.specs.Prelude.{codes}
-use Rattle.sqlite.specs.Compile.{table_defined_by}
 use Rattle.sqlite.specs.declared.error.Error.TheVariants.{SqliteFailure, QueryReturnedNoRows}
 use Rattle.sqlite.specs.declared.error.ErrorCode.TheVariants.{OutOfMemory, DiskFull}
 use Rattle.sqlite.specs.declared.types.Value.TheVariants.{Int, Text}

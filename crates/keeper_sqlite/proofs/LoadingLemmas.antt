@@ -16,7 +16,7 @@ use Rattle.portal_keeper.specs.declared.row.KeptRow.{KeptRow}
 use Rattle.keeper_sqlite.specs.RowValues.{values_of, IsForeign}
 use Rattle.keeper_sqlite.specs.Statements.{make_table}
 use Rattle.keeper_sqlite.specs.Transactions.{begun, FailsToSelect}
-use Rattle.keeper_sqlite.specs.Loading.{Selects, FailsToShow, FailsToRead, FailsToLoad, RefusesToLoad, MayCommitLoad}
+use Rattle.keeper_sqlite.specs.Loading.{Selects, FailsToRead, FailsToLoad, RefusesToLoad, MayCommitLoad}
 use Rattle.keeper_sqlite.specs.Loading.FailsToRead.{unshown, foreign, memory}
 use Rattle.keeper_sqlite.proofs.TransactionLemmas.{AllRun-inside, AllRun-keeps, StopsAt-keeps, keeps_from_begun, same_keeps, fails_to_commit_keeps}
 
