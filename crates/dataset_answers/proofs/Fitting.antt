@@ -27,7 +27,7 @@ use Rattle.packages.specs.Texts.{longest_name, text_given}
 use Rattle.packages.specs.Errors.{message_unless}
 use Rattle.packages.specs.declared.package.Package.{Package}
 use Rattle.packages.specs.declared.package.Resource.{Resource}
-use Rattle.packages.proofs.Built.{built_id, built_name, built_numbered, built_owner_org, built_source}
+use Rattle.packages.proofs.Built.{built_id, built_name, built_numbered}
 use Rattle.packages.proofs.Built.{built_tags, new_name, new_organization}
 use Rattle.packages.proofs.NoErrors.{message_unless-none}
 use Rattle.packages.proofs.FindLemmas.{IsIn-find}
@@ -55,6 +55,7 @@ use Rattle.dataset_answers.specs.Answers.{answer_to_resource_delete, answer_to_r
 use Rattle.dataset_answers.specs.Answers.{can_create_in, may_create, purgeable_dataset}
 use Rattle.visibility.specs.TableSummary.{TableSummary, breaks_references}
 use Rattle.dataset_answers.proofs.TableSummaryLemmas.{all-keep, more-keep, position-keeps, no_table_lost}
+use Rattle.dataset_answers.specs.Edits.{Origin, origin_of}
 use Rattle.dataset_answers.specs.Fit.{IsFitDataset, IsReplacement, KeepsResources}
 use Rattle.dataset_answers.specs.Lookup.{dataset_at, dataset_named, naming_key, editable_dataset_at}
 use Rattle.dataset_answers.specs.Lookup.{editable_resource_at}
@@ -154,19 +155,18 @@ pub record IsOwn (view : CallView) (dataset : Package) : Type 0 where
 
 -- what no change of a dataset changes, and what stays sound
 record IsLike (old new : Package) : Type 0 where
-  source : new.source ≡ old.source
   id : new.id ≡ old.id
   name : new.name ≡ old.name
-  org : new.owner_org ≡ old.owner_org
+  origin : origin_of new ≡ origin_of old
   resources : AreNumbered old → AreNumbered new
   tags : IsAscending (slice_cmp nat_cmp) old.tags → IsAscending (slice_cmp nat_cmp) new.tags
 
 like-sound : (people : PeopleLists) (old new : Package) → IsLike old new → IsSound people old → IsSound people new
 like-sound people old new like sound = record {
-  not_harvested = ap is_source like.source ∙ sound.not_harvested;
+  not_harvested = ap (λ (o : Origin). is_source o.source) like.origin ∙ sound.not_harvested;
   id = subst IsId (sym like.id) sound.id;
   name = ap (λ n. is_name n longest_name) like.name ∙ sound.name;
-  org = subst (OrgExists people) (sym like.org) sound.org;
+  org = subst (OrgExists people) (sym (ap (λ (o : Origin). o.owner_org) like.origin)) sound.org;
   resources = like.resources sound.resources;
   tags = like.tags sound.tags;
 }
@@ -180,9 +180,14 @@ like-replacement view summaries old new own like keeps_references = record {
   own = own.may;
   id = sym like.id;
   name = sym like.name;
+  origin = sym like.origin;
   sound = like-sound view.people old new like;
   keeps_references = keeps_references;
 }
+
+changed-origin : (call : Call) (whole : Bool) (old : Package) → origin_of (changed_dataset call whole old) ≡ origin_of old
+changed-origin call true old = refl
+changed-origin call false old = refl
 
 changed-like : (call : Call) (whole : Bool) (old : Package) → body_errors call.request.body (Some old) ≡ []
     → IsLike old (changed_dataset call whole old)
@@ -190,23 +195,21 @@ changed-like call whole old none =
     let body = call.request.body in
     let built = built_dataset body (Some old) whole in
     record {
-      source = built_source body old whole;
       id = built_id body old whole;
       name = built_name body old whole;
-      org = built_owner_org body old whole;
+      origin = changed-origin call whole old;
       resources = λ is_present. numbered_with_same_numbers built (changed_dataset call whole old)
           (built_numbered body (Some old) whole none is_present) refl refl;
       tags = built_tags body (Some old) whole;
     }
 
 -- If only the resources change, only their numbers have to be kept.
-numbered-like : (old new : Package) → new.source ≡ old.source → new.id ≡ old.id → new.name ≡ old.name
-    → new.owner_org ≡ old.owner_org → new.tags ≡ old.tags → (AreNumbered old → AreNumbered new) → IsLike old new
-numbered-like old new source id name org tags numbered = record {
-  source = source;
+numbered-like : (old new : Package) → new.id ≡ old.id → new.name ≡ old.name → origin_of new ≡ origin_of old
+    → new.tags ≡ old.tags → (AreNumbered old → AreNumbered new) → IsLike old new
+numbered-like old new id name origin tags numbered = record {
   id = id;
   name = name;
-  org = org;
+  origin = origin;
   resources = numbered;
   tags = subst (IsAscending (slice_cmp nat_cmp)) (sym tags);
 }
@@ -315,7 +318,7 @@ delete_fit view summaries =
     (λ dataset own. AcceptsOnly-answer_if_valid (IsFitDataset view summaries) view.quota [] _
     (λ none. let deleted = deleted_dataset view.call dataset in
     like-replacement view summaries dataset deleted (editable-own (codes "id") view dataset own)
-    (numbered-like dataset deleted refl refl refl refl refl
+    (numbered-like dataset deleted refl refl refl refl
     (λ is_present. numbered_with_same_numbers dataset deleted is_present refl refl))
     (inl (all-keep dataset))))
 
@@ -345,7 +348,7 @@ resource_create_fit view summaries =
     (λ none. let resource = resource_for dataset.next_resource body in
     let more = with_new_resource view.call dataset resource in
     like-replacement view summaries dataset more (editable-own (codes "package_id") view dataset own)
-    (numbered-like dataset more refl refl refl refl refl
+    (numbered-like dataset more refl refl refl refl
     (λ is_present. numbered_with_one_more dataset more resource is_present refl refl refl))
     (inl (more-keep dataset more resource refl))))
 
@@ -359,7 +362,7 @@ resource_update_fit view summaries =
     let changed = with_resource_at view.call located.dataset located.position resource in
     let found = editable-located view located own in
     like-replacement view summaries located.dataset changed found.own
-    (numbered-like located.dataset changed refl refl refl refl refl
+    (numbered-like located.dataset changed refl refl refl refl
     (λ is_present. numbered_with_replacement_at located.dataset changed located.position located.resource resource
     is_present
     found.there refl refl refl))
@@ -372,7 +375,7 @@ resource_delete_fit view summaries =
     (λ located own. let less = without_resource_at view.call located.dataset located.position in
     AcceptsOnly-answer_if_valid (IsFitDataset view summaries) view.quota (error_if (codes "id") (lost_table_error summaries less) []) _
     (λ none. like-replacement view summaries located.dataset less (editable-located view located own).own
-    (numbered-like located.dataset less refl refl refl refl refl
+    (numbered-like located.dataset less refl refl refl refl
     (λ is_present. numbered_without_resource_at located.dataset less located.position is_present refl refl))
     (inr (no_table_lost summaries less (error_if-none (codes "id") (lost_table_error summaries less) [] none).1))))
 

@@ -1,4 +1,5 @@
 mod BodyLemmas
+pub mod EditLemmas
 mod Examples
 pub mod Fitting
 pub mod TableSummaryAnswers

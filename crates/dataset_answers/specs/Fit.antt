@@ -7,6 +7,7 @@ use Rattle.packages.specs.declared.package.Package.{Package}
 use Rattle.visibility.specs.TableSummary.{TableSummary, is_among, breaks_references}
 use Rattle.visibility.specs.CallView.{CallView}
 use Rattle.visibility.specs.Visibility.{is_harvested, may_edit_in}
+use Rattle.dataset_answers.specs.Edits.{origin_of}
 use Rattle.dataset_answers.specs.Sound.{IsSound}
 use Rattle.dataset_answers.specs.declared.change.DatasetChange.{DatasetChange}
 use Rattle.dataset_answers.specs.declared.change.DatasetChange.TheVariants.{Create, Replace, Remove}
@@ -20,14 +21,15 @@ pub record IsCreation (view : CallView) (dataset : Package) : Type 0 where
 abbrev pub KeepsResources : Package → Package → Type 0
 KeepsResources old new = (number : ℕ) → is_among old.resources number ≡ true → is_among new.resources number ≡ true
 
--- The dataset replaces one in the view that the caller may edit. It keeps the id and the name of that one, and is sound
--- if that one is. No resource is removed, or no table that stays refers to a table of a removed resource.
+-- The dataset replaces one in the view that the caller may edit. It keeps the id, the name and the origin of that one, and
+-- is sound if that one is. No resource is removed, or no table that stays refers to a table of a removed resource.
 pub record IsReplacement (view : CallView) (summaries : List TableSummary) (dataset : Package) : Type 0 where
   pub old : Package
   pub is_present : Contains view.datasets old
   pub own : may_edit_in view.people view.call.caller old ≡ true
   pub id : old.id ≡ dataset.id
   pub name : old.name ≡ dataset.name
+  pub origin : origin_of old ≡ origin_of dataset
   pub sound : IsSound view.people old → IsSound view.people dataset
   pub keeps_references : KeepsResources old dataset ⊎ (breaks_references summaries dataset.id dataset.resources ≡ false)
 

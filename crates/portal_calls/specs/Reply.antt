@@ -1,4 +1,4 @@
--- Replies, their refusals, and the replies that may depend on what a caller doesn't see.
+-- Replies, their refusals, which replies may depend on what a caller doesn't see, and which tell of a change.
 use Rattle.std.specs.Prelude.{Bool, true, false}
 use Rattle.portal_calls.specs.declared.answer.Denial.{Denial}
 use Rattle.portal_calls.specs.declared.answer.Denial.TheVariants as denial
@@ -27,3 +27,9 @@ abbrev pub is_name_in_use : Reply → Bool
 is_name_in_use (Accepted json) = false
 is_name_in_use (Shown json) = false
 is_name_in_use (Refused refusal) = is_name_in_use_refusal refusal
+
+-- the reply is that a change was made
+abbrev pub is_change : Reply → Bool
+is_change (Accepted json) = true
+is_change (Shown json) = false
+is_change (Refused refusal) = false

@@ -39,6 +39,21 @@ pub enum Reply {
     Refused(Refusal),
 }
 
+impl Reply {
+    ghost use Rattle.portal_calls.specs.Reply.{is_change};
+
+    /// Whether the reply is that a change was made.
+    pub fn is_change(&self) -> bool
+        ensures { result ≡ is_change self.now }
+    {
+        match self {
+            Reply::Accepted(_) => true,
+            Reply::Shown(_) => false,
+            Reply::Refused(_) => false,
+        }
+    }
+}
+
 /// A denial as the refusal of a reply.
 pub fn refusal_of(denial: Denial) -> Refusal
     ensures { result ≡ refusal_of denial }

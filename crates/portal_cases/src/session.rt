@@ -98,7 +98,7 @@ impl Session {
         let caller = caller_of(alloc, name).ok()?;
         let request = request_of(alloc, line)?;
         Some(Call {
-            caller: self.portal.known_caller(caller),
+            caller,
             request,
             size: size.unwrap_or(line.body.len() as u64),
             moment: self.clock.now(),

@@ -33,16 +33,16 @@ use Rattle.portal_calls.specs.declared.answer.Answer.{Answer}
 use Rattle.portal_calls.specs.declared.answer.Answer.TheVariants.{Shown, Refused, Accepted}
 use Rattle.portal_calls.specs.declared.call.Call.{Call}
 use Rattle.visibility.specs.CallView.{CallView}
-use Rattle.portal_core.specs.Answer.{call_view_of, answer_to, answer_on, of_people, of_datasets, of_tables}
+use Rattle.portal_core.specs.Answer.{call_view_of, planned_answer, answer_on, of_people, of_datasets, of_tables}
+use Rattle.portal_core.specs.Planned.{PlannedChange}
 use Rattle.portal_core.specs.Fit.{IsFit, IsFitAmong}
 use Rattle.portal_core.specs.Queries.{answer_to_datastore_delete, answer_to_datastore_search, answer_to_query}
-use Rattle.portal_core.specs.Queries.{delete_answer}
-use Rattle.portal_core.specs.Queries.{find_rows_of_resource, page_answer, query_for, search_answer_for_table}
+use Rattle.portal_core.specs.Queries.{delete_answer, find_rows_of_resource, page_answer, query_for}
+use Rattle.portal_core.specs.Queries.{search_answer_for_table}
 use Rattle.portal_core.specs.SearchBody.{search_in, search_errors}
 use Rattle.portal_calls.specs.declared.answer.Denial.{Denial}
 use Rattle.portal_core.specs.State.{State}
 use Rattle.portal_core.specs.declared.search_body.Search.{Search}
-use Rattle.portal_core.specs.Change.{Change}
 
 people-fit : (view : CallView) (tables : List ResourceTable) (answer : Answer OrgChange)
     → AcceptsOnly (IsFitOrg view) answer → AcceptsOnly (IsFitAmong view tables) (of_people answer)
@@ -104,11 +104,11 @@ by_topic (topic.Datasets action) view tables =
 by_topic (topic.Tables action) view tables = tables-fit view tables _ (table.action_fit action view tables)
 by_topic (topic.Queries action) view tables = tables-fit view tables _ (query-fit action view tables)
 
-pub answer_fit : (call : Call) (view : State) → AcceptsOnly (IsFit call view) (answer_to call view)
+pub answer_fit : (call : Call) (view : State) → AcceptsOnly (IsFit call view) (planned_answer call view)
 answer_fit call view = by_topic (topic_of call.request.action) (call_view_of call view) view.tables
 
 -- so is a change that is accepted
-pub accepted_fit : (call : Call) (view : State) (json : Json) (change : Change)
-    → Accepted json change ≡ answer_to call view → IsFit call view change
+pub accepted_fit : (call : Call) (view : State) (json : Json) (change : PlannedChange)
+    → Accepted json change ≡ planned_answer call view → IsFit call view change
 accepted_fit call view json change is =
-    subst (λ (a : Answer Change). AcceptsOnly (IsFit call view) a) (sym is) (answer_fit call view)
+    subst (λ (a : Answer PlannedChange). AcceptsOnly (IsFit call view) a) (sym is) (answer_fit call view)

@@ -47,10 +47,10 @@ use Rattle.visibility.specs.TableSummary.{is_among}
 use Rattle.portal_core.proofs.Kept.{dropped-kept, filter-narrower, placed-kept}
 use Rattle.portal_core.proofs.TableViewing.{among-narrower, any-among, any-is, own-id, tables-kept}
 use Rattle.portal_core.specs.Changed.{changed, tables_left}
+use Rattle.portal_core.specs.Planned.{PlannedChange, People, Datasets, Tables}
 use Rattle.portal_core.specs.State.{State}
 use Rattle.portal_core.specs.View.{view_of, is_own_quota}
 use Rattle.portal_core.specs.declared.quota.QuotaUsed.{QuotaUsed}
-use Rattle.portal_core.specs.Change.{Change, People, Datasets, Tables}
 
 -- ---- datasets
 
@@ -381,7 +381,7 @@ IsOwnDatasets caller state (dataset.Replace d) = IsIdSeen caller state d.id
 IsOwnDatasets caller state (dataset.Remove id) = Unit {0}
 
 -- what the caller changes is its own to change
-abbrev pub IsOwn : Caller → State → Change → Type 0
+abbrev pub IsOwn : Caller → State → PlannedChange → Type 0
 IsOwn caller state (People change) = IsOwnChange caller state.people change
 IsOwn caller state (Datasets change) = IsOwnDatasets caller state change
 IsOwn caller state (Tables change) = Unit {0}
@@ -478,7 +478,7 @@ left-kept (dataset.Remove id) caller state own =
     (filter-IsIn (sees_in state.people caller) e state.datasets
     (IsIn-dropped (dataset_at_id id) e state.datasets was.0).0 was.1)) t now)
 
-pub changed-seen : (change : Change) (caller : Caller) (state : State)
+pub changed-seen : (change : PlannedChange) (caller : Caller) (state : State)
     → IsAscending membership_cmp state.people.roles → IsAscending dataset_cmp state.datasets
     → IsAscending table_cmp state.tables
     → ((d : Package) → IsIn d state.datasets → is_public_if_harvested d ≡ true) → IsOwn caller state change

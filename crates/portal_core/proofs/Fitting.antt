@@ -45,10 +45,10 @@ use Rattle.visibility.proofs.ViewLemmas.{may_edit_in_seen, administers_seen, is_
 use Rattle.visibility.proofs.ViewLemmas.{role_in_administered}
 use Rattle.portal_core.proofs.TableViewing.{both, own-id}
 use Rattle.portal_core.specs.Answer.{call_view_of}
+use Rattle.portal_core.specs.Planned.{PlannedChange, People, Datasets, Tables}
 use Rattle.portal_core.specs.Fit.{IsFit}
 use Rattle.portal_core.specs.State.{State}
 use Rattle.portal_core.specs.View.{view_of}
-use Rattle.portal_core.specs.Change.{Change, People, Datasets, Tables}
 
 -- ---- people
 
@@ -151,6 +151,7 @@ datasets-fit (dataset.Replace d) call state fit = record {
   own = sym (may_edit_in_seen call.caller state.people fit.old) ∙ fit.own;
   id = fit.id;
   name = fit.name;
+  origin = fit.origin;
   sound = λ was. sound-there call.caller state.people d
       (fit.sound (sound-seen call.caller state.people fit.old was));
   keeps_references = by fit.keeps_references;
@@ -239,7 +240,7 @@ tables-fit (table.DeleteRows address ids) call state fit = record {
 
 -- ---- all changes
 
-pub fit_in_state : (change : Change) (call : Call) (state : State)
+pub fit_in_state : (change : PlannedChange) (call : Call) (state : State)
     → list_all is_public_if_harvested state.datasets ≡ true
     → IsFit call (view_of call.caller state) change → IsFit call state change
 fit_in_state (People change) call state harvested fit = people-fit change call state harvested fit

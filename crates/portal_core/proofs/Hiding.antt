@@ -50,22 +50,15 @@ use Rattle.portal_calls.specs.declared.call.Call.{Call}
 use Rattle.visibility.specs.View.{is_called, user_seen, administers, is_role_seen, people_seen}
 use Rattle.visibility.specs.TableSummary.{is_among}
 use Rattle.visibility.specs.Visibility.{caller_role, sees_in}
-use Rattle.portal_core.specs.Answer.{answer_to}
-use Rattle.portal_core.specs.Changed.{changed, charged, applied, claims_of, is_in_use}
-use Rattle.portal_core.specs.Hidden.{IsHiddenChange, IsHiddenBetween, IsHidden, is_kept, is_caller}
-use Rattle.portal_core.specs.Hidden.{IsIdUnseen, IsRoleUnseen, address_in}
-use Rattle.portal_core.specs.State.{State, quota_used_cmp, quota_used_cmp_total, accepted_bytes_of_user}
-use Rattle.portal_core.specs.Step.{outcome_of, outcome_unless_in_use}
-use Rattle.portal_core.specs.Valid.{IsValid}
-use Rattle.portal_core.specs.View.{view_of, is_own_quota, is_table_seen}
-use Rattle.portal_core.specs.Change.{Change, People, Datasets, Tables}
-use Rattle.portal_core.specs.declared.change.Claim.{Claim}
 use Rattle.portal_calls.specs.declared.event.Event.TheVariants.{Call as a_call}
+use Rattle.portal_core.specs.Changed.{charged}
+use Rattle.portal_core.specs.Hidden.{IsHiddenBetween, IsHiddenChange, is_caller, is_kept}
+use Rattle.portal_core.specs.State.{State, accepted_bytes_of_user, quota_used_cmp, quota_used_cmp_total}
+use Rattle.portal_core.specs.Valid.{IsValid}
+use Rattle.portal_core.specs.View.{is_own_quota, is_table_seen, view_of}
 use Rattle.portal_core.specs.declared.quota.QuotaUsed.{QuotaUsed}
-use Rattle.portal_core.proofs.TableViewing.{any-is}
-use Rattle.portal_core.proofs.Changing.{same_state, stated}
-use Rattle.portal_core.proofs.Changing.{HasSameRights, is_sysadmin_in-users, is_role_seen-rights, sees_in-rights}
-use Rattle.portal_core.proofs.Changing.{caller_role-own}
+use Rattle.portal_core.proofs.Changing.{HasSameRights, caller_role-own, is_role_seen-rights, is_sysadmin_in-users}
+use Rattle.portal_core.proofs.Changing.{same_state, sees_in-rights, stated}
 
 -- ---- lists
 
@@ -91,7 +84,7 @@ same_list cmp o xs ys up_x up_y hidden =
     (λ z m. IsIn-Contains z xs (hidden.stood z (Contains-IsIn z ys m) refl))
 
 -- no change is hidden
-hidden-none : {X : Type 0} (p q : X → Bool) (xs : List X) → IsHiddenChange p q xs xs
+pub hidden-none : {X : Type 0} (p q : X → Bool) (xs : List X) → IsHiddenChange p q xs xs
 hidden-none p q xs = record { stays = λ x m k. m; stood = λ x m k. m }
 
 -- an item that isn't kept is inserted, where what is like it wasn't kept
@@ -109,60 +102,6 @@ hidden-placed {X} cmp p q x xs unseen hides = record {
     by : (z : X) → (z ≡ x) ⊎ (Contains xs z × (is_eq (cmp z x) ≡ false)) → q z ≡ true → Contains xs z
     by z (inl is) kept = let not_kept : q z ≡ false = ap q is ∙ unseen in absurd (cc)
     by z (inr was) kept = was.0
-
--- what wasn't kept is dropped
-hidden-dropped : {X : Type 0} (at : X → Ordering) (p q : X → Bool) (xs : List X)
-    → ((z : X) → Contains xs z → is_eq (at z) ≡ true → p z ≡ false) → IsHiddenChange p q xs (dropped at xs)
-hidden-dropped {X} at p q xs hides = record {
-  stays = λ z m kept. dropped-Contains at z xs m (apart z m kept (is_eq (at z)) refl);
-  stood = λ z m kept. (Contains-dropped at z xs m).0;
-}
-  where
-    apart : (z : X) → Contains xs z → p z ≡ true → (b : Bool) → is_eq (at z) ≡ b → is_eq (at z) ≡ false
-    apart z m kept true is = let not_kept : p z ≡ false = hides z m is in absurd (cc)
-    apart z m kept false is = is
-
--- what wasn't kept is left out
-hidden-filtered : {X : Type 0} (stays p q : X → Bool) (xs : List X)
-    → ((z : X) → Contains xs z → stays z ≡ false → p z ≡ false) → IsHiddenChange p q xs (filter stays xs)
-hidden-filtered {X} stays p q xs hides = record {
-  stays = λ z m kept. Contains-IsIn z (filter stays xs)
-      (filter-IsIn stays z xs (IsIn-Contains z xs m) (by z m kept (stays z) refl));
-  stood = λ z m kept. Contains-IsIn z xs (IsIn-filter stays z xs (IsIn-Contains z (filter stays xs) m)).0;
-}
-  where
-    by : (z : X) → Contains xs z → p z ≡ true → (b : Bool) → stays z ≡ b → stays z ≡ true
-    by z m kept true is = is
-    by z m kept false is = let not_kept : p z ≡ false = hides z m is in absurd (cc)
-
--- what is made over keeps what the test looks at, and wasn't kept
-hidden-made : {X : Type 0} (p q : X → Bool) (f : X → X) (xs : List X)
-    → ((z : X) → Contains xs z → (f z ≡ z) ⊎ ((p z ≡ false) × (q (f z) ≡ false)))
-    → IsHiddenChange p q xs (map f xs)
-hidden-made {X} p q f xs each = record {
-  stays = λ z m kept. Contains-IsIn z (map f xs) (stayed z (IsIn-Contains z xs m) kept (each z m));
-  stood = λ z m kept. let x = map-was f z xs (IsIn-Contains z (map f xs) m) in
-      stood_by z x.0 x.1 x.2 kept (each x.0 (Contains-IsIn x.0 xs x.1));
-}
-  where
-    map-was : (f : X → X) (y : X) (xs : List X) → IsIn y (map f xs) → (x : X) × IsIn x xs × (y ≡ f x)
-    map-was f y [] m = absurd m
-    map-was f y (x ∷ xs) (inl is) = (x, inl refl, is)
-    map-was f y (x ∷ xs) (inr m) = let z = map-was f y xs m in (z.0, inr z.1, z.2)
-
-    map-in : (f : X → X) (x : X) (xs : List X) → IsIn x xs → IsIn (f x) (map f xs)
-    map-in f x [] m = absurd m
-    map-in f x (y ∷ ys) (inl is) = inl (ap f is)
-    map-in f x (y ∷ ys) (inr m) = inr (map-in f x ys m)
-
-    stayed : (z : X) → IsIn z xs → p z ≡ true → (f z ≡ z) ⊎ ((p z ≡ false) × (q (f z) ≡ false)) → IsIn z (map f xs)
-    stayed z m kept (inl same) = subst (λ w. IsIn w (map f xs)) same (map-in f z xs m)
-    stayed z m kept (inr unseen) = let not_kept : p z ≡ false = unseen.0 in absurd (cc)
-
-    stood_by : (z x : X) → IsIn x xs → z ≡ f x → q z ≡ true → (f x ≡ x) ⊎ ((p x ≡ false) × (q (f x) ≡ false))
-        → Contains xs z
-    stood_by z x m is kept (inl same) = Contains-IsIn z xs (subst (λ w. IsIn w xs) (sym (is ∙ same)) m)
-    stood_by z x m is kept (inr unseen) = let not_kept : q z ≡ false = ap q is ∙ unseen.1 in absurd (cc)
 
 -- ---- roles
 
@@ -275,7 +214,7 @@ quota_used-charged (Named user) size s t same =
     same
 
 -- nothing changes
-unchanged-hidden : (caller : Caller) (state : State) → IsHiddenBetween caller state state
+pub unchanged-hidden : (caller : Caller) (state : State) → IsHiddenBetween caller state state
 unchanged-hidden caller state = record {
   users = hidden-none is_kept is_kept state.people.users;
   orgs = hidden-none is_kept is_kept state.people.orgs;
@@ -285,21 +224,19 @@ unchanged-hidden caller state = record {
   quota_used = hidden-none (is_own_quota caller) (is_own_quota caller) state.quota_used;
 }
 
--- what a change hides is hidden where it is charged to another caller
-applied-hidden : (caller : Caller) (call : Call) (change : Change) (state : State) → is_caller caller call.caller
-    ≡ false
-    → (changed change state).quota_used ≡ state.quota_used → IsHiddenBetween caller state (changed change state)
-    → IsHiddenBetween caller state (applied call change state)
-applied-hidden caller call change state others left hidden =
-    let now : State = changed change state in
+-- what is hidden between two states is hidden where something is charged to another caller in the second
+pub charged-between : (caller other : Caller) (size : ℕ) (before now : State) → is_caller caller other ≡ false
+    → now.quota_used ≡ before.quota_used → IsHiddenBetween caller before now
+    → IsHiddenBetween caller before (charged other size now)
+charged-between caller other size before now others left hidden =
+    let after : State = charged other size now in
     let Between : PeopleLists → List Package → List ResourceTable → List QuotaUsed → Type 0 =
-    λ people datasets tables quota_used. IsHiddenBetween caller state (stated people datasets tables quota_used) in
-    let quota_used : IsHiddenChange (is_own_quota caller) (is_own_quota caller) state.quota_used
-    (charged call.caller call.size now).quota_used =
-    subst (IsHiddenChange (is_own_quota caller) (is_own_quota caller) state.quota_used)
-    (quota_used-charged call.caller call.size state now (sym left))
-    (charged-hidden caller call.caller call.size state others) in
-    let there : Between now.people now.datasets now.tables (charged call.caller call.size now).quota_used = record {
+    λ people datasets tables quota_used. IsHiddenBetween caller before (stated people datasets tables quota_used) in
+    let quota_used : IsHiddenChange (is_own_quota caller) (is_own_quota caller) before.quota_used after.quota_used =
+    subst (IsHiddenChange (is_own_quota caller) (is_own_quota caller) before.quota_used)
+    (quota_used-charged other size before now (sym left))
+    (charged-hidden caller other size before others) in
+    let there : Between now.people now.datasets now.tables after.quota_used = record {
       users = hidden.users;
       orgs = hidden.orgs;
       roles = hidden.roles;
@@ -307,266 +244,9 @@ applied-hidden caller call change state others left hidden =
       tables = hidden.tables;
       quota_used = quota_used;
     } in
-    let after : State = applied call change state in
     subst (λ (people : PeopleLists). Between people after.datasets after.tables after.quota_used)
-    (sym (people-charged call.caller call.size now))
+    (sym (people-charged other size now))
     (subst (λ (datasets : List Package). Between now.people datasets after.tables after.quota_used)
-    (sym (datasets-charged call.caller call.size now))
+    (sym (datasets-charged other size now))
     (subst (λ (tables : List ResourceTable). Between now.people now.datasets tables after.quota_used)
-    (sym (tables-charged call.caller call.size now)) there))
-
--- a call of another caller that accepts a hidden change is hidden
-accepted-hidden : (caller : Caller) (call : Call) (json : Json) (change : Change) (state : State)
-    → is_caller caller call.caller ≡ false → answer_to call (view_of call.caller state) ≡ Accepted json change
-    → IsHiddenBetween caller state (applied call change state) → IsHidden caller state (a_call call)
-accepted-hidden caller call json change state others answers hidden = record {
-  others = others;
-  between =
-      subst (λ (a : Answer Change). IsHiddenBetween caller state (outcome_of a call state).state) (sym answers)
-      (by (find (is_in_use state) (claims_of change)));
-}
-  where
-    by : (claim : Option Claim) → IsHiddenBetween caller state
-        (outcome_unless_in_use claim call json change state).state
-    by None = hidden
-    by (Some c) = unchanged-hidden caller state
-
--- ---- datasets
-
--- a table of a dataset of that id isn't seen
-tables-unseen : (caller : Caller) (state : State) (id : List ℕ) → IsIdUnseen caller state id → (t : ResourceTable)
-    → bytes_eq t.address.dataset id ≡ true → is_table_seen caller state t ≡ false
-tables-unseen caller state id unseen t own = by (is_table_seen caller state t) refl
-  where
-    by : (b : Bool) → is_table_seen caller state t ≡ b → b ≡ false
-    by false is = refl
-    by true is =
-        let d = any-is (λ (d : Package). bytes_eq t.address.dataset d.id)
-        (filter (sees_in state.people caller) state.datasets) is in
-        let stood = IsIn-filter (sees_in state.people caller) d.0 state.datasets d.1 in
-        let same : d.0.id ≡ id = sym ((bytes_eq-Decides t.address.dataset d.0.id).0 d.2)
-        ∙ (bytes_eq-Decides t.address.dataset id).0 own in
-        let not_seen : sees_in state.people caller d.0 ≡ false =
-        unseen d.0 (Contains-IsIn d.0 state.datasets stood.0) same in
-        let seen : sees_in state.people caller d.0 ≡ true = stood.1 in
-        absurd (cc)
-
-placed-hidden : (caller : Caller) (state : State) (d : Package) (tables : List ResourceTable)
-    → sees_in state.people caller d ≡ false → IsIdUnseen caller state d.id
-    → IsHiddenChange (is_table_seen caller state)
-    (is_table_seen caller (record state { datasets = upserted dataset_cmp d state.datasets; tables = tables }))
-    state.tables tables
-    → IsHiddenBetween caller state (record state { datasets = upserted dataset_cmp d state.datasets; tables = tables })
-placed-hidden caller state d tables unseen before hidden = record {
-  users = hidden-none is_kept is_kept state.people.users;
-  orgs = hidden-none is_kept is_kept state.people.orgs;
-  roles = hidden-none (is_role_seen state.people caller) (is_role_seen state.people caller) state.people.roles;
-  datasets = hidden-placed dataset_cmp (sees_in state.people caller) (sees_in state.people caller) d state.datasets
-      unseen
-      (λ z m like. before z m ((bytes_eq-Decides z.id d.id).0 (sym (is_eq-slice_cmp z.id d.id) ∙ like)));
-  tables = hidden;
-  quota_used = hidden-none (is_own_quota caller) (is_own_quota caller) state.quota_used;
-}
-
--- the tables that go with resources of an unseen dataset
-left-hidden : (caller : Caller) (state : State) (q : ResourceTable → Bool) (id : List ℕ) (resources : List Resource)
-    → IsIdUnseen caller state id
-    → IsHiddenChange (is_table_seen caller state) q state.tables (tables_kept id resources state.tables)
-left-hidden caller state q id resources unseen =
-    hidden-filtered (λ t. not (bytes_eq t.address.dataset id) || is_among resources t.address.number)
-    (is_table_seen caller state) q state.tables
-    (λ t m goes. tables-unseen caller state id unseen t
-    (own (bytes_eq t.address.dataset id) (is_among resources t.address.number) goes))
-  where
-    own : (a b : Bool) → (not a || b) ≡ false → a ≡ true
-    own true b goes = refl
-    own false b goes = absurd (cc)
-
-pub creation-hidden : (caller : Caller) (state : State) (call : Call) (json : Json) (d : Package)
-    → is_caller caller call.caller ≡ false
-    → answer_to call (view_of call.caller state) ≡ Accepted json (Datasets (dataset.Create d))
-    → sees_in state.people caller d ≡ false → IsIdUnseen caller state d.id → IsHidden caller state (a_call call)
-creation-hidden caller state call json d others answers unseen before =
-    accepted-hidden caller call json (Datasets (dataset.Create d)) state others answers
-    (applied-hidden caller call (Datasets (dataset.Create d)) state others refl
-    (placed-hidden caller state d state.tables unseen before
-    (hidden-none (is_table_seen caller state)
-    (is_table_seen caller (record state { datasets = upserted dataset_cmp d state.datasets; tables = state.tables }))
-    state.tables)))
-
-pub replacement-hidden : (caller : Caller) (state : State) (call : Call) (json : Json) (d : Package)
-    → is_caller caller call.caller ≡ false
-    → answer_to call (view_of call.caller state) ≡ Accepted json (Datasets (dataset.Replace d))
-    → sees_in state.people caller d ≡ false → IsIdUnseen caller state d.id → IsHidden caller state (a_call call)
-replacement-hidden caller state call json d others answers unseen before =
-    accepted-hidden caller call json (Datasets (dataset.Replace d)) state others answers
-    (applied-hidden caller call (Datasets (dataset.Replace d)) state others refl
-    (placed-hidden caller state d (tables_kept d.id d.resources state.tables) unseen before
-    (left-hidden caller state _ d.id d.resources before)))
-
-pub removal-hidden : (caller : Caller) (state : State) (call : Call) (json : Json) (id : List ℕ)
-    → is_caller caller call.caller ≡ false
-    → answer_to call (view_of call.caller state) ≡ Accepted json (Datasets (dataset.Remove id))
-    → IsIdUnseen caller state id → IsHidden caller state (a_call call)
-removal-hidden caller state call json id others answers before =
-    accepted-hidden caller call json (Datasets (dataset.Remove id)) state others answers
-    (applied-hidden caller call (Datasets (dataset.Remove id)) state others refl
-    (record {
-      users = hidden-none is_kept is_kept state.people.users;
-      orgs = hidden-none is_kept is_kept state.people.orgs;
-      roles = hidden-none (is_role_seen state.people caller) (is_role_seen state.people caller) state.people.roles;
-      datasets = hidden-dropped (dataset_at_id id) (sees_in state.people caller) (sees_in state.people caller)
-          state.datasets
-          (λ z m like. before z m ((bytes_eq-Decides z.id id).0 (sym (is_eq-slice_cmp z.id id) ∙ like)));
-      tables = left-hidden caller state _ id [] before;
-      quota_used = hidden-none (is_own_quota caller) (is_own_quota caller) state.quota_used;
-    }))
-
--- ---- tables
-
--- a table is as it was, or is one of an unseen dataset before and after
-made-unseen : (caller : Caller) (state : State) (a : Address) (make : ResourceTable → ResourceTable)
-    → ((t : ResourceTable) → (make t).address ≡ t.address) → IsIdUnseen caller state a.dataset → (t : ResourceTable)
-    → ((if is_at a t then make t else t) ≡ t)
-    ⊎ ((is_table_seen caller state t ≡ false)
-    × (is_table_seen caller state (if is_at a t then make t else t) ≡ false))
-made-unseen caller state a make same unseen t = by (is_at a t) refl
-  where
-    at : is_at a t ≡ true → (u : ResourceTable) → u.address ≡ t.address → is_table_seen caller state u ≡ false
-    at is u there =
-        tables-unseen caller state a.dataset unseen u
-        ((bytes_eq-Decides u.address.dataset a.dataset).1
-        (ap (λ (b : Address). b.dataset) (there ∙ at-is a t is)))
-
-    by : (b : Bool) → is_at a t ≡ b
-        → ((if b then make t else t) ≡ t)
-        ⊎ ((is_table_seen caller state t ≡ false) × (is_table_seen caller state (if b then make t else t) ≡ false))
-    by true is = inr (at is t refl, at is (make t) (same t))
-    by false is = inl refl
-
--- of the tables of an unseen dataset none is seen before or after a change of one of them
-changed-hidden : (change : TableChange) (caller : Caller) (state : State)
-    → IsIdUnseen caller state (address_in change).dataset
-    → IsHiddenChange (is_table_seen caller state) (is_table_seen caller state) state.tables
-    (changed_tables change state.tables)
-changed-hidden (table.Create t) caller state unseen =
-    hidden-placed table_cmp (is_table_seen caller state) (is_table_seen caller state) t state.tables
-    (tables-unseen caller state t.address.dataset unseen t
-    ((bytes_eq-Decides t.address.dataset t.address.dataset).1 refl))
-    (λ u m like. tables-unseen caller state t.address.dataset unseen u
-    ((bytes_eq-Decides u.address.dataset t.address.dataset).1
-    (ap (λ (a : Address). a.dataset) (at-is t.address u like))))
-changed-hidden (table.Remove a) caller state unseen =
-    hidden-dropped (at_address a) (is_table_seen caller state) (is_table_seen caller state) state.tables
-    (λ u m like. tables-unseen caller state a.dataset unseen u
-    ((bytes_eq-Decides u.address.dataset a.dataset).1 (ap (λ (b : Address). b.dataset) (at-is a u like))))
-changed-hidden (table.Put a how records) caller state unseen =
-    hidden-made (is_table_seen caller state) (is_table_seen caller state)
-    (λ t. if is_at a t then put_into how records t else t) state.tables
-    (λ t m. made-unseen caller state a (put_into how records) (put_into-address how records) unseen t)
-changed-hidden (table.DeleteRows a ids) caller state unseen =
-    hidden-made (is_table_seen caller state) (is_table_seen caller state)
-    (λ t. if is_at a t then without_rows ids t else t) state.tables
-    (λ t m. made-unseen caller state a (without_rows ids) (λ u. refl) unseen t)
-
-pub tables-hidden : (caller : Caller) (state : State) (call : Call) (json : Json) (change : TableChange)
-    → is_caller caller call.caller ≡ false
-    → answer_to call (view_of call.caller state) ≡ Accepted json (Tables change)
-    → IsIdUnseen caller state (address_in change).dataset → IsHidden caller state (a_call call)
-tables-hidden caller state call json change others answers unseen =
-    accepted-hidden caller call json (Tables change) state others answers
-    (applied-hidden caller call (Tables change) state others refl
-    (record {
-      users = hidden-none is_kept is_kept state.people.users;
-      orgs = hidden-none is_kept is_kept state.people.orgs;
-      roles = hidden-none (is_role_seen state.people caller) (is_role_seen state.people caller) state.people.roles;
-      datasets = hidden-none (sees_in state.people caller) (sees_in state.people caller) state.datasets;
-      tables = changed-hidden change caller state unseen;
-      quota_used = hidden-none (is_own_quota caller) (is_own_quota caller) state.quota_used;
-    }))
-
--- ---- roles of others elsewhere
-
-either : (a b : Bool) → a ≡ false → b ≡ false → (a || b) ≡ false
-either a b is_a is_b = rw (is_a, is_b) refl
-
--- another user's role is hidden in an organization that the caller doesn't administer
-role_hidden : (caller : Caller) (people : PeopleLists) (org user : List ℕ) → IsRoleUnseen caller people org user
-    → (m : Membership) → (bytes_eq m.org org && bytes_eq m.user user) ≡ true
-    → is_role_seen people caller m ≡ false
-role_hidden caller people org user unseen m like = by (bytes_eq m.org org) refl (bytes_eq m.user user) refl like
-  where
-    by : (a : Bool) → bytes_eq m.org org ≡ a → (b : Bool) → bytes_eq m.user user ≡ b → (a && b) ≡ true
-        → is_role_seen people caller m ≡ false
-    by true in_org true of_user l =
-        rw ((bytes_eq-Decides m.org org).0 in_org, (bytes_eq-Decides m.user user).0 of_user)
-        (either (administers people caller org) (is_called caller user) unseen.elsewhere unseen.others)
-    by true in_org false of_user l = absurd (cc)
-    by false in_org b of_user l = absurd (cc)
-
--- roles of another user don't change the caller's rights
-others_standing : (caller : Caller) (p q : PeopleLists) (user : List ℕ) → is_called caller user ≡ false
-    → q.users ≡ p.users → ((org name : List ℕ) → name ≢ user → role_in q org name ≡ role_in p org name)
-    → HasSameRights caller q p
-others_standing caller p q user others users roles =
-    (is_sysadmin_in-users caller q p users, λ org. by caller org others)
-  where
-    by : (c : Caller) (org : List ℕ) → is_called c user ≡ false → caller_role q c org ≡ caller_role p c org
-    by Anonymous org other = refl
-    by (Named name) org other =
-        roles org name (λ is. let same : bytes_eq name user ≡ true = (bytes_eq-Decides name user).1 is in cc)
-
--- between people who differ in roles that are hidden from a caller with the same rights all is hidden
-roles-hidden : (caller : Caller) (state : State) (change : OrgChange)
-    → (changed_people change state.people).users ≡ state.people.users
-    → (changed_people change state.people).orgs ≡ state.people.orgs
-    → HasSameRights caller (changed_people change state.people) state.people
-    → IsHiddenChange (is_role_seen state.people caller) (is_role_seen state.people caller) state.people.roles
-    (changed_people change state.people).roles
-    → IsHiddenBetween caller state (changed (People change) state)
-roles-hidden caller state change users orgs same roles =
-    let now : PeopleLists = changed_people change state.people in
-    record {
-      users = subst (IsHiddenChange is_kept is_kept state.people.users) (sym users)
-          (hidden-none is_kept is_kept state.people.users);
-      orgs = subst (IsHiddenChange is_kept is_kept state.people.orgs) (sym orgs)
-          (hidden-none is_kept is_kept state.people.orgs);
-      roles = record {
-        stays = roles.stays;
-        stood = λ m after kept. roles.stood m after (sym (is_role_seen-rights caller now state.people same m) ∙ kept);
-      };
-      datasets = record { stays = λ d m k. m; stood = λ d m k. m };
-      tables = record { stays = λ t m k. m; stood = λ t m k. m };
-      quota_used = hidden-none (is_own_quota caller) (is_own_quota caller) state.quota_used;
-    }
-
-pub role-hidden : (caller : Caller) (state : State) (call : Call) (json : Json) (org user : List ℕ) (role : Role)
-    → is_caller caller call.caller ≡ false
-    → answer_to call (view_of call.caller state) ≡ Accepted json (People (SetRole org user role))
-    → IsRoleUnseen caller state.people org user → IsHidden caller state (a_call call)
-role-hidden caller state call json org user role others answers unseen =
-    let m : Membership = record { org = org; user = user; role = role } in
-    accepted-hidden caller call json (People (SetRole org user role)) state others answers
-    (applied-hidden caller call (People (SetRole org user role)) state others refl
-    (roles-hidden caller state (SetRole org user role) refl refl
-    (others_standing caller state.people (changed_people (SetRole org user role) state.people) user unseen.others refl
-    (λ other name differs. role_in-with_role_other m state.people other name (inr differs)))
-    (hidden-placed membership_cmp (is_role_seen state.people caller) (is_role_seen state.people caller) m
-    state.people.roles
-    (either (administers state.people caller org) (is_called caller user) unseen.elsewhere unseen.others)
-    (λ z was like. role_hidden caller state.people org user unseen z (sym (is_eq-membership_cmp z m) ∙ like)))))
-
-pub former-role-hidden : (caller : Caller) (state : State) (call : Call) (json : Json) (org user : List ℕ)
-    → is_caller caller call.caller ≡ false
-    → answer_to call (view_of call.caller state) ≡ Accepted json (People (DropRole org user))
-    → IsRoleUnseen caller state.people org user → IsHidden caller state (a_call call)
-former-role-hidden caller state call json org user others answers unseen =
-    let m : Membership = record { org = org; user = user; role = Member } in
-    accepted-hidden caller call json (People (DropRole org user)) state others answers
-    (applied-hidden caller call (People (DropRole org user)) state others refl
-    (roles-hidden caller state (DropRole org user) refl refl
-    (others_standing caller state.people (changed_people (DropRole org user) state.people) user unseen.others refl
-    (λ other name differs. role_in-without_role_other state.people org user other name (inr differs)))
-    (hidden-dropped (pair_at org user) (is_role_seen state.people caller) (is_role_seen state.people caller)
-    state.people.roles
-    (λ z was like. role_hidden caller state.people org user unseen z (sym (is_eq-membership_cmp z m) ∙ like)))))
+    (sym (tables-charged other size now)) there))

@@ -9,7 +9,8 @@ use Rattle.portal_core.specs.History.{calls_of, AreOthersHidden, Exchange, excha
 use Rattle.portal_core.specs.History.{has_no_name_in_use}
 use Rattle.portal_calls.specs.Reply.{is_name_in_use}
 use Rattle.portal_core.specs.State.{State}
-use Rattle.portal_core.specs.Step.{call_step, step_of, replay}
+use Rattle.portal_core.specs.Step.{call_step, step_of}
+use Rattle.portal_hall.specs.History.{replay}
 use Rattle.portal_core.specs.Valid.{IsValid}
 use Rattle.portal_core.specs.View.{view_of}
 use Rattle.portal_calls.specs.declared.event.Event.{Event}
@@ -21,18 +22,18 @@ use Rattle.portal_core.proofs.Settling.{refused-same, step-valid}
 -- ---- an event of somebody else
 
 pub hidden-view : (caller : Caller) (state : State) (event : Event) → IsValid state → IsHidden caller state event
-    → view_of caller (step_of state event).state ≡ view_of caller state
+    → view_of caller (step_of state event).core ≡ view_of caller state
 hidden-view caller state event valid hidden =
-    sym (view_of-hidden caller state (step_of state event).state valid (step-valid state event valid) hidden.between)
+    sym (view_of-hidden caller state (step_of state event).core valid (step-valid state event valid) hidden.between)
 
 -- an event that is refused or hidden leaves what the caller sees
 other-view : (caller : Caller) (state : State) (event : Event) → IsValid state
     → ((step_of state event).is_accepted ≡ true → IsHidden caller state event)
-    → view_of caller (step_of state event).state ≡ view_of caller state
+    → view_of caller (step_of state event).core ≡ view_of caller state
 other-view caller state event valid hidden = by (step_of state event).is_accepted refl
   where
     by : (b : Bool) → (step_of state event).is_accepted ≡ b
-        → view_of caller (step_of state event).state ≡ view_of caller state
+        → view_of caller (step_of state event).core ≡ view_of caller state
     by true is = hidden-view caller state event valid (hidden is)
     by false is = ap (view_of caller) (refused-same state event is)
 
@@ -68,7 +69,7 @@ own_exchanges caller state events = exchanges_of caller state (calls_of caller e
 
 -- the caller sees the same in the end, of one state after all events and of another after its own calls
 abbrev IsSameEnd : Caller → State → State → List Event → Type 0
-IsSameEnd caller s t events = view_of caller (replay s events) ≡ view_of caller (replay t (calls_of caller events))
+IsSameEnd caller s t events = view_of caller (replay step_of s events) ≡ view_of caller (replay step_of t (calls_of caller events))
 
 pub exchanges-alike : (caller : Caller) (s t : State) (events : List Event) → IsValid s → IsValid t
     → view_of caller s ≡ view_of caller t → AreOthersHidden caller s events
@@ -76,24 +77,24 @@ pub exchanges-alike : (caller : Caller) (s t : State) (events : List Event) → 
 exchanges-alike caller s t [] in_s in_t same hidden = tt
 exchanges-alike caller s t (e ∷ events) in_s in_t same hidden =
     by (is_call_of caller e) refl
-    (λ alike. exchanges-alike caller (step_of s e).state (step_of t e).state events (step-valid s e in_s)
+    (λ alike. exchanges-alike caller (step_of s e).core (step_of t e).core events (step-valid s e in_s)
     (step-valid t e in_t) alike hidden.1)
-    (λ alike. exchanges-alike caller (step_of s e).state t events (step-valid s e in_s) in_t alike hidden.1)
+    (λ alike. exchanges-alike caller (step_of s e).core t events (step-valid s e in_s) in_t alike hidden.1)
   where
     by : (b : Bool) → is_call_of caller e ≡ b
-        → (view_of caller (step_of s e).state ≡ view_of caller (step_of t e).state
-        → AreAlike (exchanges_of caller (step_of s e).state events) (own_exchanges caller (step_of t e).state events))
-        → (view_of caller (step_of s e).state ≡ view_of caller t
-        → AreAlike (exchanges_of caller (step_of s e).state events) (own_exchanges caller t events))
+        → (view_of caller (step_of s e).core ≡ view_of caller (step_of t e).core
+        → AreAlike (exchanges_of caller (step_of s e).core events) (own_exchanges caller (step_of t e).core events))
+        → (view_of caller (step_of s e).core ≡ view_of caller t
+        → AreAlike (exchanges_of caller (step_of s e).core events) (own_exchanges caller t events))
         → AreAlike
-        (cond b (exchange_of caller (step_of s e) ∷ exchanges_of caller (step_of s e).state events)
-        (exchanges_of caller (step_of s e).state events))
+        (cond b (exchange_of caller (step_of s e) ∷ exchanges_of caller (step_of s e).core events)
+        (exchanges_of caller (step_of s e).core events))
         (exchanges_of caller t (cond b (e ∷ calls_of caller events) (calls_of caller events)))
     by true is own other =
         subst (λ (b : Bool). AreAlike
-        (exchange_of caller (step_of s e) ∷ exchanges_of caller (step_of s e).state events)
-        (cond b (exchange_of caller (step_of t e) ∷ own_exchanges caller (step_of t e).state events)
-        (own_exchanges caller (step_of t e).state events))) (sym is)
+        (exchange_of caller (step_of s e) ∷ exchanges_of caller (step_of s e).core events)
+        (cond b (exchange_of caller (step_of t e) ∷ own_exchanges caller (step_of t e).core events)
+        (own_exchanges caller (step_of t e).core events))) (sym is)
         (λ first second. let exchange = own-exchange caller s t e is in_s in_t same first second in
         (exchange, own (ap (λ (u : Exchange). u.view) exchange)))
     by false is own other = other (other-view caller s e in_s (hidden.0 is) ∙ same)
@@ -110,23 +111,23 @@ pub ends-alike : (caller : Caller) (s t : State) (events : List Event) → IsVal
     → view_of caller s ≡ view_of caller t → AreOthersHidden caller s events
     → has_no_name_in_use (exchanges_of caller s events) ≡ true
     → has_no_name_in_use (exchanges_of caller t (calls_of caller events)) ≡ true
-    → view_of caller (replay s events) ≡ view_of caller (replay t (calls_of caller events))
+    → view_of caller (replay step_of s events) ≡ view_of caller (replay step_of t (calls_of caller events))
 ends-alike caller s t [] in_s in_t same hidden first second = same
 ends-alike caller s t (e ∷ events) in_s in_t same hidden first second =
     by (is_call_of caller e) refl
-    (λ alike. ends-alike caller (step_of s e).state (step_of t e).state events (step-valid s e in_s)
+    (λ alike. ends-alike caller (step_of s e).core (step_of t e).core events (step-valid s e in_s)
     (step-valid t e in_t) alike hidden.1)
-    (λ alike. ends-alike caller (step_of s e).state t events (step-valid s e in_s) in_t alike hidden.1)
+    (λ alike. ends-alike caller (step_of s e).core t events (step-valid s e in_s) in_t alike hidden.1)
     first second
   where
     own_end : is_call_of caller e ≡ true
-        → (view_of caller (step_of s e).state ≡ view_of caller (step_of t e).state
-        → has_no_name_in_use (exchanges_of caller (step_of s e).state events) ≡ true
-        → has_no_name_in_use (own_exchanges caller (step_of t e).state events) ≡ true
-        → IsSameEnd caller (step_of s e).state (step_of t e).state events)
-        → has_no_name_in_use (exchange_of caller (step_of s e) ∷ exchanges_of caller (step_of s e).state events) ≡ true
-        → has_no_name_in_use (exchange_of caller (step_of t e) ∷ own_exchanges caller (step_of t e).state events) ≡ true
-        → IsSameEnd caller (step_of s e).state (step_of t e).state events
+        → (view_of caller (step_of s e).core ≡ view_of caller (step_of t e).core
+        → has_no_name_in_use (exchanges_of caller (step_of s e).core events) ≡ true
+        → has_no_name_in_use (own_exchanges caller (step_of t e).core events) ≡ true
+        → IsSameEnd caller (step_of s e).core (step_of t e).core events)
+        → has_no_name_in_use (exchange_of caller (step_of s e) ∷ exchanges_of caller (step_of s e).core events) ≡ true
+        → has_no_name_in_use (exchange_of caller (step_of t e) ∷ own_exchanges caller (step_of t e).core events) ≡ true
+        → IsSameEnd caller (step_of s e).core (step_of t e).core events
     own_end is own quiet_s quiet_t =
         let parts_s = both_true _ _ quiet_s in
         let parts_t = both_true _ _ quiet_t in
@@ -134,23 +135,23 @@ ends-alike caller s t (e ∷ events) in_s in_t same hidden first second =
         own (ap (λ (u : Exchange). u.view) exchange) parts_s.1 parts_t.1
 
     by : (b : Bool) → is_call_of caller e ≡ b
-        → (view_of caller (step_of s e).state ≡ view_of caller (step_of t e).state
-        → has_no_name_in_use (exchanges_of caller (step_of s e).state events) ≡ true
-        → has_no_name_in_use (own_exchanges caller (step_of t e).state events) ≡ true
-        → IsSameEnd caller (step_of s e).state (step_of t e).state events)
-        → (view_of caller (step_of s e).state ≡ view_of caller t
-        → has_no_name_in_use (exchanges_of caller (step_of s e).state events) ≡ true
-        → has_no_name_in_use (own_exchanges caller t events) ≡ true → IsSameEnd caller (step_of s e).state t events)
+        → (view_of caller (step_of s e).core ≡ view_of caller (step_of t e).core
+        → has_no_name_in_use (exchanges_of caller (step_of s e).core events) ≡ true
+        → has_no_name_in_use (own_exchanges caller (step_of t e).core events) ≡ true
+        → IsSameEnd caller (step_of s e).core (step_of t e).core events)
+        → (view_of caller (step_of s e).core ≡ view_of caller t
+        → has_no_name_in_use (exchanges_of caller (step_of s e).core events) ≡ true
+        → has_no_name_in_use (own_exchanges caller t events) ≡ true → IsSameEnd caller (step_of s e).core t events)
         → has_no_name_in_use
-        (cond b (exchange_of caller (step_of s e) ∷ exchanges_of caller (step_of s e).state events)
-        (exchanges_of caller (step_of s e).state events)) ≡ true
+        (cond b (exchange_of caller (step_of s e) ∷ exchanges_of caller (step_of s e).core events)
+        (exchanges_of caller (step_of s e).core events)) ≡ true
         → has_no_name_in_use (exchanges_of caller t (cond b (e ∷ calls_of caller events) (calls_of caller events)))
         ≡ true
-        → view_of caller (replay (step_of s e).state events)
-        ≡ view_of caller (replay t (cond b (e ∷ calls_of caller events) (calls_of caller events)))
+        → view_of caller (replay step_of (step_of s e).core events)
+        ≡ view_of caller (replay step_of t (cond b (e ∷ calls_of caller events) (calls_of caller events)))
     by true is own other quiet_s quiet_t =
         own_end is own quiet_s
         (subst (λ (b : Bool). has_no_name_in_use
-        (cond b (exchange_of caller (step_of t e) ∷ own_exchanges caller (step_of t e).state events)
-        (own_exchanges caller (step_of t e).state events)) ≡ true) is quiet_t)
+        (cond b (exchange_of caller (step_of t e) ∷ own_exchanges caller (step_of t e).core events)
+        (own_exchanges caller (step_of t e).core events)) ≡ true) is quiet_t)
     by false is own other quiet_s quiet_t = other (other-view caller s e in_s (hidden.0 is) ∙ same) quiet_s quiet_t

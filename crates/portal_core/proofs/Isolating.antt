@@ -1,5 +1,6 @@
 -- Equal views are answered alike, and what is accepted leaves equal views.
-use Rattle.std.proofs.Common.{◌≡◌, ℕ, true, false, ◌&&◌, List, refl, sym, ap, ◌∙◌, subst, ◌+◌, Option, cond}
+use Rattle.std.proofs.Common.{◌≡◌, ℕ, true, false, ◌&&◌, Bool, List, refl, sym, ap, ◌∙◌, subst, ◌+◌}
+use Rattle.std.proofs.Common.{Option, cond}
 use Rattle.std.specs.Prelude.{filter, unwrap_or, nat_le}
 use Rattle.std.specs.Option.{option_map}
 use Rattle.std.specs.Str.{bytes_eq}
@@ -26,23 +27,30 @@ use Rattle.portal_calls.specs.declared.call.Call.{Call}
 use Rattle.visibility.specs.View.{datasets_seen}
 use Rattle.visibility.specs.Visibility.{is_public_if_harvested}
 use Rattle.visibility.proofs.ViewLemmas.{find-kept, called_by_name}
-use Rattle.portal_core.specs.Answer.{call_view_of, answer_to, quota_of, quota_if, quota_bytes}
-use Rattle.portal_core.specs.Changed.{changed, charged, applied, IsUnused}
-use Rattle.portal_core.specs.Fit.{IsFit}
+use Rattle.datastore_answers.specs.TableAnswers.{map_answer}
 use Rattle.portal_calls.specs.Reply.{is_name_in_use}
-use Rattle.portal_core.specs.State.{State, quota_used_cmp, quota_used_cmp_total, accepted_bytes_of}
-use Rattle.portal_core.specs.State.{accepted_bytes_of_user}
-use Rattle.portal_core.specs.Step.{Outcome, outcome_of, call_step}
+use Rattle.portal_calls.specs.declared.event.Event.TheVariants.{Call as a_call}
+use Rattle.portal_core.specs.Answer.{answer_to, call_view_of, planned_answer, quota_bytes, quota_if, quota_of}
+use Rattle.portal_core.specs.Change.{Change}
+use Rattle.portal_core.specs.Changed.{AreUnused, applied, changed, charged, with_planned}
+use Rattle.portal_core.specs.Fit.{IsFit}
+use Rattle.portal_core.specs.Known.{is_known, known_call}
+use Rattle.portal_core.specs.Planned.{PlannedChange, People, Datasets, Tables, change_of, claims_of}
+use Rattle.portal_core.specs.State.{State, accepted_bytes_of, accepted_bytes_of_user, quota_used_cmp}
+use Rattle.portal_core.specs.State.{quota_used_cmp_total}
+use Rattle.portal_core.specs.Step.{Outcome, answer_in, call_step, known_step, outcome_of}
 use Rattle.portal_core.specs.Valid.{IsValid}
-use Rattle.portal_core.specs.View.{view_of, is_own_quota}
-use Rattle.portal_core.specs.Change.{Change, People, Datasets, Tables}
+use Rattle.portal_core.specs.View.{is_own_quota, view_of}
 use Rattle.portal_core.specs.declared.quota.QuotaUsed.{QuotaUsed}
 use Rattle.portal_core.proofs.Answering.{answer_fit}
+use Rattle.portal_core.proofs.ChangeEntries.{applied-planned}
 use Rattle.portal_core.proofs.Changing.{IsOwn, IsOwnChange, IsOwnDatasets, changed-seen, same_state}
 use Rattle.portal_core.proofs.Fitting.{fit_in_state}
 use Rattle.portal_core.proofs.Keeping.{harvested_open, no-tables}
+use Rattle.portal_core.proofs.Knowing.{calls-alike, known-alike, known-call, known-views_alike}
+use Rattle.portal_core.proofs.Nobody.{nobody-refused}
+use Rattle.portal_core.proofs.Settling.{accepted-unused, outcome_unused, quiet-unused, refused-same}
 use Rattle.portal_core.proofs.TableViewing.{own-id}
-use Rattle.portal_core.proofs.Settling.{quiet-unused, accepted-unused, outcome_unused}
 
 -- ---- replies
 
@@ -57,16 +65,29 @@ settled_alike (Accepted json change) call s t first second =
       outcome_unused json change call t (quiet-unused json change call t second),
     ) refl
 
+known-replies_alike : (s t : State) (call : Call) → view_of call.caller s ≡ view_of call.caller t
+    → is_name_in_use (known_step s call).reply ≡ false → is_name_in_use (known_step t call).reply ≡ false
+    → (known_step s call).reply ≡ (known_step t call).reply
+known-replies_alike s t call same first second =
+    let onto : answer_in s call ≡ answer_in t call = ap (answer_to call) same in
+    let first_there : is_name_in_use (outcome_of (answer_in t call) call s).reply ≡ false =
+    subst (λ (a : Answer Change). is_name_in_use (outcome_of a call s).reply ≡ false) onto first in
+    ap (λ (a : Answer Change). (outcome_of a call s).reply) onto
+    ∙ settled_alike (answer_in t call) call s t first_there second
+
+-- the step in the second state, by the caller as the first state knows it
+step-there : (s t : State) (call : Call) → view_of call.caller s ≡ view_of call.caller t
+    → call_step t call ≡ known_step t (known_call s.people call)
+step-there s t call same = ap (known_step t) (sym (calls-alike call s t same))
+
 pub replies_alike : (s t : State) (call : Call) → view_of call.caller s ≡ view_of call.caller t
     → is_name_in_use (call_step s call).reply ≡ false → is_name_in_use (call_step t call).reply ≡ false
     → (call_step s call).reply ≡ (call_step t call).reply
 replies_alike s t call same first second =
-    let onto : answer_to call (view_of call.caller s) ≡ answer_to call (view_of call.caller t) =
-    ap (answer_to call) same in
-    let first_there : is_name_in_use (outcome_of (answer_to call (view_of call.caller t)) call s).reply ≡ false =
-    subst (λ (a : Answer Change). is_name_in_use (outcome_of a call s).reply ≡ false) onto first in
-    ap (λ (a : Answer Change). (outcome_of a call s).reply) onto
-    ∙ settled_alike (answer_to call (view_of call.caller t)) call s t first_there second
+    let there : call_step t call ≡ known_step t (known_call s.people call) = step-there s t call same in
+    known-replies_alike s t (known_call s.people call) (known-views_alike call s t same) first
+    (subst (λ (o : Outcome). is_name_in_use o.reply ≡ false) there second)
+    ∙ sym (ap (λ (o : Outcome). o.reply) there)
 
 -- ---- what is charged
 
@@ -141,7 +162,7 @@ own-people (DropRole org user) call state fit = fit.fit.own.administered
 own-datasets : (change : DatasetChange) (call : Call) (state : State) → IsValid state
     → IsFitDataset (call_view_of call (view_of call.caller state)) (summaries_of (view_of call.caller state).tables)
     change
-    → IsUnused state (Datasets change) → IsOwnDatasets call.caller state change
+    → AreUnused state (claims_of (Datasets change)) → IsOwnDatasets call.caller state change
 own-datasets (dataset.Create d) call state valid fit unused = no-tables d state valid unused
 own-datasets (dataset.Replace d) call state valid fit unused =
     let seen : List Package = datasets_seen call.caller state.people state.datasets in
@@ -149,8 +170,8 @@ own-datasets (dataset.Replace d) call state valid fit unused =
     (own-id fit.old seen (IsIn-Contains fit.old seen fit.is_present))
 own-datasets (dataset.Remove id) call state valid fit unused = tt
 
-own : (change : Change) (call : Call) (state : State) → IsValid state
-    → IsFit call (view_of call.caller state) change → IsUnused state change → IsOwn call.caller state change
+own : (change : PlannedChange) (call : Call) (state : State) → IsValid state
+    → IsFit call (view_of call.caller state) change → AreUnused state (claims_of change) → IsOwn call.caller state change
 own (People change) call state valid fit unused =
     own-people change call state
     (fit_in_state (People change) call state (harvested_open state valid) fit)
@@ -158,64 +179,108 @@ own (Datasets change) call state valid fit unused = own-datasets change call sta
 own (Tables change) call state valid fit unused = tt
 
 -- a change leaves what was charged
-quota_used-left : (change : Change) (state : State) → (changed change state).quota_used ≡ state.quota_used
+quota_used-left : (change : PlannedChange) (state : State) → (changed change state).quota_used ≡ state.quota_used
 quota_used-left (People change) state = refl
 quota_used-left (Datasets change) state = refl
 quota_used-left (Tables change) state = refl
 
 -- the caller sees of the changed state what it sees of its view with the change made in it
-changed-there : (change : Change) (call : Call) (state : State) → IsValid state
-    → IsFit call (view_of call.caller state) change → IsUnused state change
+changed-there : (change : PlannedChange) (call : Call) (state : State) → IsValid state
+    → IsFit call (view_of call.caller state) change → AreUnused state (claims_of change)
     → view_of call.caller (changed change (view_of call.caller state)) ≡ view_of call.caller (changed change state)
 changed-there change call state valid fit unused =
     changed-seen change call.caller state valid.people.roles valid.datasets valid.tables.ascending
     (λ d within. list_all-IsIn is_public_if_harvested state.datasets (harvested_open state valid) d within)
     (own change call state valid fit unused)
 
-made_alike : (change : Change) (call : Call) (s t : State) → IsValid s → IsValid t
-    → view_of call.caller s ≡ view_of call.caller t → IsFit call (view_of call.caller t) change
-    → IsUnused s change → IsUnused t change
-    → view_of call.caller (applied call change s) ≡ view_of call.caller (applied call change t)
-made_alike change call s t in_s in_t same fit unused_s unused_t =
-    let fit_s : IsFit call (view_of call.caller s) change =
-    subst (λ (v : State). IsFit call v change) (sym same) fit in
-    charged_alike call.caller call.size (changed change s) (changed change t)
-    (subst (IsAscending quota_used_cmp) (sym (quota_used-left change s)) in_s.quota_used)
-    (subst (IsAscending quota_used_cmp) (sym (quota_used-left change t)) in_t.quota_used)
-    (sym (changed-there change call s in_s fit_s unused_s)
-    ∙ ap (λ (v : State). view_of call.caller (changed change v)) same
-    ∙ changed-there change call t in_t fit unused_t)
+made_alike : (planned : PlannedChange) (call : Call) (s t : State) → IsValid s → IsValid t
+    → view_of call.caller s ≡ view_of call.caller t → IsFit call (view_of call.caller t) planned
+    → AreUnused s (claims_of planned) → AreUnused t (claims_of planned)
+    → view_of call.caller (with_planned call planned s) ≡ view_of call.caller (with_planned call planned t)
+made_alike planned call s t in_s in_t same fit unused_s unused_t =
+    let fit_s : IsFit call (view_of call.caller s) planned =
+    subst (λ (v : State). IsFit call v planned) (sym same) fit in
+    charged_alike call.caller call.size (changed planned s) (changed planned t)
+    (subst (IsAscending quota_used_cmp) (sym (quota_used-left planned s)) in_s.quota_used)
+    (subst (IsAscending quota_used_cmp) (sym (quota_used-left planned t)) in_t.quota_used)
+    (sym (changed-there planned call s in_s fit_s unused_s)
+    ∙ ap (λ (v : State). view_of call.caller (changed planned v)) same
+    ∙ changed-there planned call t in_t fit unused_t)
+
+-- the answer with its change written out as entries, on the caller's view of this state
+abbrev written : Call → State → Answer PlannedChange → Answer Change
+written call state answer = map_answer (λ planned. change_of planned (view_of call.caller state)) answer
+
+-- so do the entries of the change, written out on the view
+applied_alike : (planned : PlannedChange) (call : Call) (s t : State) → IsValid s → IsValid t
+    → view_of call.caller s ≡ view_of call.caller t → IsFit call (view_of call.caller t) planned
+    → AreUnused s (claims_of planned) → AreUnused t (claims_of planned)
+    → view_of call.caller (applied call (change_of planned (view_of call.caller t)) s)
+    ≡ view_of call.caller (applied call (change_of planned (view_of call.caller t)) t)
+applied_alike planned call s t in_s in_t same fit unused_s unused_t =
+    ap (view_of call.caller)
+    (ap (λ (v : State). applied call (change_of planned v) s) (sym same)
+    ∙ applied-planned planned call s in_s (subst (λ (v : State). IsFit call v planned) (sym same) fit))
+    ∙ made_alike planned call s t in_s in_t same fit unused_s unused_t
+    ∙ ap (view_of call.caller) (sym (applied-planned planned call t in_t fit))
 
 -- ---- views
 
 -- what one answer leaves in states of equal views, where neither reply is that a name or an id is in use
-quiet_views : (answer : Answer Change) (call : Call) (s t : State) → IsValid s → IsValid t
+quiet_views : (answer : Answer PlannedChange) (call : Call) (s t : State) → IsValid s → IsValid t
     → view_of call.caller s ≡ view_of call.caller t
     → AcceptsOnly (IsFit call (view_of call.caller t)) answer
-    → is_name_in_use (outcome_of answer call s).reply ≡ false → is_name_in_use (outcome_of answer call t).reply ≡ false
-    → view_of call.caller (outcome_of answer call s).state ≡ view_of call.caller (outcome_of answer call t).state
+    → is_name_in_use (outcome_of (written call t answer) call s).reply ≡ false
+    → is_name_in_use (outcome_of (written call t answer) call t).reply ≡ false
+    → view_of call.caller (outcome_of (written call t answer) call s).core
+    ≡ view_of call.caller (outcome_of (written call t answer) call t).core
 quiet_views (Shown json) call s t in_s in_t same fit first second = same
 quiet_views (Refused denial) call s t in_s in_t same fit first second = same
-quiet_views (Accepted json change) call s t in_s in_t same fit first second =
-    ap (λ (o : Outcome). view_of call.caller o.state)
-    (outcome_unused json change call s (quiet-unused json change call s first))
-    ∙ made_alike change call s t in_s in_t same fit (quiet-unused json change call s first)
-    (quiet-unused json change call t second)
-    ∙ sym (ap (λ (o : Outcome). view_of call.caller o.state)
-    (outcome_unused json change call t (quiet-unused json change call t second)))
+quiet_views (Accepted json planned) call s t in_s in_t same fit first second =
+    let change : Change = change_of planned (view_of call.caller t) in
+    let unused_s : AreUnused s (claims_of planned) = quiet-unused json change call s first in
+    let unused_t : AreUnused t (claims_of planned) = quiet-unused json change call t second in
+    ap (λ (o : Outcome). view_of call.caller o.core) (outcome_unused json change call s unused_s)
+    ∙ applied_alike planned call s t in_s in_t same fit unused_s unused_t
+    ∙ sym (ap (λ (o : Outcome). view_of call.caller o.core) (outcome_unused json change call t unused_t))
+
+known-quiet_views : (s t : State) (call : Call) → IsValid s → IsValid t
+    → view_of call.caller s ≡ view_of call.caller t
+    → is_name_in_use (known_step s call).reply ≡ false → is_name_in_use (known_step t call).reply ≡ false
+    → view_of call.caller (known_step s call).core ≡ view_of call.caller (known_step t call).core
+known-quiet_views s t call in_s in_t same first second =
+    let onto : answer_in s call ≡ answer_in t call = ap (answer_to call) same in
+    let first_there : is_name_in_use (outcome_of (answer_in t call) call s).reply ≡ false =
+    subst (λ (a : Answer Change). is_name_in_use (outcome_of a call s).reply ≡ false) onto first in
+    ap (λ (a : Answer Change). view_of call.caller (outcome_of a call s).core) onto
+    ∙ quiet_views (planned_answer call (view_of call.caller t)) call s t in_s in_t same
+    (answer_fit call (view_of call.caller t)) first_there second
 
 pub quiet_views_alike : (s t : State) (call : Call) → IsValid s → IsValid t
     → view_of call.caller s ≡ view_of call.caller t
     → is_name_in_use (call_step s call).reply ≡ false → is_name_in_use (call_step t call).reply ≡ false
-    → view_of call.caller (call_step s call).state ≡ view_of call.caller (call_step t call).state
-quiet_views_alike s t call in_s in_t same first second =
-    let onto : answer_to call (view_of call.caller s) ≡ answer_to call (view_of call.caller t) =
-    ap (answer_to call) same in
-    let first_there : is_name_in_use (outcome_of (answer_to call (view_of call.caller t)) call s).reply ≡ false =
-    subst (λ (a : Answer Change). is_name_in_use (outcome_of a call s).reply ≡ false) onto first in
-    ap (λ (a : Answer Change). view_of call.caller (outcome_of a call s).state) onto
-    ∙ quiet_views (answer_to call (view_of call.caller t)) call s t in_s in_t same
-    (answer_fit call (view_of call.caller t)) first_there second
+    → view_of call.caller (call_step s call).core ≡ view_of call.caller (call_step t call).core
+quiet_views_alike s t call in_s in_t same first second = by (is_known s.people call.caller) refl
+  where
+    first_known : known_call s.people call ≡ call → is_name_in_use (known_step s call).reply ≡ false
+    first_known is = subst (λ (c : Call). is_name_in_use (known_step s c).reply ≡ false) is first
+
+    second_known : known_call t.people call ≡ call → is_name_in_use (known_step t call).reply ≡ false
+    second_known is = subst (λ (c : Call). is_name_in_use (known_step t c).reply ≡ false) is second
+
+    by : (b : Bool) → is_known s.people call.caller ≡ b
+        → view_of call.caller (call_step s call).core ≡ view_of call.caller (call_step t call).core
+    by true is =
+        let in_first : known_call s.people call ≡ call = known-call s.people call is in
+        let in_second : known_call t.people call ≡ call = sym (calls-alike call s t same) ∙ in_first in
+        ap (λ (c : Call). view_of call.caller (known_step s c).core) in_first
+        ∙ known-quiet_views s t call in_s in_t same (first_known in_first) (second_known in_second)
+        ∙ sym (ap (λ (c : Call). view_of call.caller (known_step t c).core) in_second)
+    by false is =
+        ap (view_of call.caller) (refused-same s (a_call call) (nobody-refused s call is))
+        ∙ same
+        ∙ sym (ap (view_of call.caller) (refused-same t (a_call call)
+        (nobody-refused t call (sym (known-alike call.caller call.caller s t same) ∙ is))))
 
 -- the reply to an accepted call is not that a name or an id is in use
 accepted-quiet : (answer : Answer Change) (call : Call) (state : State)
@@ -228,8 +293,9 @@ accepted-quiet (Accepted json change) call state is =
 pub views_alike : (s t : State) (call : Call) → IsValid s → IsValid t
     → view_of call.caller s ≡ view_of call.caller t
     → (call_step s call).is_accepted ≡ true → (call_step t call).is_accepted ≡ true
-    → view_of call.caller (call_step s call).state ≡ view_of call.caller (call_step t call).state
+    → view_of call.caller (call_step s call).core ≡ view_of call.caller (call_step t call).core
 views_alike s t call in_s in_t same first second =
-    quiet_views_alike s t call in_s in_t same
-    (accepted-quiet (answer_to call (view_of call.caller s)) call s first)
-    (accepted-quiet (answer_to call (view_of call.caller t)) call t second)
+    let first_call : Call = known_call s.people call in
+    let second_call : Call = known_call t.people call in
+    quiet_views_alike s t call in_s in_t same (accepted-quiet (answer_in s first_call) first_call s first)
+    (accepted-quiet (answer_in t second_call) second_call t second)

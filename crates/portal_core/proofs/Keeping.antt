@@ -60,14 +60,16 @@ use Rattle.visibility.specs.TableSummary.{is_among, breaks_references}
 use Rattle.portal_calls.specs.declared.call.Call.{Call}
 use Rattle.visibility.specs.Visibility.{is_harvested, is_public_if_harvested, is_public}
 use Rattle.portal_core.specs.Answer.{call_view_of}
-use Rattle.portal_core.specs.Changed.{changed, charged, is_in_use, IsUnused}
+use Rattle.portal_core.specs.Planned.{PlannedChange, People, Datasets, Tables, claims_of}
+use Rattle.portal_core.specs.Changed.{AreUnused, changed, charged, is_in_use}
 use Rattle.portal_core.specs.Fit.{IsFit}
 use Rattle.portal_core.specs.Opened.{opened, is_opening}
 use Rattle.portal_core.specs.State.{State, quota_used_cmp, quota_used_cmp_total, accepted_bytes_of_user}
+use Rattle.portal_core.proofs.Fitting.{fit_in_state}
 use Rattle.portal_core.proofs.Kept.{All-mapped, IsIn-slice_get, unique-at}
 use Rattle.portal_core.proofs.TableViewing.{any-among, made-address}
 use Rattle.portal_core.specs.Valid.{HasHome, IsValid}
-use Rattle.portal_core.specs.Change.{Change, People, Datasets, Tables}
+use Rattle.portal_core.specs.View.{view_of}
 use Rattle.portal_core.specs.declared.change.Claim.TheVariants.{OrgName, DatasetName, DatasetId}
 use Rattle.portal_core.specs.declared.portal.Opening.{Opening}
 
@@ -157,7 +159,7 @@ free_name (Some org) is = absurd (cc)
 
 -- a change that is fit, and claims nothing that is in use, is refused for nothing
 pub unfaulted : (change : OrgChange) (call : Call) (state : State) → IsFitOrg (call_view_of call state) change
-    → IsUnused state (People change) → is_none (org_fault change state.people) ≡ true
+    → AreUnused state (claims_of (People change)) → is_none (org_fault change state.people) ≡ true
 unfaulted (Create org) call state fit unused =
     free_name (org_in state.people org.name) (first_unused (is_in_use state) (OrgName org.name) [] unused).0
 unfaulted (Patch org) call state fit unused = stands_and (org_in state.people org.name) None fit.exists refl
@@ -239,7 +241,7 @@ at-home people d was is stands = record {
 }
 
 people-valid : (change : OrgChange) (call : Call) (state : State) → IsValid state
-    → IsFitOrg (call_view_of call state) change → IsUnused state (People change)
+    → IsFitOrg (call_view_of call state) change → AreUnused state (claims_of (People change))
     → IsValid (changed (People change) state)
 people-valid change call state valid fit unused = record {
   people = AreSorted-changed change state.people valid.people;
@@ -306,7 +308,7 @@ placed-valid d tables state valid sound free kept homes = record {
 -- ---- the tables of datasets
 
 -- no table is of a dataset whose id isn't in use
-pub no-tables : (d : Package) (state : State) → IsValid state → IsUnused state (Datasets (dataset.Create d))
+pub no-tables : (d : Package) (state : State) → IsValid state → AreUnused state (claims_of (Datasets (dataset.Create d)))
     → (t : ResourceTable) → IsIn t state.tables → bytes_eq t.address.dataset d.id ≡ false
 no-tables d state valid unused t within =
     let unnamed = first_unused (is_in_use state) (DatasetName d.name) (DatasetId d.id ∷ []) unused in
@@ -416,7 +418,7 @@ left-homes id state valid =
     apart false is = refl
 
 datasets-valid : (change : DatasetChange) (call : Call) (state : State) → IsValid state
-    → IsFitDataset (call_view_of call state) (summaries_of state.tables) change → IsUnused state (Datasets change)
+    → IsFitDataset (call_view_of call state) (summaries_of state.tables) change → AreUnused state (claims_of (Datasets change))
     → IsValid (changed (Datasets change) state)
 datasets-valid (dataset.Create d) call state valid fit unused =
     let unnamed : has_name d.name state.datasets ≡ false =
@@ -511,8 +513,8 @@ tables-valid change call state valid fit = record {
 
 -- ---- a change, and what is charged for it
 
-pub changed_valid : (change : Change) (call : Call) (state : State) → IsValid state
-    → IsFit call state change → IsUnused state change → IsValid (changed change state)
+pub changed_valid : (change : PlannedChange) (call : Call) (state : State) → IsValid state
+    → IsFit call state change → AreUnused state (claims_of change) → IsValid (changed change state)
 changed_valid (People change) call state valid fit unused = people-valid change call state valid fit unused
 changed_valid (Datasets change) call state valid fit unused = datasets-valid change call state valid fit unused
 changed_valid (Tables change) call state valid fit unused = tables-valid change call state valid fit
@@ -543,3 +545,8 @@ pub harvested_open : (state : State) → IsValid state → list_all is_public_if
 harvested_open state valid =
     IsIn-list_all is_public_if_harvested state.datasets
     (λ d within. made-here_open d (All-IsIn (IsSound state.people) state.datasets valid.sound d within).not_harvested)
+
+-- In a valid state what is fit on the caller's view is fit to be made.
+pub fit_in_valid : (change : PlannedChange) (call : Call) (state : State) → IsValid state
+    → IsFit call (view_of call.caller state) change → IsFit call state change
+fit_in_valid change call state valid fit = fit_in_state change call state (harvested_open state valid) fit

@@ -13,16 +13,19 @@ use Rattle.dataset_answers.specs.declared.change.DatasetChange.{DatasetChange}
 use Rattle.datastore_answers.proofs.FitLemmas.{info_only}
 use Rattle.datastore_answers.specs.Changed.{TableChange}
 use Rattle.datastore_answers.specs.Summaries.{summaries_of}
-use Rattle.datastore_answers.specs.TableAnswers.{TableAcceptsOnly}
+use Rattle.datastore_answers.specs.TableAnswers.{TableAcceptsOnly, map_answer}
 use Rattle.datastore_answers.specs.declared.answer.TableAnswer.{TableAnswer}
 use Rattle.datastore_answers.specs.declared.answer.TableAnswer.TheVariants.{NoTable, Answered}
 use Rattle.datastore_answers.specs.declared.resource_table.ResourceTable.{ResourceTable}
 use Rattle.org_roles.specs.declared.change.OrgChange.{OrgChange}
 use Rattle.organization_answers.proofs.Fitting as organization
 use Rattle.visibility.specs.CallView.{CallView}
+use Rattle.portal_calls.specs.declared.event.Event.TheVariants.{Call as a_call}
 use Rattle.portal_core.proofs.Answering.{search_only}
-use Rattle.portal_core.specs.Answer.{answer_on, answer_to, call_view_of, of_people, of_datasets, of_tables}
-use Rattle.portal_core.specs.Change.{Change}
+use Rattle.portal_core.proofs.Settling.{refused-same}
+use Rattle.portal_core.specs.Answer.{answer_on, call_view_of, of_people, of_datasets, of_tables, planned_answer}
+use Rattle.portal_core.specs.Known.{known_call}
+use Rattle.portal_core.specs.Planned.{PlannedChange, change_of}
 use Rattle.portal_core.specs.State.{State}
 use Rattle.portal_core.specs.Step.{call_step, outcome_of}
 use Rattle.portal_core.specs.View.{view_of}
@@ -78,17 +81,21 @@ by_action action.DatastoreSearch view tables reads = of_tables-nothing _ (search
 by_action action.DatastoreInfo view tables reads = of_tables-nothing _ (info_only (λ change. ⊥) view tables)
 
 pub reading-nothing : (call : Call) (view : State) → is_reading call.request.action ≡ true
-    → AcceptsNothing (answer_to call view)
+    → AcceptsNothing (planned_answer call view)
 reading-nothing call view reads = by_action call.request.action (call_view_of call view) view.tables reads
 
-nothing-same : (answer : Answer Change) (call : Call) (state : State) → AcceptsNothing answer
-    → ((outcome_of answer call state).is_accepted ≡ false) × ((outcome_of answer call state).state ≡ state)
-nothing-same (Shown json) call state none = (refl, refl)
-nothing-same (Refused denial) call state none = (refl, refl)
-nothing-same (Accepted json change) call state none = absurd none
+nothing-same : (answer : Answer PlannedChange) (call : Call) (state : State) → AcceptsNothing answer
+    → (outcome_of (map_answer (λ planned. change_of planned (view_of call.caller state)) answer) call state).is_accepted
+    ≡ false
+nothing-same (Shown json) call state none = refl
+nothing-same (Refused denial) call state none = refl
+nothing-same (Accepted json planned) call state none = absurd none
 
 pub reading-same : (state : State) (call : Call) → is_reading call.request.action ≡ true
-    → ((call_step state call).is_accepted ≡ false) × ((call_step state call).state ≡ state)
+    → ((call_step state call).is_accepted ≡ false) × ((call_step state call).core ≡ state)
 reading-same state call reads =
-    nothing-same (answer_to call (view_of call.caller state)) call state
-    (reading-nothing call (view_of call.caller state) reads)
+    let known : Call = known_call state.people call in
+    let none : (call_step state call).is_accepted ≡ false =
+    nothing-same (planned_answer known (view_of known.caller state)) known state
+    (reading-nothing known (view_of known.caller state) reads) in
+    (none, refused-same state (a_call call) none)

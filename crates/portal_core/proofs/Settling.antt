@@ -1,39 +1,48 @@
 -- What an answer comes to in a state.
-use Rattle.std.proofs.Common.{◌≡◌, ◌≢◌, true, false, List, [], ◌∷◌, ◌++◌, Option, Some, None, refl, sym, ap, ◌∙◌, subst}
+use Rattle.std.proofs.Common.{◌≡◌, ◌≢◌, ℕ, true, false, List, [], ◌∷◌, ◌++◌, Option, Some, None, refl, sym, ap, ◌∙◌, subst}
 use Rattle.std.specs.Prelude.{find, IsSome}
+use Rattle.portal_base.specs.declared.caller.Caller.{Caller}
+use Rattle.portal_base.specs.declared.caller.Caller.TheVariants.{Named}
 use Rattle.portal_base.specs.declared.json_value.Json.{Json}
+use Rattle.org_roles.specs.PeopleLists.{is_user_in}
+use Rattle.datastore_answers.specs.TableAnswers.{map_answer}
 use Rattle.portal_calls.specs.Answer.{AcceptsOnly}
 use Rattle.portal_calls.specs.declared.answer.Answer.{Answer}
 use Rattle.portal_calls.specs.declared.answer.Answer.TheVariants.{Shown, Refused, Accepted}
 use Rattle.portal_calls.specs.declared.call.Call.{Call}
-use Rattle.packages.specs.Shelf.{IsValidShelf}
-use Rattle.portal_core.specs.Answer.{answer_to}
-use Rattle.portal_core.specs.Changed.{changed, applied, claims_of, is_in_use, IsUnused}
-use Rattle.portal_core.specs.Fit.{IsFit}
-use Rattle.portal_calls.specs.Reply.{is_name_in_use}
-use Rattle.portal_core.specs.Parts.{IsConsistent, state_of}
-use Rattle.portal_core.specs.State.{State}
-use Rattle.portal_core.specs.Step.{outcome_of, outcome_unless_in_use, call_step, step_of, replay}
-use Rattle.portal_core.specs.Valid.{IsValid}
-use Rattle.portal_core.specs.View.{view_of}
-use Rattle.portal_core.specs.Change.{Change}
-use Rattle.portal_core.specs.declared.change.Claim.{Claim}
+use Rattle.portal_calls.specs.Reply.{is_change, is_name_in_use}
 use Rattle.portal_calls.specs.declared.event.Event.{Event}
 use Rattle.portal_calls.specs.declared.event.Event.TheVariants.{Call as a_call}
 use Rattle.portal_calls.specs.declared.event.Refusal.TheVariants.{OutOfMemory}
 use Rattle.portal_calls.specs.declared.event.Reply.TheVariants as reply
-use Rattle.portal_core.specs.declared.parts.Parts.{Parts}
 use Rattle.portal_calls.proofs.Refusing.{quiet-refusal, refusal_there}
+use Rattle.portal_hall.specs.History.{replay}
+use Rattle.packages.specs.Shelf.{IsValidShelf}
+use Rattle.portal_core.specs.Answer.{answer_to, planned_answer}
+use Rattle.portal_core.specs.Change.{Change}
+use Rattle.portal_core.specs.Changed.{AreUnused, IsUnused, applied, changed, is_in_use, with_planned}
+use Rattle.portal_core.specs.Fit.{IsFit}
+use Rattle.portal_core.specs.Known.{is_known, known_call}
+use Rattle.portal_core.specs.Parts.{IsConsistent, state_of}
+use Rattle.portal_core.specs.Planned.{PlannedChange, change_of, claims_of}
+use Rattle.portal_core.specs.State.{State}
+use Rattle.portal_core.specs.Step.{answer_in, call_step, known_step, outcome_of, outcome_unless_in_use, planned_outcome}
+use Rattle.portal_core.specs.Step.{step_of}
+use Rattle.portal_core.specs.Valid.{IsValid}
+use Rattle.portal_core.specs.View.{view_of}
+use Rattle.portal_core.specs.declared.change.Claim.{Claim}
+use Rattle.portal_core.specs.declared.parts.Parts.{Parts}
 use Rattle.portal_core.proofs.Answering.{answer_fit}
-use Rattle.portal_core.proofs.Fitting.{fit_in_state}
-use Rattle.portal_core.proofs.Keeping.{changed_valid, charged_valid, harvested_open}
+use Rattle.portal_core.proofs.ChangeEntries.{applied-planned}
+use Rattle.portal_core.proofs.Keeping.{changed_valid, charged_valid, fit_in_valid}
+use Rattle.portal_core.proofs.Knowing.{by_nobody, unknown-call}
 
 -- ---- what is accepted
 
 -- a change without a reply of a name in use claims nothing in use
 pub quiet-unused : (json : Json) (change : Change) (call : Call) (state : State)
     → is_name_in_use (outcome_of (Accepted json change) call state).reply ≡ false → IsUnused state change
-quiet-unused json change call state quiet = by (find (is_in_use state) (claims_of change)) quiet
+quiet-unused json change call state quiet = by (find (is_in_use state) change.claims) quiet
   where
     by : (claim : Option Claim) → is_name_in_use (outcome_unless_in_use claim call json change state).reply ≡ false
         → claim ≡ None
@@ -43,7 +52,7 @@ quiet-unused json change call state quiet = by (find (is_in_use state) (claims_o
 -- and so does what is accepted
 pub accepted-unused : (json : Json) (change : Change) (call : Call) (state : State)
     → (outcome_of (Accepted json change) call state).is_accepted ≡ true → IsUnused state change
-accepted-unused json change call state made_there = by (find (is_in_use state) (claims_of change)) made_there
+accepted-unused json change call state made_there = by (find (is_in_use state) change.claims) made_there
   where
     by : (claim : Option Claim) → (outcome_unless_in_use claim call json change state).is_accepted ≡ true → claim ≡ None
     by None m = refl
@@ -52,16 +61,33 @@ accepted-unused json change call state made_there = by (find (is_in_use state) (
 -- what claims nothing in use is accepted
 pub outcome_unused : (json : Json) (change : Change) (call : Call) (state : State) → IsUnused state change
     → outcome_of (Accepted json change) call state
-    ≡ (record { reply = reply.Accepted json; is_accepted = true; state = applied call change state })
+    ≡ (record { core = applied call change state; reply = reply.Accepted json; is_accepted = true })
 outcome_unused json change call state unused =
     ap (λ (claim : Option Claim). outcome_unless_in_use claim call json change state) unused
+
+-- An accepted change is a planned one, written out on the view.
+pub accepted-planned : (call : Call) (view : State) (json : Json) (change : Change)
+    → answer_to call view ≡ Accepted json change
+    → (planned : PlannedChange) × (planned_answer call view ≡ Accepted json planned) × (change ≡ change_of planned view)
+accepted-planned call view json change is = by (planned_answer call view) refl is
+  where
+    by : (answer : Answer PlannedChange) → planned_answer call view ≡ answer
+        → map_answer (λ planned. change_of planned view) answer ≡ Accepted json change
+        → (planned : PlannedChange) × (planned_answer call view ≡ Accepted json planned)
+        × (change ≡ change_of planned view)
+    by (Shown shown) there same = absurd (cc)
+    by (Refused denial) there same = absurd (cc)
+    by (Accepted value planned) there same =
+        let as_json : value ≡ json = cc in
+        let as_change : change_of planned view ≡ change = cc in
+        (planned, there ∙ ap (λ (j : Json). Accepted j planned) as_json, sym as_change)
 
 -- ---- replies of a name in use
 
 told-used : (json : Json) (change : Change) (call : Call) (state : State)
     → is_name_in_use (outcome_of (Accepted json change) call state).reply ≡ true
-    → IsSome (find (is_in_use state) (claims_of change))
-told-used json change call state told = by (find (is_in_use state) (claims_of change)) told
+    → IsSome (find (is_in_use state) change.claims)
+told-used json change call state told = by (find (is_in_use state) change.claims) told
   where
     by : (claim : Option Claim) → is_name_in_use (outcome_unless_in_use claim call json change state).reply ≡ true
         → IsSome claim
@@ -70,59 +96,101 @@ told-used json change call state told = by (find (is_in_use state) (claims_of ch
 
 -- only an answer that accepts can get the reply of a name in use
 pub used-accepted : (state : State) (call : Call) → is_name_in_use (call_step state call).reply ≡ true
-    → (json : Json) × (change : Change) × (answer_to call (view_of call.caller state) ≡ Accepted json change)
-    × IsSome (find (is_in_use state) (claims_of change))
-used-accepted state call told = by (answer_to call (view_of call.caller state)) refl told
+    → (json : Json) × (change : Change) × (answer_in state (known_call state.people call) ≡ Accepted json change)
+    × IsSome (find (is_in_use state) change.claims)
+used-accepted state call told = by (answer_in state (known_call state.people call)) refl told
   where
-    by : (answer : Answer Change) → answer_to call (view_of call.caller state) ≡ answer
-        → is_name_in_use (outcome_of answer call state).reply ≡ true
-        → (json : Json) × (change : Change) × (answer_to call (view_of call.caller state) ≡ Accepted json change)
-        × IsSome (find (is_in_use state) (claims_of change))
+    by : (answer : Answer Change) → answer_in state (known_call state.people call) ≡ answer
+        → is_name_in_use (outcome_of answer (known_call state.people call) state).reply ≡ true
+        → (json : Json) × (change : Change) × (answer_in state (known_call state.people call) ≡ Accepted json change)
+        × IsSome (find (is_in_use state) change.claims)
     by (Shown json) is t = absurd (cc)
     by (Refused denial) is t = absurd (let quiet = quiet-refusal denial in cc)
-    by (Accepted json change) is t = (json, change, is, told-used json change call state t)
+    by (Accepted json change) is t = (json, change, is, told-used json change (known_call state.people call) state t)
 
 -- and an answer that accepts and claims nothing in use is made
 pub unused-applied : (state : State) (call : Call) (json : Json) (change : Change)
-    → answer_to call (view_of call.caller state) ≡ Accepted json change → IsUnused state change
+    → answer_in state (known_call state.people call) ≡ Accepted json change → IsUnused state change
     → call_step state call
-    ≡ (record { reply = reply.Accepted json; is_accepted = true; state = applied call change state })
+    ≡ (record {
+      core = applied (known_call state.people call) change state;
+      reply = reply.Accepted json;
+      is_accepted = true;
+    })
 unused-applied state call json change accepted unused =
-    ap (λ (answer : Answer Change). outcome_of answer call state) accepted
-    ∙ outcome_unused json change call state unused
+    ap (λ (answer : Answer Change). outcome_of answer (known_call state.people call) state) accepted
+    ∙ outcome_unused json change (known_call state.people call) state unused
 
 -- ---- what isn't accepted
 
-outcome_of-same : (answer : Answer Change) (call : Call) (state : State) → (outcome_of answer call state).is_accepted
-    ≡ false
-    → (outcome_of answer call state).state ≡ state
+pub outcome_of-same : (answer : Answer Change) (call : Call) (state : State)
+    → (outcome_of answer call state).is_accepted ≡ false → (outcome_of answer call state).core ≡ state
 outcome_of-same (Shown json) call state not_made = refl
 outcome_of-same (Refused denial) call state not_made = refl
-outcome_of-same (Accepted json change) call state not_made = by (find (is_in_use state) (claims_of change)) not_made
+outcome_of-same (Accepted json change) call state not_made = by (find (is_in_use state) change.claims) not_made
   where
     by : (claim : Option Claim) → (outcome_unless_in_use claim call json change state).is_accepted ≡ false
-        → (outcome_unless_in_use claim call json change state).state ≡ state
+        → (outcome_unless_in_use claim call json change state).core ≡ state
     by None m = absurd (cc)
     by (Some c) m = refl
 
 pub refused-same : (state : State) (event : Event) → (step_of state event).is_accepted ≡ false
-    → (step_of state event).state ≡ state
+    → (step_of state event).core ≡ state
 refused-same state (a_call call) not_made =
-    outcome_of-same (answer_to call (view_of call.caller state)) call state not_made
+    outcome_of-same (answer_in state (known_call state.people call)) (known_call state.people call) state not_made
+
+-- A change is accepted exactly if the reply is one of a change.
+outcome_of-change : (answer : Answer Change) (call : Call) (state : State)
+    → (outcome_of answer call state).is_accepted ≡ is_change (outcome_of answer call state).reply
+outcome_of-change (Shown json) call state = refl
+outcome_of-change (Refused denial) call state = refl
+outcome_of-change (Accepted json change) call state = by (find (is_in_use state) change.claims)
+  where
+    by : (claim : Option Claim)
+        → (outcome_unless_in_use claim call json change state).is_accepted
+        ≡ is_change (outcome_unless_in_use claim call json change state).reply
+    by None = refl
+    by (Some c) = refl
+
+pub accepted-change : (state : State) (event : Event)
+    → (step_of state event).is_accepted ≡ is_change (step_of state event).reply
+accepted-change state (a_call call) =
+    outcome_of-change (answer_in state (known_call state.people call)) (known_call state.people call) state
+
+-- ---- callers whom no user has
+
+pub unknown-step : (state : State) (call : Call) (user : List ℕ) → call.caller ≡ Named user
+    → is_user_in state.people user ≡ false → call_step state call ≡ call_step state (by_nobody call)
+unknown-step state call user named unknown =
+    ap (known_step state)
+    (unknown-call state.people call
+    (subst (λ (caller : Caller). is_known state.people caller ≡ false) (sym named) unknown))
 
 -- ---- what is valid stays so
 
--- in a valid state what is fit where the caller sees things is fit to be made
-pub fit_in_valid : (change : Change) (call : Call) (state : State) → IsValid state
-    → IsFit call (view_of call.caller state) change → IsFit call state change
-fit_in_valid change call state valid fit = fit_in_state change call state (harvested_open state valid) fit
+pub with_planned_valid : (planned : PlannedChange) (call : Call) (state : State) → IsValid state
+    → IsFit call (view_of call.caller state) planned → AreUnused state (claims_of planned)
+    → IsValid (with_planned call planned state)
+with_planned_valid planned call state valid fit unused =
+    charged_valid call.caller call.size (changed planned state)
+    (changed_valid planned call state valid (fit_in_valid planned call state valid fit) unused)
 
-pub applied_valid : (change : Change) (call : Call) (state : State) → IsValid state
-    → IsFit call (view_of call.caller state) change → IsUnused state change
-    → IsValid (applied call change state)
-applied_valid change call state valid fit unused =
-    charged_valid call.caller call.size (changed change state)
-    (changed_valid change call state valid (fit_in_valid change call state valid fit) unused)
+applied_valid : (planned : PlannedChange) (call : Call) (state : State) → IsValid state
+    → IsFit call (view_of call.caller state) planned → AreUnused state (claims_of planned)
+    → IsValid (applied call (change_of planned (view_of call.caller state)) state)
+applied_valid planned call state valid fit unused =
+    subst IsValid (sym (applied-planned planned call state valid fit))
+    (with_planned_valid planned call state valid fit unused)
+
+-- What is planned, and claims nothing in use, is made.
+pub planned-unused : (json : Json) (planned : PlannedChange) (call : Call) (state : State) → IsValid state
+    → IsFit call (view_of call.caller state) planned → AreUnused state (claims_of planned)
+    → planned_outcome json planned call state
+    ≡ (record { core = with_planned call planned state; reply = reply.Accepted json; is_accepted = true })
+planned-unused json planned call state valid fit unused =
+    outcome_unused json (change_of planned (view_of call.caller state)) call state unused
+    ∙ ap (λ (s : State). record { core = s; reply = reply.Accepted json; is_accepted = true })
+    (applied-planned planned call state valid fit)
 
 -- ---- the parts
 
@@ -135,43 +203,47 @@ kept_consistent old new consistent same shelved = record {
 }
 
 -- So are parts in which a change was made.
-pub applied_consistent : (change : Change) (call : Call) (old new : Parts) → IsConsistent old
-    → IsFit call (view_of call.caller (state_of old)) change → IsUnused (state_of old) change
-    → state_of new ≡ applied call change (state_of old) → IsValidShelf new.shelf → IsConsistent new
-applied_consistent change call old new consistent fit unused is shelved = record {
-  valid = subst IsValid (sym is) (applied_valid change call (state_of old) consistent.valid fit unused);
+pub applied_consistent : (planned : PlannedChange) (call : Call) (old new : Parts) → IsConsistent old
+    → IsFit call (view_of call.caller (state_of old)) planned → AreUnused (state_of old) (claims_of planned)
+    → state_of new ≡ with_planned call planned (state_of old) → IsValidShelf new.shelf → IsConsistent new
+applied_consistent planned call old new consistent fit unused is shelved = record {
+  valid = subst IsValid (sym is) (with_planned_valid planned call (state_of old) consistent.valid fit unused);
   shelved = shelved;
 }
 
 -- ---- steps
 
-outcome_of-valid : (answer : Answer Change) (call : Call) (state : State) → IsValid state
+outcome_of-valid : (answer : Answer PlannedChange) (call : Call) (state : State) → IsValid state
     → AcceptsOnly (IsFit call (view_of call.caller state)) answer
-    → IsValid (outcome_of answer call state).state
+    → IsValid (outcome_of (map_answer (λ planned. change_of planned (view_of call.caller state)) answer) call state).core
 outcome_of-valid (Shown json) call state valid fit = valid
 outcome_of-valid (Refused denial) call state valid fit = valid
-outcome_of-valid (Accepted json change) call state valid fit = by (find (is_in_use state) (claims_of change)) refl
+outcome_of-valid (Accepted json planned) call state valid fit = by (find (is_in_use state) (claims_of planned)) refl
   where
-    by : (claim : Option Claim) → find (is_in_use state) (claims_of change) ≡ claim
-        → IsValid (outcome_unless_in_use claim call json change state).state
+    change : Change
+    change = change_of planned (view_of call.caller state)
+
+    by : (claim : Option Claim) → find (is_in_use state) (claims_of planned) ≡ claim
+        → IsValid (outcome_unless_in_use claim call json change state).core
     by (Some c) is = valid
-    by None is = applied_valid change call state valid fit is
+    by None is = applied_valid planned call state valid fit is
 
-pub step-valid : (state : State) (event : Event) → IsValid state → IsValid (step_of state event).state
+pub step-valid : (state : State) (event : Event) → IsValid state → IsValid (step_of state event).core
 step-valid state (a_call call) valid =
-    outcome_of-valid (answer_to call (view_of call.caller state)) call state valid
-    (answer_fit call (view_of call.caller state))
+    let known : Call = known_call state.people call in
+    outcome_of-valid (planned_answer known (view_of known.caller state)) known state valid
+    (answer_fit known (view_of known.caller state))
 
-pub replay-valid : (state : State) (events : List Event) → IsValid state → IsValid (replay state events)
+pub replay-valid : (state : State) (events : List Event) → IsValid state → IsValid (replay step_of state events)
 replay-valid state [] valid = valid
-replay-valid state (e ∷ events) valid = replay-valid (step_of state e).state events (step-valid state e valid)
+replay-valid state (e ∷ events) valid = replay-valid (step_of state e).core events (step-valid state e valid)
 
 -- ---- a replay goes on
 
 pub replay-append : (state : State) (events more : List Event)
-    → replay state (events ++ more) ≡ replay (replay state events) more
+    → replay step_of state (events ++ more) ≡ replay step_of (replay step_of state events) more
 replay-append state [] more = refl
-replay-append state (e ∷ events) more = replay-append (step_of state e).state events more
+replay-append state (e ∷ events) more = replay-append (step_of state e).core events more
 
 -- ---- memory
 
@@ -179,7 +251,7 @@ settled_there : (answer : Answer Change) (call : Call) (state : State)
     → (outcome_of answer call state).reply ≢ reply.Refused OutOfMemory
 settled_there (Shown json) call state = λ is. absurd (cc)
 settled_there (Refused denial) call state = refusal_there denial
-settled_there (Accepted json change) call state = by (find (is_in_use state) (claims_of change))
+settled_there (Accepted json change) call state = by (find (is_in_use state) change.claims)
   where
     by : (claim : Option Claim) → (outcome_unless_in_use claim call json change state).reply ≢ reply.Refused OutOfMemory
     by None = λ is. absurd (cc)
@@ -187,4 +259,5 @@ settled_there (Accepted json change) call state = by (find (is_in_use state) (cl
 
 -- the reply of a step is never that memory ran out
 pub step_there : (state : State) (call : Call) → (call_step state call).reply ≢ reply.Refused OutOfMemory
-step_there state call = settled_there (answer_to call (view_of call.caller state)) call state
+step_there state call =
+    settled_there (answer_in state (known_call state.people call)) (known_call state.people call) state

@@ -30,12 +30,12 @@ use Rattle.dataset_answers.specs.Sound.{IsSound, IsId}
 use Rattle.dataset_answers.specs.declared.change.DatasetChange.{DatasetChange}
 use Rattle.dataset_answers.specs.declared.change.DatasetChange.TheVariants as dataset
 use Rattle.portal_core.specs.Answer.{call_view_of}
-use Rattle.portal_core.specs.Changed.{is_in_use, IsUnused}
+use Rattle.portal_core.specs.Planned.{PlannedChange, People, Datasets, Tables, claims_of}
+use Rattle.portal_core.specs.Changed.{AreUnused, is_in_use}
 use Rattle.portal_core.specs.Fit.{IsFit}
 use Rattle.portal_core.specs.Opened.{opened, is_opening}
 use Rattle.portal_core.specs.Parts.{state_of, IsConsistent, IsFree, IsOnShelf, IsTakenBy, IsUnrefused}
 use Rattle.portal_core.specs.Valid.{IsValid}
-use Rattle.portal_core.specs.Change.{Change, People, Datasets, Tables}
 use Rattle.portal_core.specs.declared.change.Claim.TheVariants.{DatasetName, DatasetId}
 use Rattle.portal_core.specs.declared.parts.Parts.{Parts}
 use Rattle.portal_core.specs.declared.portal.Opening.{Opening}
@@ -117,7 +117,7 @@ none_of None is = refl
 none_of (Some x) is = absurd (cc)
 
 free : (parts : Parts) (call : Call) (d : Package) → IsConsistent parts → IsSound parts.people.people d
-    → IsUnused (state_of parts) (Datasets (dataset.Create d)) → IsFree parts.shelf d
+    → AreUnused (state_of parts) (claims_of (Datasets (dataset.Create d))) → IsFree parts.shelf d
 free parts call d consistent sound unused =
     let unnamed = first_unused (is_in_use (state_of parts)) (DatasetName d.name) (DatasetId d.id ∷ []) unused in
     let unknown = first_unused (is_in_use (state_of parts)) (DatasetId d.id) [] unnamed.1 in
@@ -166,7 +166,7 @@ on_shelf shelf shelved d id within is =
 
 taken : (change : DatasetChange) (parts : Parts) (call : Call) → IsConsistent parts
     → IsFitDataset (call_view_of call (state_of parts)) (summaries_of (state_of parts).tables) change
-    → IsUnused (state_of parts) (Datasets change)
+    → AreUnused (state_of parts) (claims_of (Datasets change))
     → IsTakenBy change parts.shelf
 unfolding on_shelf led
 taken (dataset.Create d) parts call consistent fit unused = free parts call d consistent fit.sound unused
@@ -182,8 +182,8 @@ taken (dataset.Remove id) parts call consistent fit unused =
     fit.id
 
 -- What is fit, and claims nothing that is in use, is refused for nothing.
-pub unrefused : (change : Change) (parts : Parts) (call : Call) → IsConsistent parts
-    → IsFit call (state_of parts) change → IsUnused (state_of parts) change → IsUnrefused change parts
+pub unrefused : (change : PlannedChange) (parts : Parts) (call : Call) → IsConsistent parts
+    → IsFit call (state_of parts) change → AreUnused (state_of parts) (claims_of change) → IsUnrefused change parts
 unrefused (People change) parts call consistent fit unused = unfaulted change call (state_of parts) fit unused
 unrefused (Datasets change) parts call consistent fit unused = taken change parts call consistent fit unused
 unrefused (Tables change) parts call consistent fit unused = tt

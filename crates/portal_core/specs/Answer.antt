@@ -6,6 +6,7 @@ use Rattle.dataset_answers.specs.declared.change.DatasetChange.{DatasetChange}
 use Rattle.datastore_answers.specs.Answers as table
 use Rattle.datastore_answers.specs.Changed.{TableChange}
 use Rattle.datastore_answers.specs.Summaries.{summaries_of}
+use Rattle.datastore_answers.specs.TableAnswers.{map_answer}
 use Rattle.datastore_answers.specs.declared.answer.TableAnswer.{TableAnswer}
 use Rattle.datastore_answers.specs.declared.answer.TableAnswer.TheVariants.{NoTable, Answered}
 use Rattle.datastore_answers.specs.declared.resource_table.ResourceTable.{ResourceTable}
@@ -22,7 +23,8 @@ use Rattle.portal_calls.specs.declared.topic.Topic.{Topic}
 use Rattle.portal_calls.specs.declared.topic.Topic.TheVariants as topic
 use Rattle.visibility.specs.CallView.{CallView}
 use Rattle.portal_core.specs.State.{State, accepted_bytes_of}
-use Rattle.portal_core.specs.Change.{Change, People, Datasets, Tables}
+use Rattle.portal_core.specs.Change.{Change}
+use Rattle.portal_core.specs.Planned.{PlannedChange, People, Datasets, Tables, change_of}
 use Rattle.portal_core.specs.Queries.{answer_to_query}
 use Rattle.portal_core.specs.declared.quota.QuotaUsed.{QuotaUsed}
 
@@ -52,31 +54,35 @@ call_view_of call view = record {
 -- ---- the answer
 
 -- an answer on organizations as one on the portal
-abbrev pub of_people : Answer OrgChange → Answer Change
+abbrev pub of_people : Answer OrgChange → Answer PlannedChange
 of_people (Shown json) = Shown json
 of_people (Refused denial) = Refused denial
 of_people (Accepted json change) = Accepted json (People change)
 
 -- an answer on datasets as one on the portal
-abbrev pub of_datasets : Answer DatasetChange → Answer Change
+abbrev pub of_datasets : Answer DatasetChange → Answer PlannedChange
 of_datasets (Shown json) = Shown json
 of_datasets (Refused denial) = Refused denial
 of_datasets (Accepted json change) = Accepted json (Datasets change)
 
 -- an answer on tables as one on the portal; where the resource has no table, it is NotFound
-abbrev pub of_tables : TableAnswer TableChange → Answer Change
+abbrev pub of_tables : TableAnswer TableChange → Answer PlannedChange
 of_tables NoTable = Refused (NotFound Table)
 of_tables (Answered (Shown json)) = Shown json
 of_tables (Answered (Refused denial)) = Refused denial
 of_tables (Answered (Accepted json change)) = Accepted json (Tables change)
 
 -- the answer to an action, by what the action is about
-abbrev pub answer_on : Topic → CallView → List ResourceTable → Answer Change
+abbrev pub answer_on : Topic → CallView → List ResourceTable → Answer PlannedChange
 answer_on (topic.Organizations action) view tables = of_people (organization.answer_to_action action view)
 answer_on (topic.Datasets action) view tables = of_datasets (dataset.answer_to_action action view (summaries_of tables))
 answer_on (topic.Tables action) view tables = of_tables (table.answer_to_action action view tables)
 answer_on (topic.Queries action) view tables = of_tables (answer_to_query action view tables)
 
--- The answer to the call on the view.
+-- the answer to the call on the view, with the change that is planned
+abbrev pub planned_answer : Call → State → Answer PlannedChange
+planned_answer call view = answer_on (topic_of call.request.action) (call_view_of call view) view.tables
+
+-- The answer to the call on the view. An accepted change is written out as entries, by what the caller sees.
 abbrev pub answer_to : Call → State → Answer Change
-answer_to call view = answer_on (topic_of call.request.action) (call_view_of call view) view.tables
+answer_to call view = map_answer (λ planned. change_of planned view) (planned_answer call view)

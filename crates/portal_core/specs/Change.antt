@@ -1,18 +1,10 @@
--- A change of the portal, as data: entries that are set or dropped, each by its key.
-use Rattle.org_roles.specs.declared.change.OrgChange.{OrgChange}
-use Rattle.dataset_answers.specs.declared.change.DatasetChange.{DatasetChange}
-use Rattle.datastore_answers.specs.Changed.{TableChange}
-use Rattle.datastore_answers.specs.Plan as planned
-use Rattle.portal_core.specs.declared.change.Plan.{Plan}
-use Rattle.portal_core.specs.declared.change.Plan.TheVariants as plan
+-- A change of the portal, as data: what it claims, and the entries that are put or dropped, each by its key. A change knows
+-- neither a call nor a caller.
+use Rattle.std.specs.Prelude.{List}
+use Rattle.portal_core.specs.Entries.{Entry}
+use Rattle.portal_core.specs.declared.change.Claim.{Claim}
 
-pub data Change : Type 0 where
-  People : OrgChange → Change
-  Datasets : DatasetChange → Change
-  Tables : TableChange → Change
-
--- the change of a plan
-abbrev pub change_of : Plan → Change
-change_of (plan.People change) = People change
-change_of (plan.Datasets change) = Datasets change
-change_of (plan.Tables change) = Tables (planned.change_of change)
+-- The names and ids that the change claims for new entries, in the order in which they are checked, and its entries.
+pub record Change : Type 0 where
+  pub claims : List Claim
+  pub entries : List Entry

@@ -1,13 +1,10 @@
--- The state after a change: the entries that the change sets or drops, each by its key. And the names and ids that the
--- change claims.
-use Rattle.std.specs.Prelude.{◌≡◌, ℕ, List, [], ◌∷◌, ◌+◌, codes, Bool, is_some, Option, Some, None, find}
+-- The state after a change, with its charge. And what it means that a name or an id that a change claims is in use.
+use Rattle.std.specs.Prelude.{◌≡◌, ℕ, List, [], ◌+◌, codes, Bool, is_some, Option, Some, None, find}
 use Rattle.portal_base.specs.Ordered.{upserted}
 use Rattle.portal_base.specs.declared.caller.Caller.{Caller}
 use Rattle.portal_base.specs.declared.caller.Caller.TheVariants.{Anonymous, Named}
 use Rattle.org_roles.specs.Changed.{changed_people}
 use Rattle.org_roles.specs.PeopleLists.{org_in}
-use Rattle.org_roles.specs.declared.change.OrgChange.{OrgChange}
-use Rattle.org_roles.specs.declared.change.OrgChange.TheVariants as org
 use Rattle.dataset_answers.specs.Changed.{changed_datasets, has_name, has_id}
 use Rattle.dataset_answers.specs.declared.change.DatasetChange.{DatasetChange}
 use Rattle.dataset_answers.specs.declared.change.DatasetChange.TheVariants as dataset
@@ -15,28 +12,15 @@ use Rattle.datastore_answers.specs.Changed.{changed_tables}
 use Rattle.datastore_answers.specs.Tables.{tables_kept}
 use Rattle.datastore_answers.specs.declared.resource_table.ResourceTable.{ResourceTable}
 use Rattle.portal_calls.specs.declared.call.Call.{Call}
+use Rattle.portal_core.specs.Change.{Change}
+use Rattle.portal_core.specs.Entries.{state_after}
+use Rattle.portal_core.specs.Planned.{PlannedChange, People, Datasets, Tables}
 use Rattle.portal_core.specs.State.{State, quota_used_cmp, accepted_bytes_of_user}
-use Rattle.portal_core.specs.Change.{Change, People, Datasets, Tables}
 use Rattle.portal_core.specs.declared.change.Claim.{Claim}
 use Rattle.portal_core.specs.declared.change.Claim.TheVariants.{OrgName, DatasetName, DatasetId}
 use Rattle.portal_core.specs.declared.quota.QuotaUsed.{QuotaUsed}
 
--- ---- the change
-
--- The tables after a change of a dataset: those of its resources stay, and those of resources that are gone go.
-abbrev pub tables_left : DatasetChange → List ResourceTable → List ResourceTable
-tables_left (dataset.Create d) tables = tables
-tables_left (dataset.Replace d) tables = tables_kept d.id d.resources tables
-tables_left (dataset.Remove id) tables = tables_kept id [] tables
-
--- the state after the change
-abbrev pub changed : Change → State → State
-changed (People change) state = record state { people = changed_people change state.people }
-changed (Datasets change) state = record state {
-  datasets = changed_datasets change state.datasets;
-  tables = tables_left change state.tables;
-}
-changed (Tables change) state = record state { tables = changed_tables change state.tables }
+-- ---- the charge
 
 -- the charge to the caller's quota: its entry with the size added; the anonymous caller has none
 abbrev pub charge_of : Caller → ℕ → List QuotaUsed → Option QuotaUsed
@@ -55,29 +39,11 @@ with_charge (Some entry) state = record state { quota_used = upserted quota_used
 abbrev pub charged : Caller → ℕ → State → State
 charged caller size state = with_charge (charge_of caller size state.quota_used) state
 
--- the state after the change, with the call's size charged for it
+-- ---- the change
+
+-- the state after the change's entries, with the call's size charged for it
 abbrev pub applied : Call → Change → State → State
-applied call change state = charged call.caller call.size (changed change state)
-
--- ---- what it claims
-
-abbrev pub claims_of_people : OrgChange → List Claim
-claims_of_people (org.Create o) = OrgName o.name ∷ []
-claims_of_people (org.Patch o) = []
-claims_of_people (org.Remove name) = []
-claims_of_people (org.SetRole name user role) = []
-claims_of_people (org.DropRole name user) = []
-
-abbrev pub claims_of_datasets : DatasetChange → List Claim
-claims_of_datasets (dataset.Create d) = DatasetName d.name ∷ DatasetId d.id ∷ []
-claims_of_datasets (dataset.Replace d) = []
-claims_of_datasets (dataset.Remove id) = []
-
--- the names and ids that a change claims for new entries, in the order in which they are checked
-abbrev pub claims_of : Change → List Claim
-claims_of (People change) = claims_of_people change
-claims_of (Datasets change) = claims_of_datasets change
-claims_of (Tables change) = []
+applied call change state = charged call.caller call.size (state_after change.entries state)
 
 -- something of that kind in the state has the name or the id
 abbrev pub is_in_use : State → Claim → Bool
@@ -91,6 +57,31 @@ key_of (OrgName name) = codes "name"
 key_of (DatasetName name) = codes "name"
 key_of (DatasetId id) = codes "id"
 
+-- none of these claims is in use
+abbrev pub AreUnused : State → List Claim → Type 0
+AreUnused state claims = find (is_in_use state) claims ≡ None
+
 -- nothing that the change claims is in use
 abbrev pub IsUnused : State → Change → Type 0
-IsUnused state change = find (is_in_use state) (claims_of change) ≡ None
+IsUnused state change = AreUnused state change.claims
+
+-- ---- a planned change
+
+-- The tables after a change of a dataset: those of its resources stay, and those of resources that are gone go.
+abbrev pub tables_left : DatasetChange → List ResourceTable → List ResourceTable
+tables_left (dataset.Create d) tables = tables
+tables_left (dataset.Replace d) tables = tables_kept d.id d.resources tables
+tables_left (dataset.Remove id) tables = tables_kept id [] tables
+
+-- The state after the planned change, as the parts of the portal make it. A law says that its entries make it too.
+abbrev pub changed : PlannedChange → State → State
+changed (People change) state = record state { people = changed_people change state.people }
+changed (Datasets change) state = record state {
+  datasets = changed_datasets change state.datasets;
+  tables = tables_left change state.tables;
+}
+changed (Tables change) state = record state { tables = changed_tables change state.tables }
+
+-- the same, with the call's size charged for it
+abbrev pub with_planned : Call → PlannedChange → State → State
+with_planned call planned state = charged call.caller call.size (changed planned state)

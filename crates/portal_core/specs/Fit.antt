@@ -8,14 +8,14 @@ use Rattle.datastore_answers.specs.declared.resource_table.ResourceTable.{Resour
 use Rattle.portal_calls.specs.declared.call.Call.{Call}
 use Rattle.visibility.specs.CallView.{CallView}
 use Rattle.portal_core.specs.Answer.{call_view_of}
-use Rattle.portal_core.specs.Change.{Change, People, Datasets, Tables}
+use Rattle.portal_core.specs.Planned.{PlannedChange, People, Datasets, Tables}
 use Rattle.portal_core.specs.State.{State}
 
-abbrev pub IsFitAmong : CallView → List ResourceTable → Change → Type 0
+abbrev pub IsFitAmong : CallView → List ResourceTable → PlannedChange → Type 0
 IsFitAmong view tables (People change) = IsFitOrg view change
 IsFitAmong view tables (Datasets change) = IsFitDataset view (summaries_of tables) change
 IsFitAmong view tables (Tables change) = IsFitTable view tables change
 
 -- the same on the view of the call's caller
-abbrev pub IsFit : Call → State → Change → Type 0
+abbrev pub IsFit : Call → State → PlannedChange → Type 0
 IsFit call view change = IsFitAmong (call_view_of call view) view.tables change

@@ -1,16 +1,15 @@
 -- Which events are hidden from a caller.
 use Rattle.std.specs.Prelude.{◌≡◌, ℕ, Bool, true, false, List}
-use Rattle.std.specs.List.{Contains}
+use Rattle.std.specs.List.{All, Contains}
 use Rattle.std.specs.Str.{bytes_eq}
 use Rattle.portal_base.specs.declared.caller.Caller.{Caller}
 use Rattle.portal_base.specs.declared.caller.Caller.TheVariants.{Anonymous, Named}
 use Rattle.org_roles.specs.PeopleLists.{PeopleLists}
 use Rattle.packages.specs.declared.package.Package.{Package}
-use Rattle.datastore_answers.specs.Changed.{TableChange}
-use Rattle.datastore_answers.specs.Changed as table
-use Rattle.datastore_answers.specs.declared.address.Address.{Address}
 use Rattle.visibility.specs.View.{administers, is_called, is_role_seen}
 use Rattle.visibility.specs.Visibility.{sees_in}
+use Rattle.portal_core.specs.Entries.{Entry, PutOrg, DropOrg, PutRole, DropRole, PutDataset, EditDataset}
+use Rattle.portal_core.specs.Entries.{DropDataset, PutTable, DropTable, PutRow, DropRow, state_after}
 use Rattle.portal_core.specs.State.{State}
 use Rattle.portal_core.specs.Step.{step_of}
 use Rattle.portal_core.specs.View.{is_own_quota, is_table_seen}
@@ -54,23 +53,36 @@ pub record IsHiddenBetween (caller : Caller) (before after : State) : Type 0 whe
 -- keep.
 pub record IsHidden (caller : Caller) (state : State) (event : Event) : Type 0 where
   pub others : is_call_of caller event ≡ false
-  pub between : IsHiddenBetween caller state (step_of state event).state
+  pub between : IsHiddenBetween caller state (step_of state event).core
 
--- ---- what a caller doesn't see of a change
+-- ---- what a caller doesn't see of an entry
 
 -- the caller sees none of the datasets of that id
 abbrev pub IsIdUnseen : Caller → State → List ℕ → Type 0
 IsIdUnseen caller state id =
     (d : Package) → Contains state.datasets d → d.id ≡ id → sees_in state.people caller d ≡ false
 
--- the address of the table that changes
-abbrev pub address_in : TableChange → Address
-address_in (table.Create t) = t.address
-address_in (table.Remove address) = address
-address_in (table.Put address how records) = address
-address_in (table.DeleteRows address ids) = address
-
 -- the caller neither administers the organization nor is the user
 pub record IsRoleUnseen (caller : Caller) (people : PeopleLists) (org user : List ℕ) : Type 0 where
   pub elsewhere : administers people caller org ≡ false
   pub others : is_called caller user ≡ false
+
+-- The caller sees nothing in the state that has the entry's key. A view keeps every organization, and of a dataset that it
+-- keeps it keeps all tables and their rows.
+abbrev pub IsEntryUnseen : Caller → State → Entry → Type 0
+IsEntryUnseen caller state (PutOrg org) = ⊥
+IsEntryUnseen caller state (DropOrg name) = ⊥
+IsEntryUnseen caller state (PutRole role) = IsRoleUnseen caller state.people role.org role.user
+IsEntryUnseen caller state (DropRole org user) = IsRoleUnseen caller state.people org user
+IsEntryUnseen caller state (PutDataset dataset) = IsIdUnseen caller state dataset.id
+IsEntryUnseen caller state (EditDataset id edit) = IsIdUnseen caller state id
+IsEntryUnseen caller state (DropDataset id) = IsIdUnseen caller state id
+IsEntryUnseen caller state (PutTable head) = IsIdUnseen caller state head.address.dataset
+IsEntryUnseen caller state (DropTable address) = IsIdUnseen caller state address.dataset
+IsEntryUnseen caller state (PutRow address row) = IsIdUnseen caller state address.dataset
+IsEntryUnseen caller state (DropRow address id) = IsIdUnseen caller state address.dataset
+
+-- The caller sees nothing at the keys of these entries, neither in the state nor after them.
+pub record AreUnseen (caller : Caller) (state : State) (entries : List Entry) : Type 0 where
+  pub before : All (IsEntryUnseen caller state) entries
+  pub after : All (IsEntryUnseen caller (state_after entries state)) entries

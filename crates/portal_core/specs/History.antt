@@ -19,7 +19,7 @@ abbrev pub AreOthersHidden : Caller → State → List Event → Type 0
 AreOthersHidden caller state [] = Unit {0}
 AreOthersHidden caller state (e ∷ events) =
     (is_call_of caller e ≡ false → (step_of state e).is_accepted ≡ true → IsHidden caller state e)
-    × AreOthersHidden caller (step_of state e).state events
+    × AreOthersHidden caller (step_of state e).core events
 
 -- what a caller meets at a call of its own: the reply, and what it sees after it
 pub record Exchange : Type 0 where
@@ -27,15 +27,15 @@ pub record Exchange : Type 0 where
   pub view : State
 
 abbrev pub exchange_of : Caller → Outcome → Exchange
-exchange_of caller outcome = record { reply = outcome.reply; view = view_of caller outcome.state }
+exchange_of caller outcome = record { reply = outcome.reply; view = view_of caller outcome.core }
 
 -- the exchange at each of the caller's calls, when the events come in order from the state
 abbrev pub exchanges_of : Caller → State → List Event → List Exchange
 exchanges_of caller state [] = []
 exchanges_of caller state (e ∷ events) =
     cond (is_call_of caller e)
-    (exchange_of caller (step_of state e) ∷ exchanges_of caller (step_of state e).state events)
-    (exchanges_of caller (step_of state e).state events)
+    (exchange_of caller (step_of state e) ∷ exchanges_of caller (step_of state e).core events)
+    (exchanges_of caller (step_of state e).core events)
 
 -- The exchanges are the same, up to the first whose reply in one of the lists is that a name or an id is in use.
 abbrev pub AreAlike : List Exchange → List Exchange → Type 0

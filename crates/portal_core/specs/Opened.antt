@@ -1,13 +1,10 @@
 -- The openings of a portal, and the state that an opening makes.
-use Rattle.std.specs.Prelude.{◌&&◌, Bool, nat_lt, length, List, [], if◌then◌else◌}
+use Rattle.std.specs.Prelude.{◌&&◌, Bool, nat_lt, length, List, []}
 use Rattle.std.specs.List.{list_all, list_any}
 use Rattle.std.specs.Str.{bytes_eq}
 use Rattle.portal_base.specs.Ordered.{ascending}
-use Rattle.portal_base.specs.declared.caller.Caller.{Caller}
-use Rattle.portal_base.specs.declared.caller.Caller.TheVariants.{Anonymous, Named}
 use Rattle.org_roles.specs.Distinct.{have_distinct_names, have_distinct_org_names, have_distinct_pairs}
 use Rattle.org_roles.specs.Order.{user_cmp, org_cmp, membership_cmp}
-use Rattle.org_roles.specs.PeopleLists.{PeopleLists, is_user_in}
 use Rattle.org_roles.specs.declared.entry.Membership.{Membership}
 use Rattle.org_roles.specs.declared.entry.Org.{Org}
 use Rattle.portal_core.specs.State.{State}
@@ -40,8 +37,3 @@ opened opening = record {
   tables = [];
   quota_used = [];
 }
-
--- the caller, where it is a user of the portal, else the anonymous caller
-abbrev pub known_caller : PeopleLists → Caller → Caller
-known_caller people Anonymous = Anonymous
-known_caller people (Named user) = if is_user_in people user then Named user else Anonymous

@@ -8,12 +8,12 @@ use Rattle.dataset_answers.specs.Sound.{IsSound}
 use Rattle.dataset_answers.specs.declared.change.DatasetChange.{DatasetChange}
 use Rattle.dataset_answers.specs.declared.change.DatasetChange.TheVariants as dataset
 use Rattle.portal_core.specs.Changed.{changed, with_charge}
+use Rattle.portal_core.specs.Planned.{PlannedChange}
 use Rattle.portal_core.specs.State.{State}
 use Rattle.portal_core.specs.Valid.{IsValid}
 use Rattle.datastore_answers.specs.Plan as table
 use Rattle.datastore_answers.specs.Tables.{Stored, tables_of}
-use Rattle.portal_core.specs.Change.{Change}
-use Rattle.portal_core.specs.Change as portal_change
+use Rattle.portal_core.specs.Planned as planned
 use Rattle.portal_core.specs.declared.change.Plan.{Plan}
 use Rattle.portal_core.specs.declared.change.Plan.TheVariants as plan
 use Rattle.portal_core.specs.declared.parts.Parts.{Parts}
@@ -37,12 +37,12 @@ pub record IsConsistent (parts : Parts) : Type 0 where
   pub shelved : IsValidShelf parts.shelf
 
 -- a new dataset is sound
-abbrev pub MakesSound : Change → Parts → Type 0
-MakesSound (portal_change.People change) parts = ⊤
-MakesSound (portal_change.Datasets (dataset.Create d)) parts = IsSound parts.people.people d
-MakesSound (portal_change.Datasets (dataset.Replace d)) parts = ⊤
-MakesSound (portal_change.Datasets (dataset.Remove id)) parts = ⊤
-MakesSound (portal_change.Tables change) parts = ⊤
+abbrev pub MakesSound : PlannedChange → Parts → Type 0
+MakesSound (planned.People change) parts = ⊤
+MakesSound (planned.Datasets (dataset.Create d)) parts = IsSound parts.people.people d
+MakesSound (planned.Datasets (dataset.Replace d)) parts = ⊤
+MakesSound (planned.Datasets (dataset.Remove id)) parts = ⊤
+MakesSound (planned.Tables change) parts = ⊤
 
 -- ---- what can be prepared
 
@@ -69,10 +69,10 @@ IsTakenBy (dataset.Replace d) shelf = IsOnShelfAs shelf d
 IsTakenBy (dataset.Remove id) shelf = IsOnShelf shelf id
 
 -- no part refuses the change
-abbrev pub IsUnrefused : Change → Parts → Type 0
-IsUnrefused (portal_change.People change) parts = IsTrue (is_none (org_fault change parts.people.people))
-IsUnrefused (portal_change.Datasets change) parts = IsTakenBy change parts.shelf
-IsUnrefused (portal_change.Tables change) parts = ⊤
+abbrev pub IsUnrefused : PlannedChange → Parts → Type 0
+IsUnrefused (planned.People change) parts = IsTrue (is_none (org_fault change parts.people.people))
+IsUnrefused (planned.Datasets change) parts = IsTakenBy change parts.shelf
+IsUnrefused (planned.Tables change) parts = ⊤
 
 -- the batch that the plan prepared on a table is ready
 abbrev pub IsPlannedOn : Plan → Stored → Type 0
@@ -86,16 +86,16 @@ IsPlanned p parts = IsPlannedOn p parts.tables
 -- ---- what is prepared
 
 -- the change that is prepared
-abbrev pub change_in : PreparedChange → Change
-change_in (People change) = portal_change.People change
-change_in (Put d) = portal_change.Datasets (dataset.Create d)
-change_in (Replace number d) = portal_change.Datasets (dataset.Replace d)
-change_in (Remove number id) = portal_change.Datasets (dataset.Remove id)
-change_in (Tables change) = portal_change.Tables (table.change_of change)
+abbrev pub planned_in : PreparedChange → PlannedChange
+planned_in (People change) = planned.People change
+planned_in (Put d) = planned.Datasets (dataset.Create d)
+planned_in (Replace number d) = planned.Datasets (dataset.Replace d)
+planned_in (Remove number id) = planned.Datasets (dataset.Remove id)
+planned_in (Tables change) = planned.Tables (table.change_of change)
 
 -- the state after the prepared change, with its charge
 abbrev pub with_prepared : Prepared → State → State
-with_prepared prepared state = with_charge prepared.charge (changed (change_in prepared.change) state)
+with_prepared prepared state = with_charge prepared.charge (changed (planned_in prepared.change) state)
 
 -- There is room for the new dataset, and its id and name are free.
 pub record IsPutReady (shelf : ShelfState) (dataset : Package) : Type 0 where

@@ -1,11 +1,12 @@
-//! A change of the portal, as data.
+//! The plan of an accepted call, and what a change claims.
 use dataset_answers::change::DatasetChange;
 use datastore_answers::plan::TablePlan;
 use org_roles::change::OrgChange;
 use portal_base::text::Text;
 
-/// The change of an accepted call: entries that are set or dropped, each by its key, and what a table prepared for it.
-/// Contracts speak of the change without the prepared part, by `change_of`.
+/// The change of an accepted call, in the words of the crate that answered it, with what a table prepared for it. In
+/// contracts it is the planned change without the prepared part (`planned_of`), and the entries that this is on its
+/// caller's view (`change_of`).
 #[derive(Drop)]
 pub enum Plan {
     People(OrgChange),

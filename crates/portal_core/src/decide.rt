@@ -8,12 +8,11 @@ ghost use Rattle.datastore_answers.specs.TableAnswers.{TableAcceptsOnly, map_ans
 ghost use Rattle.datastore_answers.specs.Changed.{TableChange};
 ghost use Rattle.datastore_answers.specs.Linked.{AreLinked};
 ghost use Rattle.datastore_answers.specs.Plan as table;
-ghost use Rattle.datastore_answers.specs.Plan.{change_of as planned_change};
+ghost use Rattle.datastore_answers.specs.Plan.{change_of as table_change};
 ghost use Rattle.datastore_answers.specs.Tables.{Stored, tables_of, tables_seen};
-ghost use Rattle.portal_core.specs.Answer.{answer_to, answer_on, quota_of, of_people, of_datasets, of_tables};
-ghost use Rattle.portal_core.specs.Change.{change_of};
-ghost use Rattle.portal_core.specs.Parts.{IsPlanned, IsPlannedOn};
-ghost use Rattle.portal_core.specs.Parts.{state_of};
+ghost use Rattle.portal_core.specs.Answer.{planned_answer, answer_on, quota_of, of_people, of_datasets, of_tables};
+ghost use Rattle.portal_core.specs.Planned.{planned_of};
+ghost use Rattle.portal_core.specs.Parts.{IsPlanned, IsPlannedOn, state_of};
 ghost use Rattle.portal_core.specs.Valid.{IsValid};
 ghost use Rattle.portal_core.specs.View.{view_of};
 ghost use Rattle.visibility.specs.CallView.{context_view};
@@ -44,8 +43,8 @@ pub fn decide(alloc: Global, parts: &mut Parts, call: &Call) -> Result<Answer<Pl
     requires { IsValid (state_of parts.old) }
     ensures same { state_of parts.new ≡ state_of parts.old }
     ensures shelf { parts.new.shelf ≡ parts.old.shelf }
-    ensures answer { IfOk result (λ answer. map_answer change_of answer
-        ≡ answer_to call.now (view_of call.now.caller (state_of parts.old))) }
+    ensures answer { IfOk result (λ answer. map_answer planned_of answer
+        ≡ planned_answer call.now (view_of call.now.caller (state_of parts.old))) }
     ensures planned { IfOk result (AcceptsOnly (λ plan. IsPlanned plan parts.new)) }
 {
     let quota = quota_of(parts, call);
@@ -78,7 +77,7 @@ fn answer(
     requires open { IsTrue (list_all is_public_if_harvested (datasets_of context.now.shelf.now)) }
     requires linked { AreLinked (tables_of tables.old) }
     ensures same { tables_of tables.new ≡ tables_of tables.old }
-    ensures answer { IfOk result (λ answer. map_answer change_of answer
+    ensures answer { IfOk result (λ answer. map_answer planned_of answer
         ≡ answer_on (topic_of context.now.call.now.request.action) (context_view context.now)
         (tables_seen (context_view context.now).datasets (tables_of tables.old))) }
     ensures planned { IfOk result (AcceptsOnly (λ plan. IsPlannedOn plan tables.new)) }
@@ -93,7 +92,7 @@ fn answer(
 
 /// An answer on organizations as one on the portal.
 fn of_people(answer: Answer<OrgChange>) -> Answer<Plan>
-    ensures answer { map_answer change_of result ≡ of_people answer }
+    ensures answer { map_answer planned_of result ≡ of_people answer }
     ensures planned { (stored : Stored) → AcceptsOnly (λ plan. IsPlannedOn plan stored) result }
 {
     match answer {
@@ -105,7 +104,7 @@ fn of_people(answer: Answer<OrgChange>) -> Answer<Plan>
 
 /// An answer on datasets as one on the portal.
 fn of_datasets(answer: Answer<DatasetChange>) -> Answer<Plan>
-    ensures answer { map_answer change_of result ≡ of_datasets answer }
+    ensures answer { map_answer planned_of result ≡ of_datasets answer }
     ensures planned { (stored : Stored) → AcceptsOnly (λ plan. IsPlannedOn plan stored) result }
 {
     match answer {
@@ -117,7 +116,7 @@ fn of_datasets(answer: Answer<DatasetChange>) -> Answer<Plan>
 
 /// An answer on tables as one on the portal. Where the resource has no table, the answer is `NotFound`.
 fn of_tables(answer: TableAnswer<TablePlan>) -> Answer<Plan>
-    ensures answer { map_answer change_of result ≡ of_tables (map_table_answer planned_change answer) }
+    ensures answer { map_answer planned_of result ≡ of_tables (map_table_answer table_change answer) }
     ensures planned { (stored : Stored) → TableAcceptsOnly (λ plan. table.IsPlanned plan stored) answer →
         AcceptsOnly (λ plan. IsPlannedOn plan stored) result }
 {
@@ -135,7 +134,7 @@ fn of_tables(answer: TableAnswer<TablePlan>) -> Answer<Plan>
 /// An answer on organizations as one on the portal, unless memory ran out.
 fn on_people(answer: Result<Answer<OrgChange>, AllocError>) -> Result<Answer<Plan>, AllocError>
     ensures answer { (expected : Answer OrgChange) → IfOk answer (λ given. given ≡ expected) →
-        IfOk result (λ answer. map_answer change_of answer ≡ of_people expected) }
+        IfOk result (λ answer. map_answer planned_of answer ≡ of_people expected) }
     ensures planned { (stored : Stored) → IfOk result (AcceptsOnly (λ plan. IsPlannedOn plan stored)) }
 {
     Ok(of_people(answer?))
@@ -146,7 +145,7 @@ fn on_datasets(
     answer: Result<Answer<DatasetChange>, AllocError>,
 ) -> Result<Answer<Plan>, AllocError>
     ensures answer { (expected : Answer DatasetChange) → IfOk answer (λ given. given ≡ expected) →
-        IfOk result (λ answer. map_answer change_of answer ≡ of_datasets expected) }
+        IfOk result (λ answer. map_answer planned_of answer ≡ of_datasets expected) }
     ensures planned { (stored : Stored) → IfOk result (AcceptsOnly (λ plan. IsPlannedOn plan stored)) }
 {
     Ok(of_datasets(answer?))
@@ -155,8 +154,8 @@ fn on_datasets(
 /// An answer on tables as one on the portal, unless memory ran out.
 fn on_tables(answer: Result<TableAnswer<TablePlan>, AllocError>) -> Result<Answer<Plan>, AllocError>
     ensures answer { (expected : TableAnswer TableChange) →
-        IfOk answer (λ given. map_table_answer planned_change given ≡ expected) →
-        IfOk result (λ answer. map_answer change_of answer ≡ of_tables expected) }
+        IfOk answer (λ given. map_table_answer table_change given ≡ expected) →
+        IfOk result (λ answer. map_answer planned_of answer ≡ of_tables expected) }
     ensures planned { (stored : Stored) →
         IfOk answer (TableAcceptsOnly (λ plan. table.IsPlanned plan stored)) →
         IfOk result (AcceptsOnly (λ plan. IsPlannedOn plan stored)) }

@@ -5,13 +5,11 @@ ghost use Rattle.std.specs.Option.{option_map, option_copied};
 ghost use Rattle.org_roles.specs.Changed.{org_fault, IsReady};
 ghost use Rattle.packages.specs.Shelf.{IsValidShelf};
 ghost use Rattle.dataset_answers.specs.Sound.{IsSound};
-ghost use Rattle.portal_core.specs.Change.{change_of, Datasets};
-ghost use Rattle.portal_core.specs.Changed.{changed, applied, charge_of, with_charge, claims_of, is_in_use, key_of};
-ghost use Rattle.portal_core.specs.Changed.{IsUnused};
+ghost use Rattle.portal_core.specs.Planned.{planned_of, Datasets, claims_of};
+ghost use Rattle.portal_core.specs.Changed.{AreUnused, changed, charge_of, is_in_use, key_of, with_charge, with_planned};
 ghost use Rattle.portal_core.specs.Fit.{IsFit};
-ghost use Rattle.portal_core.specs.Parts.{state_of, change_in, with_prepared, IsConsistent, MakesSound, IsTakenBy};
-ghost use Rattle.portal_core.specs.Parts.{IsUnrefused};
-ghost use Rattle.portal_core.specs.Parts.{IsPlanned, IsPrepared, IsChangeReady, IsChargeReady};
+ghost use Rattle.portal_core.specs.Parts.{state_of, planned_in, with_prepared, IsConsistent, MakesSound, IsTakenBy};
+ghost use Rattle.portal_core.specs.Parts.{IsUnrefused, IsPlanned, IsPrepared, IsChangeReady, IsChargeReady};
 ghost use Rattle.portal_core.specs.State.{accepted_bytes_of};
 
 use crate::change::Plan;
@@ -74,10 +72,10 @@ impl Parts {
     /// The key of the first name or id that the change claims and that is in use.
     pub fn key_in_use(&self, plan: &Plan) -> Option<&'static str>
         requires consistent { IsConsistent self.now }
-        requires sound { MakesSound (change_of plan.now) self.now }
+        requires sound { MakesSound (planned_of plan.now) self.now }
         ensures key { option_copied result
-            ≡ option_map key_of (find (is_in_use (state_of self.now)) (claims_of (change_of plan.now))) }
-        ensures unused { IfNone result (IsUnused (state_of self.now) (change_of plan.now)) }
+            ≡ option_map key_of (find (is_in_use (state_of self.now)) (claims_of (planned_of plan.now))) }
+        ensures unused { IfNone result (AreUnused (state_of self.now) (claims_of (planned_of plan.now))) }
     {
         match plan {
             Plan::People(OrgChange::Create(org)) => self
@@ -98,7 +96,7 @@ impl Parts {
         ensures key { option_copied result ≡ option_map key_of
             (find (is_in_use (state_of self.now)) (claims_of (Datasets (DatasetChange.Create dataset.now)))) }
         ensures unused { IfNone result
-            (IsUnused (state_of self.now) (Datasets (DatasetChange.Create dataset.now))) }
+            (AreUnused (state_of self.now) (claims_of (Datasets (DatasetChange.Create dataset.now)))) }
     {
         if self.shelf.is_in_use(dataset.name.as_str()) {
             Some("name")
@@ -113,10 +111,10 @@ impl Parts {
     /// runs out, nothing changes.
     pub fn apply(&mut self, alloc: Global, call: &Call, plan: Plan) -> Result<(), AllocError>
         requires consistent { IsConsistent self.old }
-        requires fit { IsFit call.now (state_of self.old) (change_of plan) }
+        requires fit { IsFit call.now (state_of self.old) (planned_of plan) }
         requires planned { IsPlanned plan self.old }
-        requires unused { IsUnused (state_of self.old) (change_of plan) }
-        ensures applied { OnOk result (state_of self.new ≡ applied call.now (change_of plan) (state_of self.old)) }
+        requires unused { AreUnused (state_of self.old) (claims_of (planned_of plan)) }
+        ensures applied { OnOk result (state_of self.new ≡ with_planned call.now (planned_of plan) (state_of self.old)) }
         ensures kept { OnErr result (state_of self.new ≡ state_of self.old) }
         ensures shelved { IsValidShelf self.new.shelf }
     {
@@ -129,13 +127,13 @@ impl Parts {
     #[tactic(auto, using(crate::proofs::Shelving::unrefused))]
     fn prepare(&mut self, alloc: Global, call: &Call, plan: Plan) -> Result<Prepared, AllocError>
         requires consistent { IsConsistent self.old }
-        requires fit { IsFit call.now (state_of self.old) (change_of plan) }
+        requires fit { IsFit call.now (state_of self.old) (planned_of plan) }
         requires planned { IsPlanned plan self.old }
-        requires unused { IsUnused (state_of self.old) (change_of plan) }
+        requires unused { AreUnused (state_of self.old) (claims_of (planned_of plan)) }
         ensures same { state_of self.new ≡ state_of self.old }
         ensures shelved { IsValidShelf self.new.shelf }
         ensures ready { IfOk result (λ prepared. IsPrepared prepared self.new) }
-        ensures change { IfOk result (λ prepared. change_in prepared.change ≡ change_of plan) }
+        ensures change { IfOk result (λ prepared. planned_in prepared.change ≡ planned_of plan) }
         ensures charge { IfOk result (λ prepared.
             prepared.charge ≡ charge_of call.now.caller call.now.size self.old.quota_used.used) }
     {
@@ -147,12 +145,12 @@ impl Parts {
     /// Prepares a change that no part refuses.
     fn prepare_change(&mut self, plan: Plan) -> Result<PreparedChange, AllocError>
         requires shelved { IsValidShelf self.old.shelf }
-        requires unrefused { IsUnrefused (change_of plan) self.old }
+        requires unrefused { IsUnrefused (planned_of plan) self.old }
         requires planned { IsPlanned plan self.old }
         ensures same { state_of self.new ≡ state_of self.old }
         ensures shelved { IsValidShelf self.new.shelf }
         ensures quota_used { self.new.quota_used ≡ self.old.quota_used }
-        ensures change { IfOk result (λ prepared. change_in prepared ≡ change_of plan) }
+        ensures change { IfOk result (λ prepared. planned_in prepared ≡ planned_of plan) }
         ensures ready { IfOk result (λ prepared. IsChangeReady prepared self.new) }
     {
         match plan {
@@ -175,7 +173,7 @@ impl Parts {
         ensures same { state_of self.new ≡ state_of self.old }
         ensures shelved { IsValidShelf self.new.shelf }
         ensures quota_used { self.new.quota_used ≡ self.old.quota_used }
-        ensures change { IfOk result (λ prepared. change_in prepared ≡ Datasets change) }
+        ensures change { IfOk result (λ prepared. planned_in prepared ≡ Datasets change) }
         ensures ready { IfOk result (λ prepared. IsChangeReady prepared self.new) }
     {
         match change {
@@ -239,7 +237,7 @@ impl Parts {
     fn commit_change(&mut self, change: PreparedChange)
         requires ready { IsChangeReady change self.old }
         requires shelved { IsValidShelf self.old.shelf }
-        ensures state { state_of self.new ≡ changed (change_in change) (state_of self.old) }
+        ensures state { state_of self.new ≡ changed (planned_in change) (state_of self.old) }
         ensures shelved { IsValidShelf self.new.shelf }
         ensures quota_used { self.new.quota_used ≡ self.old.quota_used }
     {

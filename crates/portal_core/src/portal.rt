@@ -3,11 +3,10 @@
 //! The portal decides a call on its caller's view: the right first, then the rules. Then it prepares all growth, and
 //! then a commit makes the change: it takes no memory and can't fail.
 ghost use Rattle.std.specs.Prelude.{◌≡◌, ◌≢◌, IsTrue, IfOk, OnOk, OnErr};
-ghost use Rattle.portal_calls.specs.declared.answer.Answer.TheVariants.{Accepted};
-ghost use Rattle.portal_core.specs.Change.{change_of};
+ghost use Rattle.portal_core.specs.Planned.{planned_of};
 ghost use Rattle.portal_core.specs.Fit.{IsFit};
 ghost use Rattle.portal_core.specs.Parts.{state_of, IsPlanned, IsConsistent};
-ghost use Rattle.portal_core.specs.Step.{outcome_of};
+ghost use Rattle.portal_core.specs.Step.{planned_outcome};
 ghost use Rattle.portal_core.specs.View.{view_of};
 
 use crate::change::Plan;
@@ -24,7 +23,7 @@ use portal_base::json_value::Json;
 use portal_base::seq::Seq;
 use portal_base::text::Text;
 use portal_calls::answer::Answer;
-use portal_calls::call::Call;
+use portal_calls::call::{Call, Request};
 use portal_calls::event::{Event, Refusal, Reply, refusal_of};
 use std::alloc::{AllocError, Global};
 use std::marker::Model;
@@ -65,8 +64,9 @@ impl Model for Portal {
 }
 
 impl Portal {
-    ghost use Rattle.portal_core.specs.Opened.{opened, is_opening, known_caller};
-    ghost use Rattle.portal_core.specs.Step.{step_of, call_step};
+    ghost use Rattle.portal_core.specs.Known.{is_known};
+    ghost use Rattle.portal_core.specs.Opened.{opened, is_opening};
+    ghost use Rattle.portal_core.specs.Step.{step_of, call_step, known_step};
 
     /// A portal with these users, organizations and roles, and no dataset.
     pub fn open(alloc: Global, opening: &Opening) -> Result<Portal, OpenFault>
@@ -98,20 +98,6 @@ impl Portal {
         })
     }
 
-    /// The caller, where it is a user of this portal, else the anonymous caller.
-    pub fn known_caller(&self, caller: Caller) -> Caller
-        ensures { result ≡ known_caller self.now.people caller }
-    {
-        match caller {
-            Caller::Anonymous => Caller::Anonymous,
-            Caller::Named(user) => if self.parts.people.has_user(user.as_str()) {
-                Caller::Named(user)
-            } else {
-                Caller::Anonymous
-            },
-        }
-    }
-
     /// Makes the step of one event. The reply and the state after it are the step's. Where memory runs out, the reply
     /// is `OutOfMemory` and nothing changes.
     #[tactic(auto, using(crate::proofs::Settling::step_there))]
@@ -119,7 +105,7 @@ impl Portal {
         ensures reply { result ≢ Reply.Refused Refusal.OutOfMemory
             → result ≡ (step_of self.old event.now).reply }
         ensures state { result ≢ Reply.Refused Refusal.OutOfMemory
-            → self.new ≡ (step_of self.old event.now).state }
+            → self.new ≡ (step_of self.old event.now).core }
         ensures kept { result ≡ Reply.Refused Refusal.OutOfMemory → self.new ≡ self.old }
     {
         let Event::Call(call) = event;
@@ -129,10 +115,34 @@ impl Portal {
         }
     }
 
-    #[tactic(auto, using(crate::proofs::Answering::accepted_fit))]
+    /// Makes the step of a call. A caller whom no user has is nobody.
     fn act_on_call(&mut self, call: &Call) -> Result<Reply, AllocError>
         ensures reply { IfOk result (λ reply. reply ≡ (call_step self.old call.now).reply) }
-        ensures state { OnOk result (self.new ≡ (call_step self.old call.now).state) }
+        ensures state { OnOk result (self.new ≡ (call_step self.old call.now).core) }
+        ensures kept { OnErr result (self.new ≡ self.old) }
+    {
+        if self.is_known(&call.caller) {
+            return self.act_on_known(call);
+        }
+        let call = by_nobody(self.alloc, call)?;
+        self.act_on_known(&call)
+    }
+
+    /// Whether the caller is nobody, or a user of this portal.
+    fn is_known(&self, caller: &Caller) -> bool
+        ensures { result ≡ is_known self.now.people caller.now }
+    {
+        match caller {
+            Caller::Anonymous => true,
+            Caller::Named(user) => self.parts.people.has_user(user.as_str()),
+        }
+    }
+
+    /// Makes the step of a call whose caller is known.
+    #[tactic(auto, using(crate::proofs::Answering::accepted_fit))]
+    fn act_on_known(&mut self, call: &Call) -> Result<Reply, AllocError>
+        ensures reply { IfOk result (λ reply. reply ≡ (known_step self.old call.now).reply) }
+        ensures state { OnOk result (self.new ≡ (known_step self.old call.now).core) }
         ensures kept { OnErr result (self.new ≡ self.old) }
     {
         match decide(self.alloc, &mut self.parts, call)? {
@@ -149,6 +159,23 @@ impl Portal {
     }
 }
 
+/// The same call, made by nobody.
+fn by_nobody(alloc: Global, call: &Call) -> Result<Call, AllocError>
+    ensures { IfOk result (λ copy. copy ≡ record call.now { caller = Caller.Anonymous }) }
+{
+    let body = call.request.body.try_clone(alloc)?;
+    Ok(Call {
+        caller: Caller::Anonymous,
+        request: Request {
+            action: call.request.action,
+            body,
+        },
+        size: call.size,
+        moment: call.moment,
+        nonce: call.nonce,
+    })
+}
+
 /// Makes an accepted change, where nothing that it claims is in use, else refuses it.
 #[tactic(auto, using(crate::proofs::Settling::outcome_unused, crate::proofs::Settling::kept_consistent))]
 fn apply_if_unused(
@@ -159,13 +186,13 @@ fn apply_if_unused(
     plan: Plan,
 ) -> Result<Reply, AllocError>
     requires consistent { IsConsistent parts.old }
-    requires fit { IsFit call.now (view_of call.now.caller (state_of parts.old)) (change_of plan) }
+    requires fit { IsFit call.now (view_of call.now.caller (state_of parts.old)) (planned_of plan) }
     requires planned { IsPlanned plan parts.old }
     ensures consistent { IsConsistent parts.new }
     ensures reply { IfOk result (λ reply.
-        reply ≡ (outcome_of (Accepted json (change_of plan)) call.now (state_of parts.old)).reply) }
+        reply ≡ (planned_outcome json (planned_of plan) call.now (state_of parts.old)).reply) }
     ensures state { OnOk result
-        (state_of parts.new ≡ (outcome_of (Accepted json (change_of plan)) call.now (state_of parts.old)).state) }
+        (state_of parts.new ≡ (planned_outcome json (planned_of plan) call.now (state_of parts.old)).core) }
     ensures kept { OnErr result (state_of parts.new ≡ state_of parts.old) }
 {
     if let Some(key) = parts.key_in_use(&plan) {

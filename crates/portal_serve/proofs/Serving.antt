@@ -103,7 +103,7 @@ has_phrase (Err no_memory) = refl
 -- what was written since reading ended was written since before it
 pub writes_since : (text : ℕ × List ℕ) (old middle new : LinkTrace) (end : Served) → middle.taken ≡ old.taken
     → old.faults ≤ middle.faults → Writes text middle new end → Writes text old new end
-writes_since text old middle new (served.RequestOutcome status) same rose w =
+writes_since text old middle new (served.Replied status) same rose w =
     (w.0, subst (λ t. Takes t (response_bytes text.0 text.1) new.taken) same w.1)
 writes_since text old middle new served.EndedEarly same rose w = w
 writes_since text old middle new served.LinkFault same rose w = (

@@ -23,7 +23,6 @@ use Rattle.portal_serve.specs.Transcript.{outcome_of_call, reply_line, early_lin
 use Rattle.action_api.specs.Request.{request_for}
 use Rattle.portal_base.specs.declared.caller.Caller.{Caller}
 use Rattle.portal_calls.specs.declared.call.Request.{Request}
-use Rattle.portal_core.specs.Opened.{known_caller}
 use Rattle.portal_core.specs.Step.{call_step}
 use Rattle.portal_calls.specs.declared.event.Reply.{Reply}
 use Rattle.portal_serve.specs.Run.{Begins, DrawsAll, script_state, StageTrace}
@@ -206,25 +205,22 @@ begins_nothing whole = (whole, refl)
 pub begins_take : (count : ℕ) (piece : List ℕ) → Begins (take count piece) piece
 begins_take count piece = (drop count piece, take-append-drop count piece)
 
--- the reply to the call of a line, whose caller and request were read first
-pub outcome_known : (state : State) (call : ScriptCall) (size : ℕ) (m : ℤ) (n : ℕ) (request : Result Request Early)
-    (who : Caller) (reply : Result Reply Early)
-    → request ≡ request_for call.action call.body → who ≡ known_caller state.people call.caller
-    → reply ≡ (outcome_of_request state who size m n request).reply
+-- the reply to the call of a line, whose request was read first
+outcome_read : (state : State) (call : ScriptCall) (size : ℕ) (m : ℤ) (n : ℕ) (request : Result Request Early)
+    (reply : Result Reply Early)
+    → request ≡ request_for call.action call.body
+    → reply ≡ (outcome_of_request state call.caller size m n request).reply
     → reply ≡ (outcome_of_call state call size m n).reply
-outcome_known state call size m n request who reply is known outcome =
-    outcome ∙ ap (λ r. (outcome_of_request state who size m n r).reply) is
-    ∙ ap (λ w. (outcome_of_request state w size m n (request_for call.action call.body)).reply) known
+outcome_read state call size m n request reply is outcome =
+    outcome ∙ ap (λ r. (outcome_of_request state call.caller size m n r).reply) is
 
 -- the state after it
-pub left_known : (state after : State) (call : ScriptCall) (size : ℕ) (m : ℤ) (n : ℕ) (request : Result Request Early)
-    (who : Caller)
-    → request ≡ request_for call.action call.body → who ≡ known_caller state.people call.caller
-    → after ≡ (outcome_of_request state who size m n request).state
+left_read : (state after : State) (call : ScriptCall) (size : ℕ) (m : ℤ) (n : ℕ) (request : Result Request Early)
+    → request ≡ request_for call.action call.body
+    → after ≡ (outcome_of_request state call.caller size m n request).state
     → after ≡ (outcome_of_call state call size m n).state
-left_known state after call size m n request who is known left =
-    left ∙ ap (λ r. (outcome_of_request state who size m n r).state) is
-    ∙ ap (λ w. (outcome_of_request state w size m n (request_for call.action call.body)).state) known
+left_read state after call size m n request is left =
+    left ∙ ap (λ r. (outcome_of_request state call.caller size m n r).state) is
 
 -- a request that was read, or a fault other than out of memory, is that of the name and the body
 pub request_made : (name : List ℕ) (body : Json) (request : Result Request Early)
@@ -246,38 +242,35 @@ reply_made state caller request r size m n reply is made =
 -- the state after the call of a request
 pub state_made : (state after : State) (caller : Caller) (request : Result Request Early) (r : Request) (size : ℕ) (m : ℤ)
     (n : ℕ)
-    → request ≡ Ok r → after ≡ (call_step state (call_of caller r size m n)).state
+    → request ≡ Ok r → after ≡ (call_step state (call_of caller r size m n)).core
     → after ≡ (outcome_of_request state caller size m n request).state
 state_made state after caller request r size m n is made =
     made ∙ sym (ap (λ x. (outcome_of_request state caller size m n x).state) is)
 
 -- the reply of a call where memory didn't run out
 pub outcome_in : {E : Type 0} (state : State) (call : ScriptCall) (size : ℕ) (m : ℤ) (n : ℕ)
-    (request : Result Request Early) (who : Caller) (result : Result (Result Reply Early) E)
+    (request : Result Request Early) (result : Result (Result Reply Early) E)
     → IfOk request (λ r. request_for call.action call.body ≡ Ok r)
     → IfErr request (λ e. (e ≡ OutOfMemory) ⊎ (request_for call.action call.body ≡ Err e))
-    → who ≡ known_caller state.people call.caller
-    → IfOk result (λ reply. reply ≡ (outcome_of_request state who size m n request).reply)
+    → IfOk result (λ reply. reply ≡ (outcome_of_request state call.caller size m n request).reply)
     → OnOk result (request ≢ Err OutOfMemory)
     → IfOk result (λ reply. reply ≡ (outcome_of_call state call size m n).reply)
-outcome_in state call size m n request who (Ok reply) value fault is outcome known =
-    outcome_known state call size m n request who reply
-    (request_made call.action call.body request value fault known) is outcome
-outcome_in state call size m n request who (Err e) value fault is outcome known = tt
+outcome_in state call size m n request (Ok reply) value fault outcome known =
+    outcome_read state call size m n request reply
+    (request_made call.action call.body request value fault known) outcome
+outcome_in state call size m n request (Err e) value fault outcome known = tt
 
 -- the state after it
 pub left_in : {E : Type 0} (state after : State) (call : ScriptCall) (size : ℕ) (m : ℤ) (n : ℕ)
-    (request : Result Request Early) (who : Caller) (result : Result (Result Reply Early) E)
+    (request : Result Request Early) (result : Result (Result Reply Early) E)
     → IfOk request (λ r. request_for call.action call.body ≡ Ok r)
     → IfErr request (λ e. (e ≡ OutOfMemory) ⊎ (request_for call.action call.body ≡ Err e))
-    → who ≡ known_caller state.people call.caller
-    → OnOk result (after ≡ (outcome_of_request state who size m n request).state)
+    → OnOk result (after ≡ (outcome_of_request state call.caller size m n request).state)
     → OnOk result (request ≢ Err OutOfMemory)
     → OnOk result (after ≡ (outcome_of_call state call size m n).state)
-left_in state after call size m n request who (Ok reply) value fault is left known =
-    left_known state after call size m n request who (request_made call.action call.body request value fault known) is
-    left
-left_in state after call size m n request who (Err e) value fault is left known = tt
+left_in state after call size m n request (Ok reply) value fault left known =
+    left_read state after call size m n request (request_made call.action call.body request value fault known) left
+left_in state after call size m n request (Err e) value fault left known = tt
 
 -- the outcome of a call whose action was read
 pub outcome_as : (state : State) (call : ScriptCall) (size : ℕ) (m : ℤ) (n : ℕ) (action : List ℕ)

@@ -19,7 +19,7 @@ call_of caller request size moment nonce =
     record { caller = caller; request = request; size = size; moment = moment; nonce = record { 0 = nonce } }
 
 abbrev pub outcome_of_step : Outcome → RequestOutcome
-outcome_of_step outcome = record { reply = Ok outcome.reply; state = outcome.state }
+outcome_of_step outcome = record { reply = Ok outcome.reply; state = outcome.core }
 
 -- The outcome of the step of the call, where there is a request, else the early fault, which leaves the state.
 abbrev pub outcome_of_request : State → Caller → ℕ → ℤ → ℕ → Result Request Early → RequestOutcome

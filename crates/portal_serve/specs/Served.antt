@@ -93,7 +93,7 @@ link_trace to_come taken faults = record { to_come = to_come; taken = taken; fau
 
 -- The response with this status and text was written; or some prefix of it, where the link failed.
 abbrev pub Writes : ℕ × List ℕ → LinkTrace → LinkTrace → Served → Type 0
-Writes text old new (served.RequestOutcome status) =
+Writes text old new (served.Replied status) =
     (status ≡ text.0) × Takes old.taken (response_bytes text.0 text.1) new.taken
 Writes text old new served.EndedEarly = ⊥
 Writes text old new served.LinkFault =

@@ -4,7 +4,6 @@ use Rattle.std.specs.Prelude.{Result, Ok, Err, decimal}
 use Rattle.action_api.specs.Reply.{reply_text}
 use Rattle.action_api.specs.Request.{request_for}
 use Rattle.action_api.specs.declared.early.Early.{Early}
-use Rattle.portal_core.specs.Opened.{known_caller}
 use Rattle.portal_serve.specs.RequestOutcome.{RequestOutcome, outcome_of_request}
 use Rattle.portal_serve.specs.Script.{ScriptCall, call_of_line}
 use Rattle.portal_core.specs.State.{State}
@@ -50,8 +49,7 @@ early_line early = reply_line None (Err early)
 -- the outcome of a call of this size, with the moment and the nonce that were drawn for it
 abbrev pub outcome_of_call : State → ScriptCall → ℕ → ℤ → ℕ → RequestOutcome
 outcome_of_call state call size moment nonce =
-    outcome_of_request state (known_caller state.people call.caller) size moment nonce
-    (request_for call.action call.body)
+    outcome_of_request state call.caller size moment nonce (request_for call.action call.body)
 
 abbrev pub turn_of_reply : ScriptCall → RequestOutcome → List ℤ → List ℕ → Turn
 turn_of_reply call outcome moments nonces =

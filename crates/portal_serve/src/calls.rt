@@ -84,7 +84,6 @@ fn reply_to_call(
         (record { caller = caller; action = action.now; body = body }) drawn.size drawn.moment drawn.nonce.0).state) }
     ensures kept { OnErr result (portal.new ≡ portal.old) }
 {
-    let caller = portal.known_caller(caller);
     let request = request_for(alloc, action, body);
     reply_to_request(portal, caller, request, drawn)
 }

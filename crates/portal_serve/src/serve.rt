@@ -30,7 +30,7 @@ use std::alloc::{AllocError, Global};
 #[derive(Clone, Copy, Debug, PartialEq, Eq)]
 pub enum Served {
     /// A complete response of this status was written.
-    RequestOutcome(u16),
+    Replied(u16),
     /// The input ended before the request did, and nothing was written.
     EndedEarly,
     /// The link's count of faults rose.
@@ -195,7 +195,7 @@ fn write<K: Link>(link: &mut K, status: u16, text: &[u8]) -> Served
     ensures counts { K.faults link.old ≤ K.faults link.new }
 {
     match send(link, status, text) {
-        Ok(()) => Served::RequestOutcome(status),
+        Ok(()) => Served::Replied(status),
         Err(_failed) => Served::LinkFault,
     }
 }

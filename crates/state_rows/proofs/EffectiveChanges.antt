@@ -15,8 +15,8 @@ use Rattle.portal_keeper.specs.declared.change.Change.{Change}
 use Rattle.portal_keeper.specs.declared.row.KeptRow.{KeptRow}
 use Rattle.portal_keeper.specs.declared.row.RowKind.{RowKind}
 use Rattle.portal_keeper.proofs.RowLemmas.{body_at-rows_after, in_order-rows_after, same_key, same_rows}
-use Rattle.change_entries.specs.Alone.{AllDropAlone}
-use Rattle.change_entries.specs.Entries.{Entry, state_after}
+use Rattle.portal_core.specs.Alone.{AllDropAlone}
+use Rattle.portal_core.specs.Entries.{Entry, state_after}
 use Rattle.state_rows.specs.KeptRows.{kept_rows}
 use Rattle.state_rows.specs.RowChanges.{change_at, change_to, effective_changes, entry_key, is_body}
 use Rattle.state_rows.specs.RowChanges.{is_effective, row_changes}

@@ -7,6 +7,7 @@ use Rattle.std.specs.Ordering.{is_eq, is_lt, nat_cmp, ordering_then}
 use Rattle.std.specs.Cmp.Lexicographic.{slice_cmp}
 use Rattle.std.specs.Str.{bytes_eq}
 use Rattle.std.specs.declared.cmp.Ordering.{Ordering}
+use Rattle.std.proofs.lemmas.Slice.Eq.{bytes_eq-Decides}
 use Rattle.std.specs.declared.cmp.Ordering.TheVariants.{Less, Equal, Greater}
 use Rattle.std.proofs.lemmas.Cmp.{tied_itself}
 use Rattle.std.proofs.lemmas.Map.Lookups.{exact_bytes, exact_unsigned}
@@ -31,6 +32,7 @@ use Rattle.datastore_answers.specs.declared.address.Address.{Address}
 use Rattle.datastore_answers.specs.declared.resource_table.ResourceTable.{ResourceTable}
 use Rattle.datastore_answers.proofs.KeepLemmas.{at-is, found-in}
 use Rattle.dataset_answers.specs.Changed.{dataset_at_id}
+use Rattle.dataset_answers.specs.Edits.{DatasetEdit, edited}
 use Rattle.portal_core.specs.State.{State}
 use Rattle.portal_keeper.specs.Rows.{key_cmp, row_at, row_cmp_total}
 use Rattle.portal_keeper.specs.declared.row.KeptRow.{KeptRow}
@@ -39,10 +41,10 @@ use Rattle.portal_keeper.specs.declared.row.RowKind.TheVariants as kind
 use Rattle.portal_rows.specs.OrgRows.{memberships_in, org_row, org_rows}
 use Rattle.portal_rows.specs.TableRows.{cells_row, head_of, row_key, table_row}
 use Rattle.portal_rows.specs.VersionRow.{version_row}
-use Rattle.change_entries.specs.Alone.{DropsAlone}
-use Rattle.change_entries.specs.Entries.{Entry, PutOrg, DropOrg, PutRole, DropRole, PutDataset, DropDataset, PutTable}
-use Rattle.change_entries.specs.Entries.{DropTable, PutRow, DropRow, TableHead, changed_by, row_at_id, rows_at, rows_of}
-use Rattle.change_entries.specs.Entries.{table_of, with_head, with_row, without_row}
+use Rattle.portal_core.specs.Alone.{DropsAlone}
+use Rattle.portal_core.specs.Entries.{Entry, PutOrg, DropOrg, PutRole, DropRole, PutDataset, EditDataset}
+use Rattle.portal_core.specs.Entries.{DropDataset, PutTable, DropTable, PutRow, DropRow, TableHead, changed_by, row_at_id, rows_at, rows_of}
+use Rattle.portal_core.specs.Entries.{table_of, with_edit, with_head, with_row, without_row}
 use Rattle.state_rows.specs.KeptRows.{dataset_row, listed_rows, resource_id, row_targets, table_rows}
 use Rattle.state_rows.specs.RowChanges.{entry_key}
 use Rattle.state_rows.proofs.RowMembers.{IsInBoth, IsIn-flat_map, flat_map-IsIn, in_both-append, in_both-cons}
@@ -121,6 +123,36 @@ roles-others org before after orgs r same other =
   where
     differ : (o : Org) → r.kind ≡ kind.Org → r.key ≡ o.name → org ≡ o.name → ⊥
     differ o kind_is key_is here = not_other (kind.Org, org) r other kind_is (key_is ∙ sym here)
+
+-- ---- datasets
+
+-- The dataset, edited if it has that id.
+abbrev with_own_edit : List ℕ → DatasetEdit → Package → Package
+with_own_edit id edit d = if bytes_eq d.id id then edited edit d else d
+
+-- An edit leaves the rows of other datasets.
+dataset-edited : (id : List ℕ) (edit : DatasetEdit) (datasets : List Package) (r : KeptRow) → IsOther (kind.Set, id) r
+    → IsInBoth r (map dataset_row datasets) (map dataset_row (with_edit id edit datasets))
+dataset-edited id edit datasets r other =
+    subst (IsInBoth r (map dataset_row datasets)) (of_each datasets)
+    (in_both-made dataset_row (λ d. dataset_row (with_own_edit id edit d)) datasets r
+    (λ d made. same d (bytes_eq d.id id) refl (ap (λ (q : KeptRow). q.kind) made) (ap (λ (q : KeptRow). q.key) made))
+    (λ d made. same d (bytes_eq d.id id) refl (ap (λ (q : KeptRow). q.kind) made)
+    (ap (λ (q : KeptRow). q.key) made ∙ kept d (bytes_eq d.id id))))
+  where
+    of_each : (ds : List Package)
+        → map (λ d. dataset_row (with_own_edit id edit d)) ds ≡ map dataset_row (with_edit id edit ds)
+    of_each [] = refl
+    of_each (d ∷ ds) = ap (λ (rest : List KeptRow). dataset_row (with_own_edit id edit d) ∷ rest) (of_each ds)
+
+    kept : (d : Package) (b : Bool) → (if b then edited edit d else d).id ≡ d.id
+    kept d true = refl
+    kept d false = refl
+
+    same : (d : Package) (b : Bool) → bytes_eq d.id id ≡ b → r.kind ≡ kind.Set → r.key ≡ d.id
+        → dataset_row d ≡ dataset_row (if b then edited edit d else d)
+    same d true is of_kind at = absurd (not_other (kind.Set, id) r other of_kind (at ∙ (bytes_eq-Decides d.id id).0 is))
+    same d false is of_kind at = refl
 
 -- ---- the rows of a table
 
@@ -315,6 +347,8 @@ entry-others (PutDataset dataset) state r up empty other =
     datasets-changed r state (upserted dataset_cmp dataset state.datasets)
     (in_both-upserted dataset_row dataset_cmp dataset_cmp_total dataset state.datasets r
     (λ d made. other_of (kind.Set, dataset.id) r (dataset_row d) other made))
+entry-others (EditDataset id edit) state r up empty other =
+    datasets-changed r state (with_edit id edit state.datasets) (dataset-edited id edit state.datasets r other)
 entry-others (DropDataset id) state r up empty other =
     datasets-changed r state (dropped (dataset_at_id id) state.datasets)
     (in_both-dropped dataset_row (dataset_at_id id) state.datasets r

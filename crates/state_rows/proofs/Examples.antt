@@ -22,7 +22,7 @@ use Rattle.portal_keeper.specs.declared.row.RowKind.TheVariants as kind
 use Rattle.portal_rows.specs.OrgRows.{org_row}
 use Rattle.portal_rows.specs.TableRows.{cells_row, twenty_digits}
 use Rattle.portal_rows.specs.VersionRow.{version_row}
-use Rattle.change_entries.specs.Entries.{Entry, DropOrg, DropRole, DropRow, DropTable, PutRow, rows_at, state_after}
+use Rattle.portal_core.specs.Entries.{Entry, DropOrg, DropRole, DropRow, DropTable, PutRow, rows_at, state_after}
 use Rattle.state_rows.specs.KeptRows.{kept_rows, row_targets}
 use Rattle.state_rows.specs.RowChanges.{effective_changes, row_changes}
 

@@ -22,10 +22,10 @@ use Rattle.portal_keeper.specs.declared.change.Change.{Change}
 use Rattle.portal_keeper.specs.declared.row.KeptRow.{KeptRow}
 use Rattle.portal_keeper.specs.declared.row.RowKind.{RowKind}
 use Rattle.portal_keeper.proofs.RowLemmas.{body_at-rows_after, in_order-rows_after, same_key, same_rows}
-use Rattle.change_entries.specs.Alone.{AllDropAlone}
-use Rattle.change_entries.specs.Entries.{Entry, PutOrg, DropOrg, PutRole, DropRole, PutDataset, DropDataset, PutTable}
-use Rattle.change_entries.specs.Entries.{DropTable, PutRow, DropRow, changed_by, rows_at, state_after, table_of, with_row}
-use Rattle.change_entries.specs.Entries.{without_row}
+use Rattle.portal_core.specs.Alone.{AllDropAlone}
+use Rattle.portal_core.specs.Entries.{Entry, PutOrg, DropOrg, PutRole, DropRole, PutDataset, DropDataset, PutTable}
+use Rattle.portal_core.specs.Entries.{DropTable, PutRow, DropRow, changed_by, rows_at, state_after, table_of, with_row}
+use Rattle.portal_core.specs.Entries.{without_row}
 use Rattle.state_rows.specs.KeptRows.{kept_rows, listed_rows}
 use Rattle.state_rows.specs.RowChanges.{change_at, change_to, entry_key, row_changes}
 use Rattle.state_rows.proofs.EntryLemmas.{IsOther, entry-others}

@@ -1,8 +1,8 @@
 -- The changes of rows that follow from entries.
 use Rattle.std.specs.Prelude.{ℕ, Bool, false, not, List, Option, Some, None, filter, is_some, map}
 use Rattle.std.specs.Str.{bytes_eq}
-use Rattle.change_entries.specs.Entries.{Entry, PutOrg, DropOrg, PutRole, DropRole, PutDataset, DropDataset}
-use Rattle.change_entries.specs.Entries.{PutTable, DropTable, PutRow, DropRow}
+use Rattle.portal_core.specs.Entries.{Entry, PutOrg, DropOrg, PutRole, DropRole, PutDataset, EditDataset}
+use Rattle.portal_core.specs.Entries.{DropDataset, PutTable, DropTable, PutRow, DropRow}
 use Rattle.portal_core.specs.State.{State}
 use Rattle.portal_keeper.specs.Rows.{body_at}
 use Rattle.portal_keeper.specs.declared.change.Change.{Change}
@@ -22,6 +22,7 @@ entry_key (DropOrg name) = (kind.Org, name)
 entry_key (PutRole role) = (kind.Org, role.org)
 entry_key (DropRole org user) = (kind.Org, org)
 entry_key (PutDataset dataset) = (kind.Set, dataset.id)
+entry_key (EditDataset id edit) = (kind.Set, id)
 entry_key (DropDataset id) = (kind.Set, id)
 entry_key (PutTable head) = (kind.Table, resource_id head.address)
 entry_key (DropTable address) = (kind.Table, resource_id address)

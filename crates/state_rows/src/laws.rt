@@ -1,18 +1,18 @@
 //! Laws of the rows of states and of their changes. Each function has an empty body, and its contract is the law.
 ghost use Rattle.std.specs.Prelude.{◌≡◌, ◌↔◌, [], List, Some};
 ghost use Rattle.std.specs.List.{Contains};
-ghost use Rattle.change_entries.specs.Alone.{AllDropAlone};
-ghost use Rattle.change_entries.specs.Entries.{Entry, state_after};
-ghost use Rattle.change_entries.specs.EntriesOf.{entries_of};
 ghost use Rattle.datastore_answers.specs.Order.{table_cmp};
 ghost use Rattle.portal_base.specs.Ordered.{IsAscending};
+ghost use Rattle.portal_base.specs.declared.json_value.Json.{Json};
+ghost use Rattle.portal_calls.specs.declared.answer.Answer.TheVariants.{Accepted};
 ghost use Rattle.portal_calls.specs.declared.call.Call.{Call};
+ghost use Rattle.portal_core.specs.Alone.{AllDropAlone};
 ghost use Rattle.portal_core.specs.Change.{Change};
-ghost use Rattle.portal_core.specs.Changed.{IsUnused, applied, changed};
-ghost use Rattle.portal_core.specs.Fit.{IsFit};
+ghost use Rattle.portal_core.specs.Changed.{IsUnused, applied};
+ghost use Rattle.portal_core.specs.Entries.{Entry, state_after};
 ghost use Rattle.portal_core.specs.State.{State};
+ghost use Rattle.portal_core.specs.Step.{answer_in};
 ghost use Rattle.portal_core.specs.Valid.{IsValid};
-ghost use Rattle.portal_core.specs.View.{view_of};
 ghost use Rattle.portal_keeper.specs.Changed.{rows_after};
 ghost use Rattle.portal_keeper.specs.Rows.{AreInOrder, body_at};
 ghost use Rattle.portal_keeper.specs.declared.row.KeptRow.{KeptRow};
@@ -56,29 +56,29 @@ pub fn no_change_is_effective_where_no_row_changes()
 {}
 
 /// If the portal accepts a change in a valid state, the changes of rows that follow from its entries lead from the rows
-/// of the state to those of the changed state.
+/// of the state to those of the state after them.
 pub fn row_changes_follow_an_accepted_change()
-    ensures { (call : Call) (state : State) (change : Change) →
-        IsValid state → IsFit call (view_of call.caller state) change → IsUnused state change →
-        AreSized state.tables → AreSized (changed change state).tables →
-        rows_after (row_changes (entries_of change (view_of call.caller state)) (changed change state)) (kept_rows state)
-        ≡ kept_rows (changed change state) }
+    ensures { (call : Call) (state : State) (json : Json) (change : Change) → IsValid state →
+        answer_in state call ≡ Accepted json change → IsUnused state change →
+        AreSized state.tables → AreSized (state_after change.entries state).tables →
+        rows_after (row_changes change.entries (state_after change.entries state)) (kept_rows state)
+        ≡ kept_rows (state_after change.entries state) }
 {}
 
 /// If the portal accepts a change in a valid state, those of the changes of rows that change something lead from the rows
-/// of the state to those of the changed state.
+/// of the state to those of the state after its entries.
 pub fn effective_changes_follow_an_accepted_change()
-    ensures { (call : Call) (state : State) (change : Change) →
-        IsValid state → IsFit call (view_of call.caller state) change → IsUnused state change →
-        AreSized state.tables → AreSized (changed change state).tables →
+    ensures { (call : Call) (state : State) (json : Json) (change : Change) → IsValid state →
+        answer_in state call ≡ Accepted json change → IsUnused state change →
+        AreSized state.tables → AreSized (state_after change.entries state).tables →
         rows_after
-        (effective_changes (kept_rows state)
-        (row_changes (entries_of change (view_of call.caller state)) (changed change state))) (kept_rows state)
-        ≡ kept_rows (changed change state) }
+        (effective_changes (kept_rows state) (row_changes change.entries (state_after change.entries state)))
+        (kept_rows state)
+        ≡ kept_rows (state_after change.entries state) }
 {}
 
 /// What is charged for a change is in no row.
 pub fn quotas_are_in_no_row()
     ensures { (call : Call) (change : Change) (state : State) →
-        kept_rows (applied call change state) ≡ kept_rows (changed change state) }
+        kept_rows (applied call change state) ≡ kept_rows (state_after change.entries state) }
 {}

@@ -7,7 +7,7 @@ use Rattle.dataset_answers.specs.Answers.{answer_to_action}
 use Rattle.datastore_answers.specs.TableAnswers.{map_answer}
 use Rattle.datastore_answers.specs.Tables.{tables_of}
 use Rattle.portal_core.specs.Answer.{of_datasets}
-use Rattle.portal_core.specs.Change.{change_of}
+use Rattle.portal_core.specs.Planned.{planned_of}
 use Rattle.portal_core.proofs.Deciding.{answer_on_same}
 use Rattle.portal_core.proofs.TableViewing.{held_there}
 use Rattle.portal_core.proofs.decide.answer.Goals as goal
@@ -22,7 +22,7 @@ returns-in-Organizations-clause-planned c = c.on_people.ensures.planned _
 pub returns-in-Datasets-clause-answer : goal.returns-in-Datasets-clause-answer
 returns-in-Datasets-clause-answer c =
     answer_on_same _ _ _ _ c.of.ensures c.in-Datasets.is
-    (subst (λ (summaries : List TableSummary). IfOk c.on_datasets.result (λ answer. map_answer change_of answer
+    (subst (λ (summaries : List TableSummary). IfOk c.on_datasets.result (λ answer. map_answer planned_of answer
     ≡ of_datasets (answer_to_action c.in-Datasets.action (context_view c.args.context.now) summaries)))
     (held_there (context_view c.args.context.now).datasets (tables_of c.args.tables.now))
     (c.on_datasets.ensures.answer _ c.answer-in-Datasets.ensures))

@@ -1,18 +1,33 @@
--- What is accepted is fit to be made.
-use Rattle.std.proofs.Common.{sym, ap, ◌∙◌, subst}
-use Rattle.datastore_answers.specs.TableAnswers.{map_answer}
-use Rattle.portal_core.proofs.Answering.{accepted_fit}
+-- The call is the one that the step makes of it: a known caller's own, or nobody's.
+use Rattle.std.proofs.Common.{◌≡◌, ◌∙◌, subst, sym}
+use Rattle.std.specs.Prelude.{IfOk, OnOk}
+use Rattle.portal_calls.specs.declared.call.Call.{Call}
+use Rattle.portal_core.proofs.Knowing.{known-call, unknown-call}
 use Rattle.portal_core.proofs.portal.Portal.act_on_call.Goals as goal
-use Rattle.portal_core.specs.Change.{change_of}
-use Rattle.portal_core.specs.Fit.{IsFit}
-use Rattle.portal_core.specs.Parts.{state_of}
-use Rattle.portal_core.specs.State.{State}
-use Rattle.portal_core.specs.View.{view_of}
+use Rattle.portal_core.specs.Step.{known_step}
 
-pub apply_if_unused-requires-clause-fit : goal.apply_if_unused-requires-clause-fit
-apply_if_unused-requires-clause-fit c =
-    let call = c.args.call.now in
-    let change = change_of c.in-Accepted.plan in
-    subst (λ (s : State). IsFit call (view_of call.caller s) change) (sym c.decide.ensures.same)
-    (accepted_fit call (view_of call.caller (state_of c.self.inside.parts)) c.in-Accepted.json change
-    (ap (map_answer change_of) (sym c.in-Accepted.is) ∙ c.in_ok-json.ensures.answer))
+pub returns-then-is_known-clause-reply : goal.returns-then-is_known-clause-reply
+returns-then-is_known-clause-reply c =
+    subst (λ (k : Call). IfOk c.act_on_known.result (λ reply. reply ≡ (known_step c.args.self.now k).reply))
+    (sym (known-call c.args.self.now.people c.args.call.now (sym c.is_known.ensures ∙ c.if-is_known.true)))
+    c.act_on_known.ensures.reply
+
+pub returns-then-is_known-clause-state : goal.returns-then-is_known-clause-state
+returns-then-is_known-clause-state c =
+    subst (λ (k : Call). OnOk c.act_on_known.result (c.act_on_known.new.self ≡ (known_step c.args.self.now k).core))
+    (sym (known-call c.args.self.now.people c.args.call.now (sym c.is_known.ensures ∙ c.if-is_known.true)))
+    c.act_on_known.ensures.state
+
+pub returns-clause-reply : goal.returns-clause-reply
+returns-clause-reply c =
+    subst (λ (k : Call). IfOk c.act_on_known-2.result (λ reply. reply ≡ (known_step c.args.self.now k).reply))
+    (c.in_ok-call.ensures
+    ∙ sym (unknown-call c.args.self.now.people c.args.call.now (sym c.is_known.ensures ∙ c.if-is_known.false)))
+    c.act_on_known-2.ensures.reply
+
+pub returns-clause-state : goal.returns-clause-state
+returns-clause-state c =
+    subst (λ (k : Call). OnOk c.act_on_known-2.result (c.act_on_known-2.new.self ≡ (known_step c.args.self.now k).core))
+    (c.in_ok-call.ensures
+    ∙ sym (unknown-call c.args.self.now.people c.args.call.now (sym c.is_known.ensures ∙ c.if-is_known.false)))
+    c.act_on_known-2.ensures.state

@@ -1,6 +1,0 @@
--- By what each change takes from the view.
-use Rattle.change_entries.proofs.ChangeEntries.{entries-same}
-use Rattle.change_entries.proofs.laws.entries_are_those_in_the_view.Goals as goal
-
-pub returns : goal.returns
-returns c = entries-same

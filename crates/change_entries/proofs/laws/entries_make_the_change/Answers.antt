@@ -1,6 +1,0 @@
--- The entries are those in the state, and make the change there.
-use Rattle.change_entries.proofs.ChangeEntries.{entries-in_state}
-use Rattle.change_entries.proofs.laws.entries_make_the_change.Goals as goal
-
-pub returns : goal.returns
-returns c = entries-in_state

@@ -1,0 +1,6 @@
+-- By induction over the first list.
+use Rattle.portal_core.proofs.StateLemmas.{state_after-++}
+use Rattle.portal_core.proofs.laws.entries_follow_one_another.Goals as goal
+
+pub returns : goal.returns
+returns c = state_after-++
