@@ -5,16 +5,10 @@ use Rattle.portal_base.specs.declared.json_value.Json.{Json}
 use Rattle.portal_base.specs.declared.json_value.Json as json
 use Rattle.org_roles.specs.PeopleLists.{PeopleLists, org_in}
 use Rattle.packages.specs.Named.{resource_address}
+use Rattle.packages.specs.State.{state_name}
 use Rattle.packages.specs.declared.package.Package.{Package}
 use Rattle.packages.specs.declared.package.Resource.{Resource}
-use Rattle.packages.specs.declared.package.State.{State}
-use Rattle.packages.specs.declared.package.State.TheVariants.{Draft, Active, Deleted}
 use Rattle.visibility.specs.TableSummary.{TableSummary, has_table}
-
-abbrev pub state_name : State → List ℕ
-state_name Draft = codes "draft"
-state_name Active = codes "active"
-state_name Deleted = codes "deleted"
 
 -- the title of the organization with that name, or the empty text
 abbrev pub organization_title : PeopleLists → List ℕ → List ℕ

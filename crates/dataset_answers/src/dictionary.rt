@@ -1,12 +1,12 @@
 //! The dictionaries of replies.
 ghost use Rattle.std.specs.Prelude.{◌≡◌, map, IfOk};
-ghost use Rattle.dataset_answers.specs.Dictionary.{state_name, organization_title, organization_dictionary};
+ghost use Rattle.dataset_answers.specs.Dictionary.{organization_title, organization_dictionary};
 ghost use Rattle.dataset_answers.specs.Dictionary.{tag_dictionary, resource_dictionary, resource_dictionaries};
 ghost use Rattle.dataset_answers.specs.Dictionary.{dictionary_with, package_dictionary};
 ghost use Rattle.visibility.specs.CallView.{context_view};
 
 use packages::named::resource_address;
-use packages::package::{Package, Resource, State};
+use packages::package::{Package, Resource};
 use portal_base::dictionary::Value;
 use portal_base::json_value::Json;
 use portal_base::seq::Seq;
@@ -14,16 +14,6 @@ use portal_base::text::Text;
 use std::alloc::{AllocError, Global};
 use visibility::context::CallContext;
 use visibility::table_lookup::TableLookup;
-
-fn name_of_state(state: State) -> &'static str
-    ensures { result.now ≡ state_name state }
-{
-    match state {
-        State::Draft => "draft",
-        State::Active => "active",
-        State::Deleted => "deleted",
-    }
-}
 
 fn title_of_organization<'a>(context: &CallContext<'a>, name: &Text) -> &'a str
     ensures { result.now ≡ organization_title (context_view context.now).people name.now }
@@ -164,7 +154,7 @@ fn dictionary_with(
             ("owner_org", Value::Text(&dataset.owner_org)),
             ("private", Value::Truth(dataset.private)),
             ("resources", Value::List(resources)),
-            ("state", Value::Static(name_of_state(dataset.state))),
+            ("state", Value::Static(dataset.state.name())),
             ("tags", Value::List(tags)),
             ("title", Value::Text(&dataset.title)),
             ("type", Value::Static("dataset")),

@@ -8,11 +8,12 @@ use Rattle.portal_base.specs.MomentText.{moment_text, count_off}
 use Rattle.portal_base.specs.declared.json_value.Json.{Json, the_lemmas}
 use Rattle.portal_base.specs.declared.json_value.Json as json
 use Rattle.packages.specs.Package.{fresh_package}
+use Rattle.packages.specs.State.{state_name}
 use Rattle.packages.specs.declared.package.Package.{Package}
 use Rattle.packages.specs.declared.package.Resource.{Resource}
 use Rattle.packages.specs.declared.package.State.TheVariants.{Draft, Active, Deleted}
 use Rattle.dataset_rows.specs.Reading.{number_of, state_named, text_of, truth_of}
-use Rattle.dataset_rows.specs.Rows.{row_text, resource_json, state_name}
+use Rattle.dataset_rows.specs.Rows.{row_text, resource_json}
 use Rattle.dataset_rows.proofs.ReadBack.{data_of-List, data_of-Map, data_of-Text, data_of-Truth, data_of-Whole}
 
 abbrev counts : Resource

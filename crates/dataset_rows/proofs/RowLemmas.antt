@@ -15,6 +15,7 @@ use Rattle.portal_base.specs.declared.json_value.Json as json
 use Rattle.portal_base.specs.declared.json_value.Json.{Json, out-Json, the_lemmas}
 use Rattle.portal_base.specs.declared.json_value.Json.TheOpen.{Json-F}
 use Rattle.portal_base.proofs.ReadingBack.{reading-moment_text, reading-only}
+use Rattle.packages.specs.State.{state_name}
 use Rattle.packages.specs.declared.package.Package.{Package}
 use Rattle.packages.specs.declared.package.Resource.{Resource}
 use Rattle.packages.specs.declared.package.State.{State}
@@ -23,7 +24,7 @@ use Rattle.dataset_rows.specs.Reading.{json_read, at_key, text_or_empty, items_o
 use Rattle.dataset_rows.specs.Reading.{truth_of_level, number_of_level, number_or_zero, state_named}
 use Rattle.dataset_rows.specs.Reading.{text_of, items_of, truth_of, number_of, moment_of, resource_in, dataset_in}
 use Rattle.dataset_rows.specs.Reading.{dataset_read}
-use Rattle.dataset_rows.specs.Rows.{state_name, resource_members, resource_json, members_to_name}
+use Rattle.dataset_rows.specs.Rows.{resource_members, resource_json, members_to_name}
 use Rattle.dataset_rows.specs.Rows.{members_to_source, members_to_version, members_of, row_json, row_text}
 use Rattle.dataset_rows.specs.Rows.{IsWellTyped, HasRow}
 use Rattle.dataset_rows.proofs.ReadBack.{IsReadBack, AreReadBack, AreEntriesReadBack, text_back, truth_back, whole_back}

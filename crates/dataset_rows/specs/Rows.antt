@@ -6,18 +6,11 @@ use Rattle.portal_base.specs.Moment.{IsMoment}
 use Rattle.portal_base.specs.MomentText.{moment_text}
 use Rattle.portal_base.specs.declared.json_value.Json.{Json}
 use Rattle.portal_base.specs.declared.json_value.Json as json
+use Rattle.packages.specs.State.{state_name}
 use Rattle.packages.specs.declared.package.Package.{Package}
 use Rattle.packages.specs.declared.package.Resource.{Resource}
-use Rattle.packages.specs.declared.package.State.{State}
-use Rattle.packages.specs.declared.package.State.TheVariants.{Draft, Active, Deleted}
 
 -- ---- the JSON value of a dataset, with keys that ascend by bytes
-
--- the name of a state
-abbrev pub state_name : State → List ℕ
-state_name Draft = codes "draft"
-state_name Active = codes "active"
-state_name Deleted = codes "deleted"
 
 -- the members of a resource's value
 abbrev pub resource_members : Resource → List (List ℕ × Json)

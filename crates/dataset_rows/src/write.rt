@@ -1,25 +1,15 @@
 //! The JSON value of a dataset, which is the body of its row.
 ghost use Rattle.std.specs.Prelude.{◌≡◌, map, IfOk};
 ghost use Rattle.portal_base.specs.declared.json_value.Json.{Text as text_value};
-ghost use Rattle.dataset_rows.specs.Rows.{state_name, resource_json, members_with, row_json};
+ghost use Rattle.dataset_rows.specs.Rows.{resource_json, members_with, row_json};
 
-use packages::package::{Package, Resource, State};
+use packages::package::{Package, Resource};
 use portal_base::copy::TryClone;
 use portal_base::dictionary::Value;
 use portal_base::json_value::Json;
 use portal_base::seq::Seq;
 use portal_base::text::Text;
 use std::alloc::{AllocError, Global};
-
-fn name_of_state(state: State) -> &'static str
-    ensures { result.now ≡ state_name state }
-{
-    match state {
-        State::Draft => "draft",
-        State::Active => "active",
-        State::Deleted => "deleted",
-    }
-}
 
 fn resource_json(alloc: Global, resource: &Resource) -> Result<Json, AllocError>
     ensures { IfOk result (λ json. json ≡ resource_json resource.now) }
@@ -95,7 +85,7 @@ fn json_with(
             ("private", Value::Truth(dataset.private)),
             ("resources", Value::List(resources)),
             ("source", Value::Text(&dataset.source)),
-            ("state", Value::Static(name_of_state(dataset.state))),
+            ("state", Value::Static(dataset.state.name())),
             ("tags", Value::List(tags)),
             ("title", Value::Text(&dataset.title)),
             ("url", Value::Text(&dataset.url)),

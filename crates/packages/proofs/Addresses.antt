@@ -64,7 +64,7 @@ undotted [] lacks m = m
 undotted (b ∷ bs) lacks (inl same) = lacks 0 (omega arith) (sym same)
 undotted (b ∷ bs) lacks (inr m) = undotted bs (λ i lt. lacks (suc i) (omega arith)) m
 
-IsIn-middle : (c : ℕ) (xs ys : List ℕ) → IsIn c (xs ++ c ∷ ys)
+pub IsIn-middle : (c : ℕ) (xs ys : List ℕ) → IsIn c (xs ++ c ∷ ys)
 IsIn-middle c [] ys = inl refl
 IsIn-middle c (x ∷ xs) ys = inr (IsIn-middle c xs ys)
 
@@ -75,7 +75,7 @@ tail_same : (x y : ℕ) (xs ys : List ℕ) → (x ∷ xs) ≡ (y ∷ ys) → xs 
 tail_same x y xs ys same = cc
 
 -- A text can be split at its last `c` in only one way.
-before_last : (c : ℕ) (xs ys us vs : List ℕ) → (IsIn c ys → ⊥) → (IsIn c vs → ⊥) → xs ++ c ∷ ys ≡ us ++ c ∷ vs
+pub before_last : (c : ℕ) (xs ys us vs : List ℕ) → (IsIn c ys → ⊥) → (IsIn c vs → ⊥) → xs ++ c ∷ ys ≡ us ++ c ∷ vs
     → xs ≡ us
 before_last c [] ys [] vs none also same = refl
 before_last c [] ys (u ∷ us) vs none also same =
@@ -111,7 +111,7 @@ digits_undotted (suc k) n suffix none m =
     by true among further = one among
     by false among further = further one among
 
-decimal_undotted : (n : ℕ) → IsIn 46 (decimal n) → ⊥
+pub decimal_undotted : (n : ℕ) → IsIn 46 (decimal n) → ⊥
 unfolding digits
 decimal_undotted n m = digits_undotted 64 n [] (λ none. none) m
 

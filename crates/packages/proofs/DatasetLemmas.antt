@@ -38,7 +38,7 @@ like_id d e like = (bytes_eq-Decides d.id e.id).0 (sym (is_eq-slice_cmp d.id e.i
 pub id_like : (d e : Package) → d.id ≡ e.id → is_eq (dataset_cmp d e) ≡ true
 id_like d e same = is_eq-slice_cmp d.id e.id ∙ (bytes_eq-Decides d.id e.id).1 same
 
-unlike : (d e : Package) → (d.id ≡ e.id → ⊥) → is_eq (dataset_cmp d e) ≡ false
+pub unlike : (d e : Package) → (d.id ≡ e.id → ⊥) → is_eq (dataset_cmp d e) ≡ false
 unlike d e apart = by (is_eq (dataset_cmp d e)) refl
   where
     by : (b : Bool) → is_eq (dataset_cmp d e) ≡ b → b ≡ false

@@ -88,7 +88,7 @@ pub IsAlone-filter : {X : Type 0} (p q : X → Bool) (xs : List X) → IsAlone p
 IsAlone-filter p q xs alone x y m n = alone x y (IsIn-filter q x xs m).0 (IsIn-filter q y xs n).0
 
 -- A test that isn't true is false.
-fails : (b : Bool) → (b ≡ true → ⊥) → b ≡ false
+pub fails : (b : Bool) → (b ≡ true → ⊥) → b ≡ false
 fails true not = absurd (not refl)
 fails false not = refl
 

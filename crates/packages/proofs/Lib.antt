@@ -9,6 +9,7 @@ pub mod NoErrors
 pub mod OwnerCounts
 pub mod Reading
 pub mod ResourceNumbers
+pub mod RestoreLemmas
 pub mod ShelfInvariantLemmas
 pub mod ShelfLemmas
 mod TextSets

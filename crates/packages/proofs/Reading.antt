@@ -58,6 +58,11 @@ pub title_is_read : (kept name : List ℕ) (body : Json)
     ≡ title_read kept name body
 title_is_read kept name body = read-mapped (or_name name) 2000 kept (text_at (codes "title") body)
 
+-- A fact that holds in any case.
+pub OnOk-always : {T E P : Type 0} (result : Result T E) → P → OnOk result P
+OnOk-always (Ok done) fact = fact
+OnOk-always (Err e) fact = tt
+
 -- ---- lists
 
 or_error-none : (error : Option (List ℕ)) → or_error error None ≡ error

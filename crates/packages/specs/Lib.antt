@@ -9,7 +9,9 @@ pub mod Owners
 pub mod Package
 pub mod Reading
 pub mod Resources
+pub mod Restored
 pub mod Shelf
 pub mod ShelfInvariant
+pub mod State
 pub mod Tags
 pub mod Texts

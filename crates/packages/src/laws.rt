@@ -1,16 +1,20 @@
-//! Laws of the datasets that are built from bodies. Each function has an empty body, and its contract is the law.
+//! Laws of the datasets that are built from bodies, and of those that are restored. Each function has an empty body, and
+//! its contract is the law.
 ghost use Rattle.std.specs.Prelude.{◌≡◌, ◌≤◌, ◌⊎◌, ◌↔◌, ℕ, List, [], Bool, Option, Some, None, All, Any, Contains};
 ghost use Rattle.std.specs.Prelude.{IfSome, IsTrue, Ok, codes};
+ghost use Rattle.std.specs.List.{AllPairs};
 ghost use Rattle.std.specs.Ordering.{nat_cmp};
 ghost use Rattle.std.specs.Cmp.Lexicographic.{slice_cmp};
 ghost use Rattle.portal_base.specs.declared.json_value.Json.{Json};
 ghost use Rattle.portal_base.specs.KeyErrors.{key_error_cmp};
 ghost use Rattle.portal_base.specs.Kinds.{text_at};
 ghost use Rattle.portal_base.specs.Name.{is_name};
-ghost use Rattle.portal_base.specs.Ordered.{IsAscending};
+ghost use Rattle.portal_base.specs.Ordered.{IsAscending, ascending};
 ghost use Rattle.packages.specs.Body.{body_errors, built_dataset};
 ghost use Rattle.packages.specs.Numbered.{AreNumbered};
+ghost use Rattle.packages.specs.Order.{dataset_cmp};
 ghost use Rattle.packages.specs.Resources.{resource_errors};
+ghost use Rattle.packages.specs.Restored.{ShareNoKey, have_unique_keys};
 ghost use Rattle.packages.specs.Tags.{text_set};
 ghost use Rattle.packages.specs.Texts.{longest_name};
 ghost use Rattle.packages.specs.declared.package.Package.{Package};
@@ -86,4 +90,28 @@ pub fn what_no_body_says_stays()
 pub fn faulty_keys_ascend()
     ensures dataset { (body : Json) (old : Option Package) → IsAscending key_error_cmp (body_errors body old) }
     ensures resource { (body : Json) → IsAscending key_error_cmp (resource_errors body) }
+{}
+
+/// Datasets have unique keys exactly where no text is the id or the name of two of them.
+pub fn keys_are_unique_exactly_where_no_two_datasets_share_one()
+    ensures { (datasets : List Package) → IsTrue (have_unique_keys datasets) ↔ AllPairs ShareNoKey datasets }
+{}
+
+/// Datasets that ascend by id have unique keys if no two have one name and no dataset's name is the id of another, so
+/// that the shelf of a valid state can be restored. The shelf has them as they are.
+pub fn datasets_of_a_valid_state_are_restored_as_they_are()
+    ensures unique { (datasets : List Package) → IsAscending dataset_cmp datasets →
+        ((d e : Package) → Contains datasets d → Contains datasets e → d.name ≡ e.name → d ≡ e) →
+        ((d e : Package) → Contains datasets d → Contains datasets e → d.name ≡ e.id → d ≡ e) →
+        IsTrue (have_unique_keys datasets) }
+    ensures same { (datasets : List Package) → IsAscending dataset_cmp datasets →
+        ascending dataset_cmp datasets ≡ datasets }
+{}
+
+/// Restored datasets strictly ascend by id, and are the given ones.
+pub fn restored_datasets_ascend()
+    ensures ascends { (datasets : List Package) → IsTrue (have_unique_keys datasets) →
+        IsAscending dataset_cmp (ascending dataset_cmp datasets) }
+    ensures same { (datasets : List Package) (dataset : Package) →
+        Contains (ascending dataset_cmp datasets) dataset ↔ Contains datasets dataset }
 {}

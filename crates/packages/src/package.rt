@@ -31,6 +31,21 @@ pub enum State {
     Deleted,
 }
 
+impl State {
+    ghost use Rattle.packages.specs.State.{state_name};
+
+    /// Its name in replies and in stored rows.
+    pub fn name(self) -> &'static str
+        ensures { result.now ≡ state_name self }
+    {
+        match self {
+            State::Draft => "draft",
+            State::Active => "active",
+            State::Deleted => "deleted",
+        }
+    }
+}
+
 /// A file or a service that a dataset offers.
 #[derive(Drop)]
 pub struct Resource {

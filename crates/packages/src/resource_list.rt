@@ -34,8 +34,9 @@ const MAX_RESOURCES: usize = 200;
 fn with_key(alloc: Global, key: &str, message: &Text) -> Result<Text, AllocError>
     ensures { IfOk result (λ error. error ≡ key.now ++ (codes ": " ++ message.now)) }
 {
-    let message = message.as_str();
-    let text = format!(in alloc; "{key}: {message}")?;
+    let mut text = String::from_str(alloc, key)?;
+    text.push_str(": ")?;
+    text.push_str(message.as_str())?;
     Ok(Text::from(text))
 }
 

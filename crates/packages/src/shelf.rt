@@ -19,6 +19,8 @@ ghost use Rattle.packages.specs.ShelfInvariant.{is_named_at};
 ghost use Rattle.digest_index.specs.Index.{IsUnder, first_under};
 ghost use Rattle.slab.specs.Slab.{get};
 
+pub mod restored;
+
 use crate::digest::digest_of;
 use crate::named::is_named;
 use crate::package::Package;

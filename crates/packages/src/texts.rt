@@ -1,9 +1,10 @@
 //! The keys of a dataset's body that have a single value: their values and their errors.
-ghost use Rattle.std.specs.Prelude.{◌≡◌, IfOk, OnOk, codes, unwrap_or};
+ghost use Rattle.std.specs.Prelude.{◌≡◌, IfOk, OnOk, Some, codes, unwrap_or};
 ghost use Rattle.std.specs.Option.{option_copied};
 ghost use Rattle.portal_base.specs.KeyErrors.{error_if};
+ghost use Rattle.portal_base.specs.Name.{name_fault_message};
 ghost use Rattle.packages.specs.Texts.{text_given, short_text_error, change_error, name_error, dataset_name_error};
-ghost use Rattle.packages.specs.Texts.{missing_error, name_key_error, organization_change_error};
+ghost use Rattle.packages.specs.Texts.{longest_name, missing_error, name_key_error, organization_change_error};
 ghost use Rattle.packages.specs.Texts.{organization_key_error, state_error, state_named, state_key_error, state_or};
 ghost use Rattle.packages.specs.Texts.{private_key_error, private_or};
 ghost use Rattle.packages.specs.Reading.{if_new, name_read, organization_read, short_text_read, title_read, value_or};
@@ -14,7 +15,7 @@ use portal_base::copy::TryClone;
 use portal_base::json_value::Json;
 use portal_base::key_errors::KeyErrors;
 use portal_base::kinds::{KindFault, text_at, truth_at};
-use portal_base::name::name_fault;
+use portal_base::name::{NameFault, name_fault};
 use portal_base::text::Text;
 use std::alloc::{AllocError, Global};
 
@@ -32,7 +33,6 @@ pub fn text_given<'a>(body: &'a Json, key: &str) -> Option<&'a Text>
 
 /// Reads the text of a key, of at most `longest` bytes, into `text`, or adds the error of the key. If memory is out,
 /// nothing changes.
-#[tactic(auto, using(crate::proofs::Reading::short_text_is_read))]
 pub fn read_text(
     alloc: Global,
     faults: &mut KeyErrors,
@@ -45,7 +45,15 @@ pub fn read_text(
         (faults.new ≡ error_if key.now (short_text_error longest key.now body.now) faults.old) }
     ensures text { OnOk result (text.new ≡ short_text_read longest text.old key.now body.now) }
 {
-    if let Some(given) = faults.short_text(alloc, body, key, longest)? {
+    let given = faults.short_text(alloc, body, key, longest)?;
+    copy_given(alloc, given, text)
+}
+
+/// Replaces a text by a copy of the one that is given, if one is.
+fn copy_given(alloc: Global, given: Option<&Text>, text: &mut Text) -> Result<(), AllocError>
+    ensures { OnOk result (text.new ≡ unwrap_or (option_copied given.entry) text.old) }
+{
+    if let Some(given) = given {
         *text = given.try_clone(alloc)?;
     }
     Ok(())
@@ -79,9 +87,16 @@ pub fn name_error(alloc: Global, text: &Text) -> Result<Option<Text>, AllocError
     ensures { IfOk result (λ error. error ≡ name_error text.now) }
 {
     match name_fault(text.as_str(), LONGEST_NAME) {
-        Some(fault) => Ok(Some(fault.message(alloc, LONGEST_NAME)?)),
+        Some(fault) => name_message(alloc, fault),
         None => Ok(None),
     }
+}
+
+/// The message of a fault of a name.
+fn name_message(alloc: Global, fault: NameFault) -> Result<Option<Text>, AllocError>
+    ensures { IfOk result (λ message. message ≡ Some (name_fault_message longest_name fault)) }
+{
+    Ok(Some(fault.message(alloc, LONGEST_NAME)?))
 }
 
 /// The error of a text that differs from the old one.

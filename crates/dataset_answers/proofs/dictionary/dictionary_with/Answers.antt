@@ -1,9 +1,10 @@
 use Rattle.std.proofs.Common.{◌≡◌, ℕ, List, [], ◌∷◌, ◌++◌, length, refl, subst}
 use Rattle.std.specs.Prelude.{IfOk, codes, pos}
+use Rattle.packages.specs.State.{state_name}
 use Rattle.packages.specs.declared.package.Package.{Package}
 use Rattle.portal_base.specs.declared.json_value.Json.{Json}
 use Rattle.portal_base.specs.declared.json_value.Json as json
-use Rattle.dataset_answers.specs.Dictionary.{dictionary_with, members_to_notes, state_name}
+use Rattle.dataset_answers.specs.Dictionary.{dictionary_with, members_to_notes}
 use Rattle.dataset_answers.proofs.dictionary.dictionary_with.Goals as goal
 
 -- a dictionary with these counts and this name of a state, and else the dataset's own
@@ -35,5 +36,5 @@ made_is dataset n m organization resources state tags in_all tagged stated = rw 
 pub returns : goal.returns
 returns c =
     subst (λ (j : Json). IfOk c.dictionary.result (λ shown. shown ≡ j))
-    (made_is c.args.dataset.now _ _ _ _ _ _ c.len.ensures c.len-2.ensures c.name_of_state.ensures)
+    (made_is c.args.dataset.now _ _ _ _ _ _ c.len.ensures c.len-2.ensures c.name.ensures)
     c.dictionary.ensures.same

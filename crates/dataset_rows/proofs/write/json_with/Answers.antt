@@ -23,4 +23,4 @@ unfolding stated
 returns c =
     subst (λ (name : List ℕ). IfOk c.dictionary.result
     (λ made. made ≡ stated c.args.dataset.now c.args.resources c.args.tags name))
-    c.name_of_state.ensures c.dictionary.ensures.same
+    c.name.ensures c.dictionary.ensures.same
