@@ -1,4 +1,4 @@
-//! The answers to calls on datasets and resources.
+//! The answers to calls on datasets and resources, and whether a stored dataset may exist.
 #![tactic(auto)]
 
 pub mod answers;
@@ -8,3 +8,4 @@ mod dictionary;
 pub mod laws;
 mod lists;
 mod lookup;
+pub mod sound;
