@@ -10,7 +10,6 @@ use Rattle.std.proofs.lemmas.Map.Text.{is_eq-slice_cmp}
 use Rattle.portal_base.specs.Ordered.{found, upserted, IsKey, IsKey-field}
 use Rattle.portal_base.specs.declared.caller.Caller.{Caller}
 use Rattle.portal_base.specs.declared.caller.Caller.TheVariants.{Anonymous, Named}
-use Rattle.portal_base.specs.declared.json_value.Json.{Json}
 use Rattle.org_roles.specs.PeopleLists.{PeopleLists}
 use Rattle.portal_base.proofs.Filtered.{find-same}
 use Rattle.portal_base.proofs.Upserted.{found-upserted, found-upserted_other}

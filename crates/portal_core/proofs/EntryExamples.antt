@@ -14,13 +14,14 @@ use Rattle.org_roles.specs.declared.role.Role.TheVariants.{Member, Editor, Admin
 use Rattle.packages.specs.Package.{fresh_package}
 use Rattle.packages.specs.declared.package.Package.{Package}
 use Rattle.packages.specs.declared.package.Resource.{Resource}
+use Rattle.dataset_answers.specs.Edits.{edit_of}
 use Rattle.dataset_answers.specs.declared.change.DatasetChange.TheVariants as dataset
 use Rattle.datastore_answers.specs.declared.address.Address.{Address}
 use Rattle.datastore_answers.specs.declared.resource_table.ResourceTable.{ResourceTable}
 use Rattle.portal_core.specs.Planned.{People, Datasets, entries_of}
 use Rattle.portal_core.specs.Changed.{changed}
 use Rattle.portal_core.specs.State.{State}
-use Rattle.portal_core.specs.Entries.{DropDataset, DropOrg, DropRole, DropRow, DropTable, PutDataset, PutRow}
+use Rattle.portal_core.specs.Entries.{DropDataset, DropOrg, DropRole, DropRow, DropTable, EditDataset, PutRow}
 use Rattle.portal_core.specs.Entries.{PutTable, rows_at, state_after}
 use Rattle.portal_core.specs.EntriesOf.{entries_of_batch, head_with}
 
@@ -98,8 +99,14 @@ table_went : state_after (entries_of (Datasets (dataset.Remove (codes "1"))) por
 table_went = refl
 
 -- The table of a resource that stays isn't touched.
-table_stays : entries_of (Datasets (dataset.Replace trees)) portal ≡ PutDataset trees ∷ []
+table_stays : entries_of (Datasets (dataset.Replace trees)) portal ≡ EditDataset (codes "1") (edit_of trees) ∷ []
 table_stays = refl
+
+-- An edit leaves what no update changes, also if that isn't what the new dataset has.
+creator_stays : (state_after (EditDataset (codes "1") (edit_of (record trees { title = []; creator = codes "bob" })) ∷ [])
+    portal).datasets
+    ≡ record trees { title = [] } ∷ []
+creator_stays = refl
 
 -- ---- tables
 

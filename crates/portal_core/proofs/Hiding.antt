@@ -1,56 +1,33 @@
 -- What is hidden from a caller leaves what the caller sees.
-use Rattle.std.proofs.Common.{◌≡◌, ◌≢◌, ℕ, Bool, true, false, not, ◌&&◌, ◌||◌, List, [], ◌∷◌, map, Option, Some, None}
-use Rattle.std.proofs.Common.{if◌then◌else◌}
+use Rattle.std.proofs.Common.{◌≡◌, ℕ, Bool, true, false, ◌||◌, List, map}
 use Rattle.std.proofs.Common.{refl, sym, ap, ◌∙◌, subst, inl, inr, ◌⊎◌, ◌+◌}
-use Rattle.std.specs.Prelude.{filter, find}
+use Rattle.std.specs.Prelude.{filter}
 use Rattle.std.specs.Cmp.{IsTotalOrder}
 use Rattle.std.specs.List.{Contains}
 use Rattle.std.specs.Ordering.{is_eq}
-use Rattle.std.specs.Str.{bytes_eq}
 use Rattle.std.specs.declared.cmp.Ordering.{Ordering}
 use Rattle.std.proofs.lemmas.List.Elements.{filter_agree}
 use Rattle.std.proofs.lemmas.Map.Text.{is_eq-slice_cmp}
 use Rattle.std.proofs.lemmas.Slice.Eq.{bytes_eq-Decides}
 use Rattle.portal_base.specs.declared.caller.Caller.{Caller}
 use Rattle.portal_base.specs.declared.caller.Caller.TheVariants.{Anonymous, Named}
-use Rattle.portal_base.specs.declared.json_value.Json.{Json}
-use Rattle.portal_base.specs.Ordered.{IsAscending, upserted, dropped}
+use Rattle.portal_base.specs.Ordered.{IsAscending, upserted}
 use Rattle.portal_base.proofs.Filtered.{IsIn-filter, filter-IsIn, IsAscending-filter}
-use Rattle.portal_base.proofs.Upserted.{Contains-upserted, upserted-Contains_other, Contains-dropped, dropped-Contains}
-use Rattle.portal_base.proofs.Unique.{IsIn, IsIn-Contains, Contains-IsIn, unique}
-use Rattle.org_roles.specs.Changed.{changed_people}
-use Rattle.org_roles.specs.Order.{user_cmp, org_cmp, membership_cmp, pair_at}
+use Rattle.portal_base.proofs.Upserted.{Contains-upserted, upserted-Contains_other}
+use Rattle.portal_base.proofs.Unique.{IsIn-Contains, Contains-IsIn, unique}
+use Rattle.org_roles.specs.Order.{user_cmp, org_cmp, membership_cmp}
 use Rattle.org_roles.specs.Order.{user_cmp_total, org_cmp_total, membership_cmp_total}
-use Rattle.org_roles.specs.PeopleLists.{PeopleLists, AreSorted, role_in}
-use Rattle.org_roles.specs.declared.change.OrgChange.{OrgChange}
-use Rattle.org_roles.specs.declared.change.OrgChange.TheVariants.{SetRole, DropRole}
+use Rattle.org_roles.specs.PeopleLists.{PeopleLists, AreSorted}
 use Rattle.org_roles.specs.declared.entry.Membership.{Membership}
 use Rattle.org_roles.specs.declared.entry.User.{User}
 use Rattle.org_roles.specs.declared.entry.Org.{Org}
-use Rattle.org_roles.specs.declared.role.Role.{Role}
-use Rattle.org_roles.specs.declared.role.Role.TheVariants.{Member}
-use Rattle.org_roles.proofs.ChangeLemmas.{role_in-with_role_other, role_in-without_role_other}
-use Rattle.org_roles.proofs.PeopleLemmas.{is_eq-membership_cmp}
 use Rattle.packages.specs.Order.{dataset_cmp, dataset_cmp_total}
 use Rattle.packages.specs.declared.package.Package.{Package}
-use Rattle.packages.specs.declared.package.Resource.{Resource}
-use Rattle.dataset_answers.specs.Changed.{dataset_at_id}
-use Rattle.dataset_answers.specs.declared.change.DatasetChange.TheVariants as dataset
-use Rattle.datastore_answers.proofs.FitLemmas.{put_into-address}
-use Rattle.datastore_answers.proofs.KeepLemmas.{at-is}
-use Rattle.datastore_answers.specs.Changed.{TableChange, changed_tables, without_rows, put_into}
-use Rattle.datastore_answers.specs.Changed as table
-use Rattle.datastore_answers.specs.Order.{at_address, is_at, table_cmp, table_cmp_total}
-use Rattle.datastore_answers.specs.Tables.{is_table_among, tables_kept}
-use Rattle.datastore_answers.specs.declared.address.Address.{Address}
+use Rattle.datastore_answers.specs.Order.{table_cmp, table_cmp_total}
+use Rattle.datastore_answers.specs.Tables.{is_table_among}
 use Rattle.datastore_answers.specs.declared.resource_table.ResourceTable.{ResourceTable}
-use Rattle.portal_calls.specs.declared.answer.Answer.{Answer}
-use Rattle.portal_calls.specs.declared.answer.Answer.TheVariants.{Accepted}
-use Rattle.portal_calls.specs.declared.call.Call.{Call}
 use Rattle.visibility.specs.View.{is_called, user_seen, administers, is_role_seen, people_seen}
-use Rattle.visibility.specs.TableSummary.{is_among}
-use Rattle.visibility.specs.Visibility.{caller_role, sees_in}
-use Rattle.portal_calls.specs.declared.event.Event.TheVariants.{Call as a_call}
+use Rattle.visibility.specs.Visibility.{sees_in}
 use Rattle.portal_core.specs.Changed.{charged}
 use Rattle.portal_core.specs.Hidden.{IsHiddenBetween, IsHiddenChange, is_caller, is_kept}
 use Rattle.portal_core.specs.State.{State, accepted_bytes_of_user, quota_used_cmp, quota_used_cmp_total}

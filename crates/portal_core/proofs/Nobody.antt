@@ -1,5 +1,5 @@
 -- Calls of nobody, which change nothing.
-use Rattle.std.proofs.Common.{◌≡◌, ℕ, Bool, true, false, List, refl, sym, ap, ◌∙◌, subst}
+use Rattle.std.proofs.Common.{◌≡◌, false, refl, ap, ◌∙◌}
 use Rattle.portal_base.specs.declared.caller.Caller.{Caller}
 use Rattle.portal_base.specs.declared.caller.Caller.TheVariants.{Anonymous}
 use Rattle.org_roles.specs.declared.change.OrgChange.{OrgChange}
@@ -17,7 +17,6 @@ use Rattle.portal_calls.specs.Answer.{AcceptsOnly}
 use Rattle.portal_calls.specs.declared.answer.Answer.{Answer}
 use Rattle.portal_calls.specs.declared.answer.Answer.TheVariants.{Shown, Refused, Accepted}
 use Rattle.portal_calls.specs.declared.call.Call.{Call}
-use Rattle.visibility.specs.CallView.{CallView}
 use Rattle.portal_core.specs.Answer.{call_view_of, planned_answer}
 use Rattle.portal_core.specs.Fit.{IsFit}
 use Rattle.portal_core.specs.Known.{is_known, known_call, known_caller}

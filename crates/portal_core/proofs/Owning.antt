@@ -1,5 +1,5 @@
 -- Each entry of an accepted change is the caller's own to make.
-use Rattle.std.proofs.Common.{◌≡◌, ℕ, Bool, true, false, not, ◌&&◌, ◌||◌, List, [], ◌∷◌, ◌++◌, map, Option, Some, None}
+use Rattle.std.proofs.Common.{◌≡◌, ℕ, Bool, true, not, ◌||◌, List, [], ◌∷◌, map, Option, Some, None}
 use Rattle.std.proofs.Common.{Result, Ok, Err, refl, sym, ap, ◌∙◌, subst, inl, inr}
 use Rattle.std.specs.List.{All, flat_map}
 use Rattle.std.specs.Str.{bytes_eq}
@@ -17,7 +17,6 @@ use Rattle.org_roles.specs.declared.entry.Membership.{Membership}
 use Rattle.packages.specs.declared.package.Resource.{Resource}
 use Rattle.visibility.specs.TableSummary.{is_among}
 use Rattle.visibility.specs.View.{administers}
-use Rattle.visibility.specs.Visibility.{may_edit_in}
 use Rattle.dataset_answers.specs.Edits.{edit_of}
 use Rattle.dataset_answers.specs.Fit.{IsFitDataset}
 use Rattle.dataset_answers.specs.declared.change.DatasetChange.{DatasetChange}
@@ -25,7 +24,6 @@ use Rattle.dataset_answers.specs.declared.change.DatasetChange.TheVariants as da
 use Rattle.datastore_table.specs.Put.{Worked, put_records}
 use Rattle.datastore_table.specs.declared.fault.TableFault.{TableFault}
 use Rattle.datastore_table.specs.declared.method.Method.{Method}
-use Rattle.datastore_table.specs.declared.row.Row.{Row}
 use Rattle.datastore_answers.specs.Changed.{TableChange}
 use Rattle.datastore_answers.specs.Changed as table
 use Rattle.datastore_answers.specs.Fit.{IsFitTable}
@@ -47,7 +45,7 @@ use Rattle.portal_core.specs.EntriesOf.{entries_of_people, entries_of_tables, he
 use Rattle.portal_core.specs.EntriesOf.{puts_of, roles_in, rows_written, tables_gone}
 use Rattle.portal_core.specs.Fit.{IsFit}
 use Rattle.portal_core.specs.Own.{IsOwnDataset, IsOwnEntry}
-use Rattle.portal_core.specs.Planned.{PlannedChange, People, Datasets, Tables, change_of, entries_of}
+use Rattle.portal_core.specs.Planned.{PlannedChange, People, Datasets, Tables, entries_of}
 use Rattle.portal_core.specs.State.{State}
 use Rattle.portal_core.proofs.Answering.{accepted_fit}
 use Rattle.portal_core.proofs.Settling.{accepted-planned}

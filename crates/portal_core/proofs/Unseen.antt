@@ -2,7 +2,7 @@
 use Rattle.std.proofs.Common.{◌≡◌, ℕ, Bool, true, false, ◌&&◌, ◌||◌, List, [], ◌∷◌, map, Option, Some, None}
 use Rattle.std.proofs.Common.{if◌then◌else◌, refl, sym, ap, ◌∙◌, subst, inl, inr, ◌⊎◌}
 use Rattle.std.specs.Prelude.{filter, find}
-use Rattle.std.specs.List.{All, Contains}
+use Rattle.std.specs.List.{Contains}
 use Rattle.std.specs.Ordering.{is_eq}
 use Rattle.std.specs.Str.{bytes_eq}
 use Rattle.std.proofs.lemmas.Map.Text.{is_eq-slice_cmp}
@@ -10,7 +10,6 @@ use Rattle.std.proofs.lemmas.Slice.Eq.{bytes_eq-Decides}
 use Rattle.portal_base.specs.declared.caller.Caller.{Caller}
 use Rattle.portal_base.specs.declared.caller.Caller.TheVariants.{Anonymous}
 use Rattle.portal_base.specs.declared.json_value.Json.{Json}
-use Rattle.portal_base.specs.Ordered.{upserted}
 use Rattle.portal_base.proofs.Filtered.{IsIn-filter}
 use Rattle.portal_base.proofs.Unique.{IsIn, IsIn-Contains, Contains-IsIn}
 use Rattle.portal_base.proofs.Upserted.{All-IsIn, Contains-dropped, Contains-upserted, dropped-Contains}
@@ -18,13 +17,12 @@ use Rattle.portal_base.proofs.Upserted.{upserted-Contains_other}
 use Rattle.org_roles.specs.Order.{membership_cmp, pair_at}
 use Rattle.org_roles.specs.PeopleLists.{PeopleLists}
 use Rattle.org_roles.specs.declared.entry.Membership.{Membership}
-use Rattle.org_roles.specs.declared.entry.Org.{Org}
 use Rattle.org_roles.specs.declared.role.Role.TheVariants.{Member}
 use Rattle.org_roles.proofs.PeopleLemmas.{is_eq-membership_cmp}
 use Rattle.packages.specs.Order.{dataset_cmp}
 use Rattle.packages.specs.declared.package.Package.{Package}
 use Rattle.dataset_answers.specs.Changed.{dataset_at_id}
-use Rattle.dataset_answers.specs.Edits.{DatasetEdit, edited}
+use Rattle.dataset_answers.specs.Edits.{edited}
 use Rattle.datastore_answers.specs.Order.{at_address, is_at, table_cmp}
 use Rattle.datastore_answers.specs.declared.address.Address.{Address}
 use Rattle.datastore_answers.specs.declared.resource_table.ResourceTable.{ResourceTable}
