@@ -7,10 +7,10 @@ use Rattle.portal_calls.specs.declared.answer.Answer.TheVariants.{Accepted}
 use Rattle.portal_calls.specs.declared.call.Call.{Call}
 use Rattle.portal_core.specs.Alone.{AllDropAlone}
 use Rattle.portal_core.specs.Change.{Change}
-use Rattle.portal_core.specs.Changed.{AreUnused, IsUnused, applied, changed, charged}
+use Rattle.portal_core.specs.Changed.{AreUnused, IsUnused, applied, charged}
 use Rattle.portal_core.specs.Entries.{Entry, state_after}
 use Rattle.portal_core.specs.Fit.{IsFit}
-use Rattle.portal_core.specs.Planned.{PlannedChange, change_of, claims_of, entries_of}
+use Rattle.portal_core.specs.Planned.{PlannedChange, claims_of, entries_of}
 use Rattle.portal_core.specs.State.{State}
 use Rattle.portal_core.specs.Step.{answer_in}
 use Rattle.portal_core.specs.Valid.{IsValid}
@@ -21,7 +21,6 @@ use Rattle.portal_core.proofs.ChangeEntries.{entries-in_state}
 use Rattle.portal_core.proofs.Keeping.{changed_valid, fit_in_valid}
 use Rattle.portal_core.proofs.Settling.{accepted-planned}
 use Rattle.portal_keeper.specs.Changed.{rows_after}
-use Rattle.portal_keeper.specs.Rows.{AreInOrder}
 use Rattle.state_rows.specs.KeptRows.{AreSized, kept_rows}
 use Rattle.state_rows.specs.RowChanges.{effective_changes, row_changes}
 use Rattle.state_rows.proofs.EffectiveChanges.{rows_after-effective}

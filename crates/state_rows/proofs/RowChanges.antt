@@ -23,7 +23,7 @@ use Rattle.portal_keeper.specs.declared.row.KeptRow.{KeptRow}
 use Rattle.portal_keeper.specs.declared.row.RowKind.{RowKind}
 use Rattle.portal_keeper.proofs.RowLemmas.{body_at-rows_after, in_order-rows_after, same_key, same_rows}
 use Rattle.portal_core.specs.Alone.{AllDropAlone}
-use Rattle.portal_core.specs.Entries.{Entry, PutOrg, DropOrg, PutRole, DropRole, PutDataset, DropDataset, PutTable}
+use Rattle.portal_core.specs.Entries.{Entry, PutOrg, DropOrg, PutRole, DropRole, PutDataset, EditDataset, DropDataset, PutTable}
 use Rattle.portal_core.specs.Entries.{DropTable, PutRow, DropRow, changed_by, rows_at, state_after, table_of, with_row}
 use Rattle.portal_core.specs.Entries.{without_row}
 use Rattle.state_rows.specs.KeptRows.{kept_rows, listed_rows}
@@ -61,6 +61,7 @@ tables-ascend (DropOrg name) state up = up
 tables-ascend (PutRole role) state up = up
 tables-ascend (DropRole org user) state up = up
 tables-ascend (PutDataset dataset) state up = up
+tables-ascend (EditDataset id edit) state up = up
 tables-ascend (DropDataset id) state up = up
 tables-ascend (PutTable head) state up =
     IsAscending-upserted table_cmp table_cmp_total (table_of head (rows_at head.address state.tables)) state.tables up
