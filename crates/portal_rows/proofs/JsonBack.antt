@@ -5,6 +5,7 @@ use Rattle.std.proofs.Common.{option_and_then, Ok, Less, Greater, IsUtf8, nat_cm
 use Rattle.std.proofs.Common.{append-nil}
 use Rattle.std.proofs.lemmas.Bool.{or_parts}
 use Rattle.std.proofs.lemmas.Cmp.{nat_list_cmp_total}
+use Rattle.std.proofs.lemmas.Option.{same_Some}
 use Rattle.std.proofs.lemmas.Str.{is_utf8-from_IsUtf8}
 use Rattle.std.specs.Cmp.Lexicographic.{slice_cmp}
 use Rattle.std.specs.Ordering.{ordering_reverse}
@@ -220,3 +221,11 @@ read_back j text utf8 is readable =
     let found : read text ≡ Some (data_of j) = ap read is ∙ data_back (data_of j) (has_float-data_of j) readable.0
     readable.1 in
     reading_of_data text (data_of j) utf8 found ∙ ap (or_fault Fraction) (json_of-data_of j)
+
+-- Values that can be read are equal if their texts are.
+pub same_value : (i j : Json) → IsReadable i → IsReadable j → json_text i ≡ json_text j → i ≡ j
+same_value i j readable also same =
+    let both : Some (data_of i) ≡ Some (data_of j) =
+    sym (data_back (data_of i) (has_float-data_of i) readable.0 readable.1) ∙ ap read same
+    ∙ data_back (data_of j) (has_float-data_of j) also.0 also.1 in
+    same_Some i j (sym (json_of-data_of i) ∙ ap (option_and_then json_of) both ∙ json_of-data_of j)

@@ -1,7 +1,7 @@
 -- Numbers in twenty digits are in the order of their texts.
 use Rattle.std.proofs.Common.{◌≡◌, ℕ, zero, suc, ◌+◌, ◌-◌, ◌/◌, ◌%◌, ◌^◌, ◌<◌, ◌≤◌, ◌⊎◌, inl, inr, lit<, false, List, []}
 use Rattle.std.proofs.Common.{◌∷◌, ◌++◌, refl, sym, ap, ◌∙◌, arith, length, append_assoc, add-one, length-append, codes, subst}
-use Rattle.std.proofs.Common.{◌*◌, drop, true}
+use Rattle.std.proofs.Common.{◌*◌, drop, take, true}
 use Rattle.std.specs.Prelude.{Option, Some, None, decimal, nat_le, nat_lt, option_and_then, replicate}
 use Rattle.std.specs.Fmt.{char_count, format_spec, padded_integral}
 use Rattle.std.specs.Cmp.Lexicographic.{slice_cmp}
@@ -12,9 +12,10 @@ use Rattle.std.proofs.lemmas.Bool.{cases_lt}
 use Rattle.std.proofs.lemmas.Bool.Decides.{nat_tests}
 use Rattle.std.proofs.lemmas.Cmp.{nat_cmp_total, nat_list_cmp_total, tied_itself}
 use Rattle.std.proofs.lemmas.Fmt.{decimal_digit, decimal_nonempty, decimal_step, length-decimal-le}
-use Rattle.std.proofs.lemmas.List.{append-nil, replicate_more}
+use Rattle.std.proofs.lemmas.List.{append-nil, append_cancel_left, append_cancel_right, replicate_more, take_at}
+use Rattle.std.proofs.lemmas.Option.{same_Some}
 use Rattle.portal_rows.specs.Readings.{digits_from, with_digit}
-use Rattle.portal_rows.specs.TableRows.{row_key, twenty_digits}
+use Rattle.portal_rows.specs.TableRows.{resource_of_key, row_key, twenty_digits}
 
 -- ---- the last digits of a number
 
@@ -222,3 +223,37 @@ last_number-read bytes front id start small is at =
     let where_front : start ≡ length front = omega (arith, long, at) in
     ap (λ n. digits_from 0 (drop n bytes)) where_front ∙ ap (λ l. digits_from 0 (drop (length front) l)) is
     ∙ ap (digits_from 0) (drop-front front (twenty_digits id)) ∙ twenty_digits-read id small
+
+-- ---- a key is of one resource and one `_id`
+
+-- Two parts of a list are known if it is known how long the second one is.
+same_parts : (xs ys us vs : List ℕ) → length ys ≡ length vs → xs ++ ys ≡ us ++ vs → (xs ≡ us) × (ys ≡ vs)
+same_parts xs ys us vs same e =
+    let whole : length xs + length ys ≡ length us + length vs =
+    sym (length-append xs ys) ∙ ap length e ∙ length-append us vs in
+    let fronts : length xs ≡ length us = omega (arith, whole, same) in
+    let front : xs ≡ us =
+    sym (take_at xs ys (length us) fronts) ∙ ap (take (length us)) e ∙ take_at us vs (length us) refl in
+    (front, append_cancel_left us ys vs (ap (λ l. l ++ ys) (sym front) ∙ e))
+
+pub same_row_key : (one other : List ℕ) (m n : ℕ) → m < 2 ^ 64 → n < 2 ^ 64 → row_key one m ≡ row_key other n
+    → (one ≡ other) × (m ≡ n)
+same_row_key one other m n small also e =
+    let parts = same_parts (one ++ codes "/") (twenty_digits m) (other ++ codes "/") (twenty_digits n)
+    (length-twenty_digits m small ∙ sym (length-twenty_digits n also)) e in (
+      append_cancel_right one other (codes "/") parts.0,
+      same_Some m n (sym (twenty_digits-read m small) ∙ ap (digits_from 0) parts.1 ∙ twenty_digits-read n also),
+    )
+
+-- The resource is what is left without the last 21 bytes.
+pub resource_of_key-row_key : (resource : List ℕ) (id : ℕ) → id < 2 ^ 64
+    → resource_of_key (row_key resource id) ≡ resource
+resource_of_key-row_key resource id small =
+    let whole : length (row_key resource id) ≡ length (resource ++ codes "/") + length (twenty_digits id) =
+    length-append (resource ++ codes "/") (twenty_digits id) in
+    let front : length (resource ++ codes "/") ≡ length resource + 1 = length-append resource (codes "/") in
+    let digits : length (twenty_digits id) ≡ 20 = length-twenty_digits id small in
+    let left : length (row_key resource id) - 21 ≡ length resource = omega (arith, whole, front, digits) in
+    ap (λ n. take n (row_key resource id)) left
+    ∙ ap (take (length resource)) (append_assoc resource (codes "/") (twenty_digits id))
+    ∙ take_at resource (codes "/" ++ twenty_digits id) (length resource) refl

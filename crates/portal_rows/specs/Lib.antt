@@ -1,4 +1,5 @@
 pub mod JsonRow
+pub mod KeptValues
 pub mod OrgRows
 pub mod Readings
 pub mod TableRows

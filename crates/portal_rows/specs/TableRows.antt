@@ -1,6 +1,6 @@
 -- The rows of tables. A table has one row that describes it, and one row for each of its own rows.
 use Rattle.std.specs.Prelude.{◌≡◌, ◌<◌, ◌^◌, ◌-◌, ℕ, List, [], ◌∷◌, ◌++◌, All, IsTrue, codes, decimal, length, map, pos}
-use Rattle.std.specs.Prelude.{replicate}
+use Rattle.std.specs.Prelude.{replicate, take}
 use Rattle.datastore_table.specs.Meets.{are_accepted}
 use Rattle.datastore_table.specs.Table.{TableValue}
 use Rattle.datastore_table.specs.declared.row.Row.{Row}
@@ -43,6 +43,10 @@ twenty_digits n = replicate (20 - length (decimal n)) 48 ++ decimal n
 -- the resource's id, `/`, and the `_id` in 20 digits
 abbrev pub row_key : List ℕ → ℕ → List ℕ
 row_key resource id = resource ++ codes "/" ++ twenty_digits id
+
+-- the key without its last 21 bytes: the id of the resource in the key of a row
+abbrev pub resource_of_key : List ℕ → List ℕ
+resource_of_key key = take (length key - 21) key
 
 -- the list of the printed cells
 abbrev pub cells_value : List Cell → Json

@@ -5,11 +5,14 @@ ghost use Rattle.org_roles.specs.PeopleLists.{AreSorted, PeopleLists};
 ghost use Rattle.portal_base.specs.Json.{IsReadable};
 ghost use Rattle.portal_base.specs.declared.json_value.Json.{Json};
 ghost use Rattle.portal_keeper.specs.Rows.{AreInOrder};
+ghost use Rattle.portal_keeper.specs.declared.row.KeptRow.{KeptRow};
 ghost use Rattle.table_schema.specs.Field.{SchemaValue};
 ghost use Rattle.table_schema.specs.Keys.{schema_reading};
 ghost use Rattle.table_schema.specs.Written.{schema_value};
+ghost use Rattle.portal_rows.specs.KeptValues.{AreKeptValues, IsKeptOf, rows_of_values};
 ghost use Rattle.portal_rows.specs.OrgRows.{AreRolesIn, memberships_in, org_rows};
 ghost use Rattle.portal_rows.specs.TableRows.{rows_of_table};
+ghost use Rattle.portal_rows.specs.declared.kept_values.KeptValues.{KeptValues};
 
 /// The rows of organizations in the order of their names are in the order of a store.
 pub fn rows_of_organizations_are_in_order()
@@ -34,4 +37,20 @@ pub fn schemas_of_readable_descriptors_have_readable_descriptors()
 pub fn memberships_are_those_of_their_organization()
     ensures { (people : PeopleLists) (name : List ℕ) → AreSorted people →
         AreRolesIn name (memberships_in name people.roles) }
+{}
+
+/// The rows of values that have rows are in the order of a store, so that no two of them have the same kind and key.
+pub fn rows_of_values_are_in_order()
+    ensures { (values : KeptValues) → AreKeptValues values → AreInOrder (rows_of_values values) }
+{}
+
+/// No two values have the same rows.
+pub fn rows_are_of_one_value()
+    ensures { (one other : KeptValues) (rows : List KeptRow) → IsKeptOf one rows → IsKeptOf other rows →
+        one ≡ other }
+{}
+
+/// The rows of values are those of these values, so that they are read back as them.
+pub fn values_are_those_of_their_rows()
+    ensures { (values : KeptValues) → AreKeptValues values → IsKeptOf values (rows_of_values values) }
 {}

@@ -1,9 +1,12 @@
-//! The rows of a portal's store for the version, for organizations with their roles, and for tables with their rows:
-//! writers of them, and readers that answer a value exactly if a row is the value's row.
+//! The rows of a portal's store: writers of the rows of the version, of organizations with their roles, and of tables with
+//! their rows, readers that answer a value exactly if a row is the value's row, and a reader of all rows of a store.
 #![tactic(auto)]
 
 mod body;
 pub mod cell_reading;
+mod kept_parts;
+pub mod kept_tables;
+pub mod kept_values;
 pub mod key_reading;
 pub mod laws;
 pub mod org_reading;
