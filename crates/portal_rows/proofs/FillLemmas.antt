@@ -1,9 +1,9 @@
 -- Tables that get their rows one by one.
-use Rattle.std.proofs.Common.{◌≡◌, ◌↔◌, ℕ, suc, ◌+◌, ◌^◌, ◌<◌, ◌≤◌, List, [], ◌∷◌, ◌++◌, ◌⊎◌, inl, inr, map}
+use Rattle.std.proofs.Common.{◌≡◌, ◌↔◌, ℕ, suc, ◌+◌, ◌<◌, ◌≤◌, List, [], ◌∷◌, ◌++◌, ◌⊎◌, inl, inr, map}
 use Rattle.std.proofs.Common.{take, drop, length, get_or, set, refl, sym, ap, ◌∙◌, subst, true≢false}
-use Rattle.std.specs.Prelude.{All, Option, Some, None, position}
+use Rattle.std.specs.Prelude.{All, Some, None, position}
 use Rattle.std.specs.Cmp.Lexicographic.{slice_cmp}
-use Rattle.std.specs.List.{AllZip, Contains, flat_map}
+use Rattle.std.specs.List.{AllZip, flat_map}
 use Rattle.std.specs.Ordering.{is_eq, nat_cmp}
 use Rattle.std.specs.declared.cmp.Ordering.{Ordering}
 use Rattle.std.specs.declared.cmp.Ordering.TheVariants.{Less, Equal}
@@ -27,13 +27,15 @@ use Rattle.portal_keeper.specs.declared.row.KeptRow.{KeptRow}
 use Rattle.portal_rows.specs.KeptValues.{AreNewTables, AreTablesOf, IsAdded, IsKeptRow, IsKeptTable, IsOfNoTable}
 use Rattle.portal_rows.specs.KeptValues.{IsRowInTable, IsRowOfNewTable, head_row, kept_table_cmp, kept_table_cmp_total}
 use Rattle.portal_rows.specs.KeptValues.{rows_in_table, with_row}
-use Rattle.portal_rows.specs.TableRows.{IsHead, cells_row, resource_of_key, row_key}
+use Rattle.portal_rows.specs.TableRows.{IsHead, cells_row, resource_of_key}
 use Rattle.portal_rows.specs.declared.kept_tables.KeptTable.{KeptTable}
 use Rattle.portal_rows.specs.declared.tables.TableHead.{TableHead}
 use Rattle.portal_rows.proofs.KeptOrder.{heads-in_order, id-less, row-is_kept, tables-apart}
 use Rattle.portal_rows.proofs.KeyLemmas.{resource_of_key-row_key}
-use Rattle.portal_rows.proofs.MemberLemmas.{IsAscending-append, IsAscending-front, IsIn-flat_map, IsIn-grown, below_last}
-use Rattle.portal_rows.proofs.MemberLemmas.{flat_map-IsIn, grown-IsIn, in_back, in_either, in_front, made-ascending, one_member}
+use Rattle.portal_rows.proofs.MemberLemmas.{IsAscending-append, IsAscending-front, IsIn-flat_map, IsIn-grown}
+use Rattle.portal_rows.proofs.MemberLemmas.{below_last}
+use Rattle.portal_rows.proofs.MemberLemmas.{flat_map-IsIn, grown-IsIn, in_back, in_either, in_front, made-ascending}
+use Rattle.portal_rows.proofs.MemberLemmas.{one_member}
 use Rattle.portal_rows.proofs.SameLemmas.{same_head, same_tables}
 use Rattle.portal_rows.proofs.ZipLemmas.{written-zip, zip-good, zip-written}
 
@@ -48,8 +50,10 @@ no_rows (t ∷ tables) none =
 
 pub new-tables : (tables : List KeptTable) → AreNewTables tables → AreTablesOf tables (map head_row tables) []
 new-tables tables new =
-    let none : (t : KeptTable) → IsIn t tables → t.rows ≡ [] = All-IsIn (λ (t : KeptTable). t.rows ≡ []) tables new.no_rows in
-    let head : (t : KeptTable) → IsIn t tables → IsHead t.head = All-IsIn (λ (t : KeptTable). IsHead t.head) tables new.heads in
+    let none : (t : KeptTable) → IsIn t tables → t.rows ≡ [] =
+    All-IsIn (λ (t : KeptTable). t.rows ≡ []) tables new.no_rows in
+    let head : (t : KeptTable) → IsIn t tables → IsHead t.head =
+    All-IsIn (λ (t : KeptTable). IsHead t.head) tables new.heads in
     record {
       valid = All-each IsKeptTable tables (λ t m. record {
         head = head t m;
@@ -71,7 +75,8 @@ read-new tables heads up zip =
     record {
       heads = All-each (λ (t : KeptTable). IsHead t.head) tables (λ t m. (good t m).0);
       no_rows = All-each (λ (t : KeptTable). t.rows ≡ []) tables (λ t m. (good t m).1);
-      ascend = made-ascending head_row kept_table_cmp row_cmp tables (λ x y less. less) (subst AreInOrder (sym written) up);
+      ascend = made-ascending head_row kept_table_cmp row_cmp tables (λ x y less. less)
+          (subst AreInOrder (sym written) up);
     }
 
 pub read-heads : (tables : List KeptTable) (heads : List KeptRow) → AllZip IsRowOfNewTable tables heads
@@ -262,7 +267,8 @@ indexed tables key i table at within is =
     (there.0, exact_bytes table.resource (resource_of_key key) (is_eq_true (order_at key table) there.1))
 
 -- A row that the table of its key's resource can't have is of no table.
-pub other_table : (tables : List KeptTable) (kept : KeptRow) (i : ℕ) (table : KeptTable) → IsAscending kept_table_cmp tables
+pub other_table : (tables : List KeptTable) (kept : KeptRow) (i : ℕ) (table : KeptTable)
+    → IsAscending kept_table_cmp tables
     → position (λ t. is_eq (order_at kept.key t)) tables ≡ Some i → i < length tables → table ≡ get_or tables i table
     → ((row : Row) → IsRowInTable table row kept → ⊥) → IsOfNoTable kept tables
 other_table tables kept i table up at within is refused other row m own =
@@ -276,7 +282,8 @@ other_table tables kept i table up at within is refused other row m own =
 
 -- A row is added to the table at an index.
 pub added-at : (tables : List KeptTable) (i : ℕ) (table : KeptTable) (row : Row) (kept : KeptRow) → i < length tables
-    → table ≡ get_or tables i table → IsRowInTable table row kept → IsAdded kept tables (set tables i (with_row table row))
+    → table ≡ get_or tables i table → IsRowInTable table row kept
+    → IsAdded kept tables (set tables i (with_row table row))
 added-at tables i table row kept lt is own = record {
   before = take i tables;
   table = table;
@@ -308,7 +315,8 @@ pub filled-refused : (filled : List KeptTable) (heads rows : List KeptRow) (i : 
     → (tables : List KeptTable) → (None ≡ Some tables) ↔ AreTablesOf tables heads rows
 filled-refused filled heads rows i kept lt is are none tables = (
   λ e. absurd (cc),
-  λ also. absurd (refused-tables filled heads (take i rows) rows kept are none (IsIn-get_or kept rows i lt (sym is)) tables
+  λ also. absurd (refused-tables filled heads (take i rows) rows kept are none (IsIn-get_or kept rows i lt (sym is))
+      tables
       also),
 )
 

@@ -1,5 +1,5 @@
 -- The rows of values, kind by kind, and that they are in order.
-use Rattle.std.proofs.Common.{◌≡◌, ℕ, ◌^◌, ◌<◌, Bool, List, [], ◌∷◌, ◌++◌, map, ◌⊎◌, inl, inr, refl, sym, ap, ◌∙◌}
+use Rattle.std.proofs.Common.{◌≡◌, ℕ, ◌^◌, ◌<◌, List, [], ◌∷◌, ◌++◌, map, ◌⊎◌, inl, inr, refl, sym, ap, ◌∙◌}
 use Rattle.std.proofs.Common.{arith, subst}
 use Rattle.std.specs.Cmp.Lexicographic.{slice_cmp}
 use Rattle.std.specs.List.{flat_map}
@@ -21,7 +21,8 @@ use Rattle.portal_base.proofs.Upserted.{All-IsIn, ascending-same}
 use Rattle.portal_keeper.specs.Rows.{AreInOrder, kind_number, row_cmp, row_cmp_total}
 use Rattle.portal_keeper.specs.declared.row.KeptRow.{KeptRow}
 use Rattle.portal_rows.specs.KeptValues.{AreKeptValues, IsKeptRow, IsKeptTable, dataset_row, head_row, kept_org_cmp}
-use Rattle.portal_rows.specs.KeptValues.{kept_org_row, kept_table_cmp, rows_after_version, rows_in_table, rows_of_values}
+use Rattle.portal_rows.specs.KeptValues.{kept_org_row, kept_table_cmp, rows_after_version, rows_in_table}
+use Rattle.portal_rows.specs.KeptValues.{rows_of_values}
 use Rattle.portal_rows.specs.KeptValues.{table_rows}
 use Rattle.portal_rows.specs.TableRows.{cells_row}
 use Rattle.portal_rows.specs.VersionRow.{version_row}
@@ -31,7 +32,8 @@ use Rattle.portal_rows.specs.declared.org_reading.OrgWithRoles.{OrgWithRoles}
 use Rattle.portal_rows.proofs.KeyLemmas.{row_key-less, same_row_key}
 use Rattle.portal_rows.proofs.KindLemmas.{AreAfter, AreParts, after-kind, after_both, apart-append, in_order-apart}
 use Rattle.portal_rows.proofs.KindLemmas.{keys-apart, kinds-less, kinds_below, map-kind, parts-in_order, up_to-kind}
-use Rattle.portal_rows.proofs.MemberLemmas.{AreBelow, IsAscending-append, ascending-append, ascending-made, flat_map-IsIn}
+use Rattle.portal_rows.proofs.MemberLemmas.{ascending-append, ascending-made}
+use Rattle.portal_rows.proofs.MemberLemmas.{flat_map-IsIn}
 use Rattle.portal_rows.proofs.MemberLemmas.{in_either, inserted-after}
 
 -- ---- the kinds of the rows
@@ -84,7 +86,8 @@ id-less resource p q small less = by (id_cmp p q) refl
     by Equal is =
         let same : p.id ≡ q.id = ranked p.id q.id Equal (sym is) in
         absurd (not_below_itself row_cmp row_cmp_total (cells_row resource q)
-        (subst (λ (n : ℕ). row_cmp (cells_row resource (record { id = n; cells = p.cells })) (cells_row resource q) ≡ Less)
+        (subst (λ (n : ℕ).
+        row_cmp (cells_row resource (record { id = n; cells = p.cells })) (cells_row resource q) ≡ Less)
         same less))
     by Greater is =
         let above : q.id < p.id = ranked p.id q.id Greater (sym is) in
@@ -161,7 +164,8 @@ pub ascending-tables : (tables : List KeptTable) → IsAscending kept_table_cmp 
     ≡ map head_row tables ++ ascending row_cmp (flat_map rows_in_table tables)
 ascending-tables [] up = refl
 ascending-tables (t ∷ tables) up =
-    ap (inserted row_cmp (head_row t)) (heads_first (rows_in_table t) tables (cells-kind t) (ascending-tables tables up.1))
+    ap (inserted row_cmp (head_row t))
+    (heads_first (rows_in_table t) tables (cells-kind t) (ascending-tables tables up.1))
     ∙ inserted_front row_cmp row_cmp_total (head_row t)
     (map head_row tables ++ ascending row_cmp (rows_in_table t ++ flat_map rows_in_table tables))
     (IsBelowAll-each row_cmp (head_row t)

@@ -1,5 +1,5 @@
 -- What is read from the parts of a store's rows is read from all of them.
-use Rattle.std.proofs.Common.{◌≡◌, ◌↔◌, ℕ, ◌<◌, ◌≤◌, List, [], ◌∷◌, ◌++◌, ◌⊎◌, inl, inr, map, refl, sym, ap, ◌∙◌, subst}
+use Rattle.std.proofs.Common.{◌≡◌, ◌↔◌, ℕ, ◌<◌, ◌≤◌, List, [], ◌∷◌, ◌++◌, inl, inr, map, refl, sym, ap, ◌∙◌, subst}
 use Rattle.std.proofs.Common.{arith}
 use Rattle.std.specs.Prelude.{All, Option, Some, None}
 use Rattle.std.specs.List.{AllZip, flat_map}
@@ -12,9 +12,9 @@ use Rattle.portal_base.proofs.Unique.{IsIn}
 use Rattle.portal_base.proofs.Upserted.{All-IsIn, All-each}
 use Rattle.portal_keeper.specs.Rows.{AreInOrder, kind_number, row_cmp}
 use Rattle.portal_keeper.specs.declared.row.KeptRow.{KeptRow}
-use Rattle.portal_rows.specs.KeptValues.{AreKeptValues, AreTablesOf, IsDatasetRow, IsKeptAfterVersion, IsKeptOf, dataset_row}
+use Rattle.portal_rows.specs.KeptValues.{AreTablesOf, IsDatasetRow, IsKeptAfterVersion, IsKeptOf}
+use Rattle.portal_rows.specs.KeptValues.{dataset_row}
 use Rattle.portal_rows.specs.KeptValues.{head_row, kept_org_cmp, kept_org_row, rows_after_version, rows_in_table}
-use Rattle.portal_rows.specs.KeptValues.{rows_of_values}
 use Rattle.portal_rows.specs.OrgRows.{IsOrgRow, IsOrgWithRoles}
 use Rattle.portal_rows.specs.VersionRow.{version_row}
 use Rattle.portal_rows.specs.declared.kept_tables.KeptTable.{KeptTable}
@@ -71,7 +71,8 @@ pub values-read : (rows orgs datasets heads rest : List KeptRow) (values : KeptV
     → AllZip IsDatasetRow values.datasets datasets → AreTablesOf values.tables heads rest
     → IsKeptAfterVersion values rows
 values-read rows orgs datasets heads rest values up whole read_orgs read_datasets tables =
-    let org_rows : map kept_org_row values.orgs ≡ orgs = zip-written IsOrgWithRoles kept_org_row values.orgs orgs read_orgs in
+    let org_rows : map kept_org_row values.orgs ≡ orgs =
+    zip-written IsOrgWithRoles kept_org_row values.orgs orgs read_orgs in
     let dataset_rows : map dataset_row values.datasets ≡ datasets =
     zip-written IsWellTyped dataset_row values.datasets datasets read_datasets in
     let ordered : AreInOrder (orgs ++ (datasets ++ (heads ++ rest))) = subst AreInOrder (sym whole) up in
@@ -104,7 +105,8 @@ pub record HaveParts (values : KeptValues) (orgs datasets heads rest : List Kept
   pub datasets_read : AllZip IsDatasetRow values.datasets datasets
   pub tables_read : AreTablesOf values.tables heads rest
 
-pub parts-read : (rows orgs datasets heads rest : List KeptRow) (values : KeptValues) → AreParts orgs datasets heads rest
+pub parts-read : (rows orgs datasets heads rest : List KeptRow) (values : KeptValues)
+    → AreParts orgs datasets heads rest
     → orgs ++ (datasets ++ (heads ++ rest)) ≡ rows → IsKeptAfterVersion values rows
     → HaveParts values orgs datasets heads rest
 parts-read rows orgs datasets heads rest values parts whole kept =

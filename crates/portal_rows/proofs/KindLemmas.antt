@@ -1,5 +1,6 @@
 -- Rows of a store by their kinds.
-use Rattle.std.proofs.Common.{◌≡◌, ℕ, ◌<◌, ◌≤◌, Bool, true, false, List, [], ◌∷◌, ◌++◌, map, ◌⊎◌, inl, inr, refl, sym, ap}
+use Rattle.std.proofs.Common.{◌≡◌, ℕ, ◌<◌, ◌≤◌, Bool, true, false, List, [], ◌∷◌, ◌++◌, map, ◌⊎◌, inl, inr, refl, sym}
+use Rattle.std.proofs.Common.{ap}
 use Rattle.std.proofs.Common.{◌∙◌, ◌+◌, ◌↔◌, arith, drop, get_or, length, subst, take}
 use Rattle.std.proofs.Common.{true≢false}
 use Rattle.std.specs.Cmp.Lexicographic.{slice_cmp}
@@ -40,11 +41,13 @@ kinds-less r q less =
     let below : nat_cmp (kind_number r.kind) (kind_number q.kind) ≡ Less = grind (arith, nat_tests) in
     ap (λ s. ordering_then s (slice_cmp nat_cmp r.key q.key)) below
 
-pub kinds_below : (k : ℕ) (rows others : List KeptRow) → AreUpTo k rows → AreAfter k others → AreBelow row_cmp rows others
+pub kinds_below : (k : ℕ) (rows others : List KeptRow) → AreUpTo k rows → AreAfter k others
+    → AreBelow row_cmp rows others
 kinds_below k rows others up after = λ r q m n.
     let first = up r m in let second = after q n in kinds-less r q (omega (arith, first, second))
 
-pub after_both : (k : ℕ) (rows others : List KeptRow) → AreAfter k rows → AreAfter k others → AreAfter k (rows ++ others)
+pub after_both : (k : ℕ) (rows others : List KeptRow) → AreAfter k rows → AreAfter k others
+    → AreAfter k (rows ++ others)
 after_both k rows others first second = λ r m. by r (in_either r rows others m)
   where
     by : (r : KeptRow) → IsIn r rows ⊎ IsIn r others → k < kind_number r.kind
@@ -68,7 +71,9 @@ pub one_split : (k : ℕ) (xs ys us vs : List KeptRow) → AreUpTo k xs → AreA
     → xs ++ ys ≡ us ++ vs → (xs ≡ us) × (ys ≡ vs)
 one_split k [] ys [] vs fx by fu bv e = (refl, e)
 one_split k [] ys (u ∷ us) vs fx by fu bv e =
-    let low = fu u (inl refl) in let high = by u (subst (IsIn u) (sym e) (inl refl)) in absurd (omega (arith, low, high))
+    let low = fu u (inl refl) in
+    let high = by u (subst (IsIn u) (sym e) (inl refl)) in
+    absurd (omega (arith, low, high))
 one_split k (x ∷ xs) ys [] vs fx by fu bv e =
     let low = fx x (inl refl) in let high = bv x (subst (IsIn x) e (inl refl)) in absurd (omega (arith, low, high))
 one_split k (x ∷ xs) ys (u ∷ us) vs fx by fu bv e =
@@ -96,7 +101,8 @@ in_order-answer (row ∷ rows) false step =
 kinds_rise : (r q : KeptRow) → row_cmp r q ≡ Less → kind_number r.kind ≤ kind_number q.kind
 kinds_rise r q less = by (nat_cmp (kind_number r.kind) (kind_number q.kind)) refl
   where
-    by : (o : Ordering) → nat_cmp (kind_number r.kind) (kind_number q.kind) ≡ o → kind_number r.kind ≤ kind_number q.kind
+    by : (o : Ordering) → nat_cmp (kind_number r.kind) (kind_number q.kind) ≡ o
+        → kind_number r.kind ≤ kind_number q.kind
     by Less is =
         let below = ranked (kind_number r.kind) (kind_number q.kind) Less (sym is) in omega (arith, below)
     by Equal is =

@@ -194,7 +194,8 @@ inserted-before : {X : Type 0} (cmp : X → X → Ordering) (o : IsTotalOrder cm
 inserted-before cmp o x [] ys less = inserted_front cmp o x ys (IsBelowAll-each cmp x ys less)
 inserted-before {X} cmp o x (z ∷ xs) ys less =
     let P : Bool → Type 0 =
-    λ b. cond b (z ∷ inserted cmp x (xs ++ ys)) (x ∷ z ∷ (xs ++ ys)) ≡ cond b (z ∷ inserted cmp x xs) (x ∷ z ∷ xs) ++ ys in
+    λ b. cond b (z ∷ inserted cmp x (xs ++ ys)) (x ∷ z ∷ (xs ++ ys))
+    ≡ cond b (z ∷ inserted cmp x xs) (x ∷ z ∷ xs) ++ ys in
     elim (is_lt (cmp z x)) as P [
       | true ↦ ap (λ l. z ∷ l) (inserted-before cmp o x xs ys less)
       | false ↦ refl

@@ -1,5 +1,5 @@
 -- Values that have the same rows are the same.
-use Rattle.std.proofs.Common.{◌≡◌, ℕ, ◌^◌, ◌<◌, List, [], ◌∷◌, ◌++◌, map, refl, sym, ap, ◌∙◌, subst}
+use Rattle.std.proofs.Common.{◌≡◌, ℕ, List, ◌∷◌, map, refl, sym, ap, ◌∙◌, subst}
 use Rattle.std.specs.Cmp.Lexicographic.{slice_cmp}
 use Rattle.std.specs.List.{flat_map}
 use Rattle.std.specs.Ordering.{nat_cmp}
@@ -17,9 +17,10 @@ use Rattle.portal_base.proofs.Unique.{IsIn, IsIn-ascending, ascending-IsIn, uniq
 use Rattle.portal_base.proofs.Upserted.{All-IsIn}
 use Rattle.portal_keeper.specs.Rows.{row_cmp}
 use Rattle.portal_keeper.specs.declared.row.KeptRow.{KeptRow}
-use Rattle.portal_rows.specs.KeptValues.{AreKeptValues, AreTablesOf, IsKeptOf, IsKeptRow, IsKeptTable, dataset_row, head_row}
+use Rattle.portal_rows.specs.KeptValues.{AreKeptValues, AreTablesOf, IsKeptOf, IsKeptRow, IsKeptTable, dataset_row}
+use Rattle.portal_rows.specs.KeptValues.{head_row}
 use Rattle.portal_rows.specs.KeptValues.{kept_org_row, kept_table_cmp, kept_table_cmp_total, rows_after_version}
-use Rattle.portal_rows.specs.KeptValues.{rows_in_table, rows_of_values}
+use Rattle.portal_rows.specs.KeptValues.{rows_in_table}
 use Rattle.portal_rows.specs.OrgRows.{IsOrgWithRoles, org_value}
 use Rattle.portal_rows.specs.Readings.{cells_of_value, head_reading, org_with_roles_reading}
 use Rattle.portal_rows.specs.TableRows.{IsHead, cells_row, cells_value, head_value}
@@ -80,7 +81,8 @@ same_head table other is also e =
           (sym (head-back table.head is) ∙ ap head_reading value ∙ head-back other.head also),
     )
 
-pub same_row : (table : KeptTable) (row other : Row) → IsKeptRow table.head.schema row → IsKeptRow table.head.schema other
+pub same_row : (table : KeptTable) (row other : Row) → IsKeptRow table.head.schema row
+    → IsKeptRow table.head.schema other
     → cells_row table.resource row ≡ cells_row table.resource other → row ≡ other
 same_row table row other is also e =
     let fields = table.head.schema.fields in

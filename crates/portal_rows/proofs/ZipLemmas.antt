@@ -54,7 +54,8 @@ pub reads-refused : {A B : Type 0} (Is : A → B → Type 0) (before : List A) (
     (found : Option A) → ReadsOn Is before rows i → i < length rows → row ≡ get_or rows i row
     → ((y : A) → (found ≡ Some y) ↔ Is y row) → found ≡ None → (kept : List A)
     → (None ≡ Some kept) ↔ AllZip Is kept rows
-reads-refused {A} {B} Is before rows i row found reads lt is reader none kept = (λ e. absurd (cc), λ h. absurd (refused h))
+reads-refused {A} {B} Is before rows i row found reads lt is reader none kept =
+    (λ e. absurd (cc), λ h. absurd (refused h))
   where
     go : (rest : List A) → AllZip Is rest (row ∷ drop (i + 1) rows) → ⊥
     go [] h = h

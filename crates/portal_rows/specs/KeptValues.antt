@@ -57,7 +57,8 @@ listed_rows values =
 abbrev pub rows_of_values : KeptValues → List KeptRow
 rows_of_values values = ascending row_cmp (listed_rows values)
 
--- The rows after that of the version, kind by kind. Keys of rows' rows may ascend otherwise than the ids of resources do.
+-- The rows after that of the version, kind by kind. The rows of tables' rows are in the order of their keys, which need
+-- not be the order of the tables: a key goes on with `/` after the resource's id.
 abbrev pub rows_after_version : KeptValues → List KeptRow
 rows_after_version values =
     map kept_org_row values.orgs

@@ -35,7 +35,7 @@ pub struct KeptTable {
     pub rows: Seq<Row>,
 }
 
-/// Reads the rows of tables, and the rows of their rows. The result is some tables exactly if all of the rows are theirs.
+/// Reads the rows of tables, and the rows of their rows. The result is some tables exactly if all rows are theirs.
 pub(crate) fn read_tables(
     alloc: Global,
     heads: &[KeptRow],

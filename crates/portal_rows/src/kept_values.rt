@@ -30,8 +30,8 @@ pub struct KeptValues {
     pub tables: Seq<KeptTable>,
 }
 
-/// Reads all rows of a store. The result is some values exactly if the rows are those of these values. So it is none for
-/// rows that are out of order, that lack the row of the version, or of which one is no row of a value.
+/// Reads all rows of a store. The result is some values exactly if the rows are those of these values. So it is none if
+/// the rows are out of order, if they lack the row of the version, or if one of them is the row of no value.
 pub fn read_rows(alloc: Global, rows: &Seq<KeptRow>) -> Result<Option<KeptValues>, AllocError>
     ensures { IfOk result (λ found. (values : KeptValues) → (found ≡ Some values) ↔ IsKeptOf values rows.now) }
 {

@@ -1,5 +1,5 @@
-//! The rows of a portal's store: writers of the rows of the version, of organizations with their roles, and of tables with
-//! their rows, readers that answer a value exactly if a row is the value's row, and a reader of all rows of a store.
+//! The rows of a portal's store: writers of the rows of the version, of organizations with their roles, and of tables
+//! with their rows, readers that answer a value exactly if a row is the value's row, and a reader of a whole store.
 #![tactic(auto)]
 
 mod body;

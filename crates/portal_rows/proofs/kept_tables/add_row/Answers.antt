@@ -1,7 +1,7 @@
-use Rattle.std.proofs.Common.{◌≡◌, ◌∙◌, None, Some, ap, set, subst, sym}
+use Rattle.std.proofs.Common.{◌∙◌, ap, set, subst, sym}
 use Rattle.std.specs.Prelude.{position}
 use Rattle.std.specs.Ordering.{is_eq}
-use Rattle.portal_rows.specs.KeptValues.{IsAdded, with_row}
+use Rattle.portal_rows.specs.KeptValues.{IsAdded}
 use Rattle.portal_rows.specs.declared.kept_tables.KeptTable.{KeptTable}
 use Rattle.portal_rows.proofs.FillLemmas.{added-at, no_table, order_at, other_table}
 use Rattle.portal_rows.proofs.kept_tables.add_row.Goals as goal
@@ -30,7 +30,8 @@ pub returns-clause-added : goal.returns-clause-added
 returns-clause-added c = λ yes.
     let tables = c.args.tables.now.items in
     let own = c.in-Some-2.own in
-    subst (λ (t : KeptTable). IsAdded c.args.row.now tables (set tables c.in-Some.index t)) (sym c.in_ok-push_row.ensures)
+    subst (λ (t : KeptTable). IsAdded c.args.row.now tables (set tables c.in-Some.index t))
+    (sym c.in_ok-push_row.ensures)
     (added-at tables c.in-Some.index c.index_mut-table.result.now own c.args.row.now
     (rw c.as_slice.ensures.value at c.in-Some.ensures.within) c.index_mut-table.ensures.value
     ((c.in_ok-own.ensures own).0 c.in-Some-2.is))

@@ -91,9 +91,11 @@ returns-in-None c =
 pub returns-in-Some-3 : goal.returns-in-Some-3
 returns-in-Some-3 c =
     all-read c.args.rows.now c.split_after.result.0.now c.split_after.result.1.now c.split_after-2.result.0.now
-    c.split_after-2.result.1.now c.split_after-3.result.0.now c.split_after-3.result.1.now c.in_ok-orgs.field-0 c.in_ok-datasets.field-0
+    c.split_after-2.result.1.now c.split_after-3.result.0.now c.split_after-3.result.1.now
+    c.in_ok-orgs.field-0 c.in_ok-datasets.field-0
     c.in_ok-tables.field-0
-    (record { orgs = c.in-Some.orgs; datasets = c.in-Some-2.datasets; tables = c.in-Some-3.tables }) c.requires (record {
+    (record { orgs = c.in-Some.orgs; datasets = c.in-Some-2.datasets; tables = c.in-Some-3.tables }) c.requires
+    (record {
       first = c.split_after.ensures.whole;
       second = c.split_after-2.ensures.whole;
       third = c.split_after-3.ensures.whole;

@@ -5,7 +5,8 @@ use Rattle.dataset_rows.proofs.RowLemmas.{one_dataset}
 use Rattle.packages.specs.declared.package.Package.{Package}
 use Rattle.portal_rows.proofs.kept_values.read_dataset.Goals as goal
 
-exactly : {E : Type 0} (id body : List ℕ) (r : Result (Option Package) E) → IfOk r (λ found. IfSome found (HasRow id body))
+exactly : {E : Type 0} (id body : List ℕ) (r : Result (Option Package) E)
+    → IfOk r (λ found. IfSome found (HasRow id body))
     → IfOk r (λ found. IfNone found ((dataset : Package) → HasRow id body dataset → ⊥))
     → IfOk r (λ found. (dataset : Package) → (found ≡ Some dataset) ↔ HasRow id body dataset)
 exactly id body (Ok None) some none = λ dataset. (λ e. absurd (cc), λ row. absurd (none dataset row))

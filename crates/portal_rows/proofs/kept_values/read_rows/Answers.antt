@@ -1,8 +1,6 @@
-use Rattle.std.proofs.Common.{◌≡◌, ◌↔◌, ◌∙◌, ◌++◌, Some, ap, subst, sym, true≢false}
+use Rattle.std.proofs.Common.{◌∙◌, ◌++◌, ap, subst, sym, true≢false}
 use Rattle.std.proofs.lemmas.Result.{IfOk-weaker}
 use Rattle.portal_keeper.specs.Rows.{AreInOrder}
-use Rattle.portal_rows.specs.KeptValues.{IsKeptAfterVersion, IsKeptOf}
-use Rattle.portal_rows.specs.declared.kept_values.KeptValues.{KeptValues}
 use Rattle.portal_rows.proofs.KeptReading.{out_of_order, through_version, without_version}
 use Rattle.portal_rows.proofs.kept_values.read_rows.Goals as goal
 
