@@ -1,5 +1,5 @@
-//! Laws of the datasets that are built from bodies, and of those that are restored. Each function has an empty body, and
-//! its contract is the law.
+//! Laws of the datasets that are built from bodies, and of those that are restored. Each function has an empty body,
+//! and its contract is the law.
 ghost use Rattle.std.specs.Prelude.{◌≡◌, ◌≤◌, ◌⊎◌, ◌↔◌, ℕ, List, [], Bool, Option, Some, None, All, Any, Contains};
 ghost use Rattle.std.specs.Prelude.{IfSome, IsTrue, Ok, codes};
 ghost use Rattle.std.specs.List.{AllPairs};

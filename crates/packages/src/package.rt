@@ -58,6 +58,24 @@ pub struct Resource {
     pub mimetype: Text,
 }
 
+impl Resource {
+    ghost use Rattle.packages.specs.Reading.{blank_resource};
+
+    /// A resource without texts. It takes no memory.
+    pub(crate) fn blank(alloc: Global, number: u32) -> Resource
+        ensures { result ≡ blank_resource number }
+    {
+        Resource {
+            number,
+            name: Text::new(alloc),
+            url: Text::new(alloc),
+            format: Text::new(alloc),
+            description: Text::new(alloc),
+            mimetype: Text::new(alloc),
+        }
+    }
+}
+
 /// A dataset.
 #[derive(Drop)]
 pub struct Package {
@@ -150,14 +168,9 @@ impl Package {
 
 impl TryClone for Resource {
     fn try_clone(&self, alloc: Global) -> Result<Resource, AllocError> {
-        Ok(Resource {
-            number: self.number,
-            name: self.name.try_clone(alloc)?,
-            url: self.url.try_clone(alloc)?,
-            format: self.format.try_clone(alloc)?,
-            description: self.description.try_clone(alloc)?,
-            mimetype: self.mimetype.try_clone(alloc)?,
-        })
+        let mut copy = Resource::blank(alloc, self.number);
+        copy_resource(alloc, self, &mut copy)?;
+        Ok(copy)
     }
 }
 
@@ -178,6 +191,17 @@ fn copy_to<T: TryClone + Drop>(alloc: Global, from: &T, to: &mut T) -> Result<()
 {
     *to = from.try_clone(alloc)?;
     Ok(())
+}
+
+/// Copies the texts of a resource.
+fn copy_resource(alloc: Global, from: &Resource, to: &mut Resource) -> Result<(), AllocError>
+    ensures { OnOk result (to.new ≡ record from.now { number = to.old.number }) }
+{
+    copy_to(alloc, &from.name, &mut to.name)?;
+    copy_to(alloc, &from.url, &mut to.url)?;
+    copy_to(alloc, &from.format, &mut to.format)?;
+    copy_to(alloc, &from.description, &mut to.description)?;
+    copy_to(alloc, &from.mimetype, &mut to.mimetype)
 }
 
 /// Copies what no body sets, and the state.

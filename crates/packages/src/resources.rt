@@ -3,14 +3,13 @@ ghost use Rattle.std.specs.Prelude.{◌≡◌, [], IfOk, IfErr, OnOk};
 ghost use Rattle.portal_base.specs.KeyErrors.{with_rule_errors};
 ghost use Rattle.packages.specs.Body.{IsRefusal};
 ghost use Rattle.packages.specs.Resources.{resource_checks, resource_errors, resource_for};
-ghost use Rattle.packages.specs.Reading.{blank_resource, with_texts_read};
+ghost use Rattle.packages.specs.Reading.{with_texts_read};
 
 use crate::build::{BuildFault, unless_error};
 use crate::package::{LONGEST_DESCRIPTION, LONGEST_TEXT, Resource};
 use crate::texts::read_text;
 use portal_base::json_value::Json;
 use portal_base::key_errors::KeyErrors;
-use portal_base::text::Text;
 use std::alloc::{AllocError, Global};
 
 /// What is read of a resource's body: the resource, in which a faulty key counts as absent, and the errors of the keys.
@@ -27,23 +26,9 @@ pub fn read_resource(alloc: Global, body: &Json, number: u32) -> Result<Resource
     ensures built { IfOk result (λ read. read.errors ≡ [] → read.resource ≡ resource_for number body.now) }
 {
     let mut errors = KeyErrors::new(alloc);
-    let mut resource = blank_resource(alloc, number);
+    let mut resource = Resource::blank(alloc, number);
     read_texts(alloc, &mut errors, body, &mut resource)?;
     Ok(ResourceReading { resource, errors })
-}
-
-/// A resource before its body is read. It takes no memory.
-fn blank_resource(alloc: Global, number: u32) -> Resource
-    ensures { result ≡ blank_resource number }
-{
-    Resource {
-        number,
-        name: Text::new(alloc),
-        url: Text::new(alloc),
-        format: Text::new(alloc),
-        description: Text::new(alloc),
-        mimetype: Text::new(alloc),
-    }
 }
 
 /// Reads the texts of the body in their order into the resource, and adds their errors.

@@ -12,8 +12,8 @@ use std::alloc::{AllocError, Global};
 
 impl Shelf {
     /// The shelf with these datasets. The result is None exactly if a text is the id or the name of two of them. The
-    /// datasets get numbers in an order that callers can't rely on. Where no number below 2^32 is free, that counts as out
-    /// of memory.
+    /// datasets get numbers in an order that callers can't rely on. If no number below 2^32 is free, that counts as
+    /// out of memory.
     pub fn restore(alloc: Global, datasets: Seq<Package>) -> Result<Option<Shelf>, AllocError>
         ensures exact { IfOk result (λ restored. is_some restored ≡ have_unique_keys datasets) }
         ensures datasets { IfOk result (λ restored. IfSome restored (λ shelf.

@@ -11,5 +11,5 @@ returns-clause-built c =
     let body = c.args.body.now in
     let errors =
     c.in_ok-read_texts.ensures.errors ∙ ap (with_rule_errors (resource_checks body)) c.new-errors.ensures in
-    c.in_ok-read_texts.ensures.resource ∙ ap (with_texts_read body) c.blank_resource-resource.ensures
+    c.in_ok-read_texts.ensures.resource ∙ ap (with_texts_read body) c.blank-resource.ensures
     ∙ resource-read c.args.number body (sym errors ∙ none)
