@@ -50,14 +50,15 @@ fn open_file<S: Start>(
 
 /// Opens the store in the file at the location, or a store in memory without rows if there is no location.
 ///
-/// The file is a SQLite database with its log beside it, whose name is the location with `-wal` after it. It is made if
-/// it isn't there and its folder is. The store has both files for itself until it is dropped. `start` is `Unknown` in a
-/// program; contracts over any `Start` say what the file held.
+/// The file is a SQLite database, with its log beside it: the location with `-wal` after it. The file is made if it isn't
+/// there and its folder is. The store has both files for itself until it is dropped. A program passes `Unknown` as
+/// `start`; the clauses hold for any, and say what the connection shows by what the files held.
 ///
-/// It is `Failed` if the location is empty, `:memory:` or begins with `file:`; if something other than a regular file is
-/// there, as a folder, a FIFO or a device; if the file has a second name or a rollback journal of SQLite; if it is
-/// neither empty nor a SQLite database; if it is in use; and if the host refuses. A file that is refused is left as it
-/// is, perhaps with an empty log beside it. No clause says so, since the host isn't observable.
+/// An empty location and `:memory:` are `Failed`, by clauses. What the host has at a location isn't observable, so no
+/// clause says the rest. `Failed` are a location that begins with `file:`; anything but a regular file, as a folder, a
+/// FIFO or a device; a file with a second name, or with a rollback journal of SQLite; a file that is neither empty nor a
+/// SQLite database; a store that is in use; and what the host refuses. The file itself isn't changed then, but an empty
+/// log may be left beside it.
 pub fn open_store<S: Start>(
     rt: &HostRuntime,
     alloc: Global,

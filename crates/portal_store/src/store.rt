@@ -26,9 +26,9 @@ use std::alloc::Global;
 /// A store of a portal. Its rows are observable in memory, and not in a file. Each call is that of its keeper.
 #[derive(Drop)]
 pub enum Store<S: Alter> {
-    /// In memory. The rows are lost where the store is dropped.
+    /// In memory. The rows are gone once the store is dropped.
     Memory(MemoryKeeper),
-    /// In a SQLite database.
+    /// In a SQLite database, as that of a file.
     File(SqliteKeeper<S>),
 }
 
