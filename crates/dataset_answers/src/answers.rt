@@ -2,8 +2,11 @@
 //!
 //! Each function finds the thing, checks the right, reads the body and gives the change. Its answer is a function of
 //! the call and of the caller's view. A refusal stops it.
-ghost use Rattle.std.specs.Prelude.{◌≡◌, IfOk};
-ghost use Rattle.portal_calls.specs.Stop.{Answers};
+ghost use Rattle.std.specs.Prelude.{◌≡◌, ◌<◌, [], codes, IfOk, length, None, Some};
+ghost use Rattle.portal_base.specs.Id.{id_text};
+ghost use Rattle.portal_base.specs.KeyErrors.{error_if};
+ghost use Rattle.portal_calls.specs.Answer.{denial_of, quota_error};
+ghost use Rattle.portal_calls.specs.Stop.{Answers, Gives};
 ghost use Rattle.portal_calls.specs.declared.answer.Answer.{Answer};
 ghost use Rattle.dataset_answers.specs.declared.change.DatasetChange.{DatasetChange};
 ghost use Rattle.visibility.specs.TableSummary.{summaries_seen};
@@ -16,7 +19,9 @@ ghost use Rattle.dataset_answers.specs.Answers.{answer_to_package_update, answer
 ghost use Rattle.dataset_answers.specs.Answers.{answer_to_package_delete, answer_to_dataset_purge};
 ghost use Rattle.dataset_answers.specs.Answers.{answer_to_resource_show, answer_to_resource_create};
 ghost use Rattle.dataset_answers.specs.Answers.{answer_to_resource_update, answer_to_resource_delete};
-ghost use Rattle.dataset_answers.specs.Bodies.{organization_given};
+ghost use Rattle.dataset_answers.specs.Bodies.{caller_name, organization_given, with_new_resource, with_origin};
+ghost use Rattle.dataset_answers.specs.Bodies.{with_resource_at};
+ghost use Rattle.dataset_answers.specs.Dictionary.{package_dictionary, resource_dictionary};
 
 use crate::bodies::{
     created_dataset, deleted_dataset, deletion_errors, organization_given, read_change, read_count,
@@ -29,12 +34,12 @@ use crate::lookup::{
     dataset_at, editable_dataset_at, editable_resource_at, naming_key, purgeable_dataset,
 };
 use org_roles::role::rights_of;
-use packages::package::Package;
+use packages::package::{Package, Resource};
 use packages::resources::read_resource;
 use portal_base::copy::TryClone;
 use portal_base::json_value::Json;
 use portal_base::key_errors::KeyErrors;
-use portal_calls::answer::{Answer, Right};
+use portal_calls::answer::{Answer, Quota, Right};
 use portal_calls::stop::{Stop, answer_or_refusal, authorize, validate, validate_change};
 use portal_calls::topic::DatasetAction;
 use std::alloc::{AllocError, Global};
@@ -131,6 +136,16 @@ fn resource_show<H: TableLookup>(
 
 // ---- creation and change of datasets
 
+/// The value that was read for a change, if the change breaks no rule.
+fn if_valid<T: Drop>(quota: Quota, errors: KeyErrors, value: T) -> Result<T, Stop>
+    ensures valid { Gives result (λ valid. None) Some
+        (denial_of (error_if (codes "body") (quota_error quota) errors)) }
+    ensures value { IfOk result (λ valid. valid ≡ value) }
+{
+    validate_change(quota, errors)?;
+    Ok(value)
+}
+
 /// Whether the caller may create the dataset that the body describes.
 fn may_create(context: &CallContext<'_>) -> bool
     ensures { result ≡ may_create (context_view context.now) }
@@ -155,8 +170,23 @@ fn package_create(alloc: Global, context: &CallContext<'_>) -> Result<Answer<Dat
 {
     authorize(may_create(context), Right::CreateDataset)?;
     let read = read_dataset(alloc, context, None, true)?;
-    validate_change(context.quota, read.errors)?;
-    let dataset = created_dataset(alloc, context.call, read.dataset)?;
+    let described = if_valid(context.quota, read.errors, read.dataset)?;
+    Ok(accept_creation(alloc, context, described)?)
+}
+
+/// The answer that creates the dataset that the body describes.
+fn accept_creation(
+    alloc: Global,
+    context: &CallContext<'_>,
+    described: Package,
+) -> Result<Answer<DatasetChange>, AllocError>
+    ensures { IfOk result (λ answer.
+        let call = context.now.call.now in
+        let dataset = with_origin described (id_text call.nonce.0) (caller_name call.caller) call.moment in
+        answer ≡ Answer.Accepted (package_dictionary (context_view context.now).people [] dataset)
+        (DatasetChange.Create dataset)) }
+{
+    let dataset = created_dataset(alloc, context.call, described)?;
     let shown = package_json(alloc, context, &NoTables, &dataset)?;
     Ok(Answer::Accepted(shown, DatasetChange::Create(dataset)))
 }
@@ -212,9 +242,22 @@ fn change_of_dataset<H: TableLookup>(
     ensures { Answers result (answer_to_change_of whole (context_view context.now) (H.summaries tables.now) dataset.now) }
 {
     let read = read_change(alloc, context, tables, whole, dataset)?;
-    validate_change(context.quota, read.errors)?;
-    let mut changed = read.dataset;
+    let mut changed = if_valid(context.quota, read.errors, read.dataset)?;
     changed.modified = context.call.moment;
+    Ok(accept_replacement(alloc, context, tables, changed)?)
+}
+
+/// The answer that puts this dataset in the place of the one of its id.
+fn accept_replacement<H: TableLookup>(
+    alloc: Global,
+    context: &CallContext<'_>,
+    tables: &H,
+    changed: Package,
+) -> Result<Answer<DatasetChange>, AllocError>
+    ensures { IfOk result (λ answer. answer
+        ≡ Answer.Accepted (package_dictionary (context_view context.now).people (H.summaries tables.now) changed)
+        (DatasetChange.Replace changed)) }
+{
     let shown = package_json(alloc, context, tables, &changed)?;
     Ok(Answer::Accepted(shown, DatasetChange::Replace(changed)))
 }
@@ -254,15 +297,25 @@ fn resource_create<H: TableLookup>(
 {
     let dataset = editable_dataset_at(alloc, context, "package_id")?;
     let read = read_new_resource(alloc, dataset, &context.call.request.body)?;
-    validate_change(context.quota, read.errors)?;
-    let shown = resource_json(
-        alloc,
-        tables,
-        &dataset.id,
-        dataset.resources.len(),
-        &read.resource,
-    )?;
-    let changed = with_new_resource(alloc, context.call, dataset, read.resource)?;
+    let resource = if_valid(context.quota, read.errors, read.resource)?;
+    Ok(accept_new_resource(alloc, context, tables, dataset, resource)?)
+}
+
+/// The answer that adds this resource to the dataset.
+fn accept_new_resource<H: TableLookup>(
+    alloc: Global,
+    context: &CallContext<'_>,
+    tables: &H,
+    dataset: &Package,
+    resource: Resource,
+) -> Result<Answer<DatasetChange>, AllocError>
+    ensures { IfOk result (λ answer. answer ≡ Answer.Accepted
+        (resource_dictionary (H.summaries tables.now) dataset.now.id (length dataset.now.resources) resource)
+        (DatasetChange.Replace (with_new_resource context.now.call.now dataset.now resource))) }
+{
+    let position = dataset.resources.len();
+    let shown = resource_json(alloc, tables, &dataset.id, position, &resource)?;
+    let changed = with_new_resource(alloc, context.call, dataset, resource)?;
     Ok(Answer::Accepted(shown, DatasetChange::Replace(changed)))
 }
 
@@ -277,16 +330,27 @@ fn resource_update<H: TableLookup>(
 {
     let located = editable_resource_at(alloc, context)?;
     let read = read_resource(alloc, &context.call.request.body, located.resource.number)?;
-    validate_change(context.quota, read.errors)?;
-    let dataset = located.dataset;
-    let shown = resource_json(alloc, tables, &dataset.id, located.position, &read.resource)?;
-    let changed = with_resource_at(
-        alloc,
-        context.call,
-        dataset,
-        located.position,
-        read.resource,
-    )?;
+    let resource = if_valid(context.quota, read.errors, read.resource)?;
+    let position = located.position;
+    Ok(accept_resource_at(alloc, context, tables, located.dataset, position, resource)?)
+}
+
+/// The answer that puts this resource at the position in the dataset.
+fn accept_resource_at<H: TableLookup>(
+    alloc: Global,
+    context: &CallContext<'_>,
+    tables: &H,
+    dataset: &Package,
+    position: usize,
+    resource: Resource,
+) -> Result<Answer<DatasetChange>, AllocError>
+    requires { position < length dataset.now.resources }
+    ensures { IfOk result (λ answer. answer
+        ≡ Answer.Accepted (resource_dictionary (H.summaries tables.now) dataset.now.id position resource)
+        (DatasetChange.Replace (with_resource_at context.now.call.now dataset.now position resource))) }
+{
+    let shown = resource_json(alloc, tables, &dataset.id, position, &resource)?;
+    let changed = with_resource_at(alloc, context.call, dataset, position, resource)?;
     Ok(Answer::Accepted(shown, DatasetChange::Replace(changed)))
 }
 
@@ -314,6 +378,6 @@ fn delete_if_valid<H: TableLookup>(
     ensures { Answers result (answer_to_valid_deletion (context_view context.now) (H.summaries tables.now) changed) }
 {
     let faults = deletion_errors(alloc, tables, &changed)?;
-    validate_change(context.quota, faults)?;
-    Ok(Answer::Accepted(Json::Null, DatasetChange::Replace(changed)))
+    let valid = if_valid(context.quota, faults, changed)?;
+    Ok(Answer::Accepted(Json::Null, DatasetChange::Replace(valid)))
 }

@@ -3,7 +3,7 @@
 ghost use Rattle.std.specs.Prelude.{◌≡◌, ◌<◌, ◌⊎◌, IfOk, IsTrue, OnOk, Some, [], codes, length};
 ghost use Rattle.std.specs.Option.{option_copied};
 ghost use Rattle.portal_base.specs.Id.{id_text};
-ghost use Rattle.portal_base.specs.KeyErrors.{found_value, has_error, kind_message, error_if};
+ghost use Rattle.portal_base.specs.KeyErrors.{found_value, has_error, kind_message, error_if, with_errors};
 ghost use Rattle.portal_base.specs.Kinds.{count_at};
 ghost use Rattle.packages.specs.Body.{built_dataset};
 ghost use Rattle.packages.specs.Resources.{resource_for};
@@ -106,13 +106,26 @@ pub fn read_dataset(
         ≡ (built_dataset context.now.call.now.request.body (option_copied old.entry) whole).resources)) }
 {
     let read = build::read_dataset(alloc, &context.call.request.body, old, whole)?;
-    let mut faults = KeyErrors::new(alloc);
-    add_error(&mut faults, "owner_org", organization_error(context))?;
-    faults.add_errors(read.errors.into_list())?;
+    let errors = with_organization_error(alloc, context, read.errors)?;
     Ok(DatasetReading {
         dataset: read.dataset,
-        errors: faults,
+        errors,
     })
+}
+
+/// These errors, with the error of an organization that doesn't exist. It precedes the other errors of its key.
+fn with_organization_error(
+    alloc: Global,
+    context: &CallContext<'_>,
+    errors: KeyErrors,
+) -> Result<KeyErrors, AllocError>
+    ensures { IfOk result (λ faults. faults ≡ with_errors errors (error_if (codes "owner_org")
+        (organization_error (context_view context.now).people context.now.call.now.request.body) [])) }
+{
+    let mut faults = KeyErrors::new(alloc);
+    add_error(&mut faults, "owner_org", organization_error(context))?;
+    faults.add_errors(errors.into_list())?;
+    Ok(faults)
 }
 
 /// The error if a table that stays refers to one that is removed.
@@ -138,10 +151,26 @@ pub fn read_change<H: TableLookup>(
     ensures built { IfOk result (λ read. read.errors ≡ [] →
         read.dataset ≡ built_dataset context.now.call.now.request.body (Some dataset.now) whole) }
 {
-    let mut read = read_dataset(alloc, context, Some(dataset), whole)?;
+    let read = read_dataset(alloc, context, Some(dataset), whole)?;
     let error = lost_table_error(tables, &read.dataset);
-    add_error(&mut read.errors, "resources", error)?;
-    Ok(read)
+    let errors = with_error(read.errors, "resources", error)?;
+    Ok(DatasetReading {
+        dataset: read.dataset,
+        errors,
+    })
+}
+
+/// These errors, with the error of a key, if there is one.
+fn with_error(
+    errors: KeyErrors,
+    key: &'static str,
+    error: Option<Text>,
+) -> Result<KeyErrors, AllocError>
+    ensures { IfOk result (λ faults. faults ≡ error_if key.now error errors) }
+{
+    let mut faults = errors;
+    add_error(&mut faults, key, error)?;
+    Ok(faults)
 }
 
 /// The errors of the deletion of a resource, which changes its dataset to `changed`.
@@ -153,9 +182,11 @@ pub fn deletion_errors<H: TableLookup>(
     ensures { IfOk result (λ faults. faults
         ≡ error_if (codes "id") (lost_table_error (H.summaries tables.now) changed.now) []) }
 {
-    let mut faults = KeyErrors::new(alloc);
-    add_error(&mut faults, "id", lost_table_error(tables, changed))?;
-    Ok(faults)
+    with_error(
+        KeyErrors::new(alloc),
+        "id",
+        lost_table_error(tables, changed),
+    )
 }
 
 // ---- the datasets of calls
@@ -178,9 +209,18 @@ pub fn created_dataset(
     ensures { IfOk result (λ dataset.
         dataset ≡ with_origin described (id_text call.now.nonce.0) (caller_name call.now.caller) call.now.moment) }
 {
+    let (id, creator) = origin_of(alloc, call)?;
+    Ok(with_origin(described, id, creator, call.moment))
+}
+
+/// The id of a new dataset, and the name of its creator.
+fn origin_of(alloc: Global, call: &Call) -> Result<(Text, Text), AllocError>
+    ensures id { IfOk result (λ origin. origin.0 ≡ id_text call.now.nonce.0) }
+    ensures creator { IfOk result (λ origin. origin.1 ≡ caller_name call.now.caller) }
+{
     let id = id_of(alloc, call.nonce)?;
     let creator = name_of_caller(alloc, &call.caller)?;
-    Ok(with_origin(described, id, creator, call.moment))
+    Ok((id, creator))
 }
 
 /// The dataset with this id, created by this user at this moment. It takes no memory.
@@ -234,8 +274,9 @@ pub fn with_new_resource(
 ) -> Result<Package, AllocError>
     ensures { IfOk result (λ changed. changed ≡ with_new_resource call.now dataset.now resource) }
 {
+    let next = dataset.next_resource.checked_add(1).ok_or(AllocError)?;
     let mut changed = dataset.try_clone(alloc)?;
-    changed.next_resource = dataset.next_resource.checked_add(1).ok_or(AllocError)?;
+    changed.next_resource = next;
     changed.modified = call.moment;
     match changed.resources.push(resource) {
         Ok(()) => Ok(changed),

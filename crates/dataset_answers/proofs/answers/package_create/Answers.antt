@@ -13,7 +13,7 @@ allowed false right u v is = absurd (cc)
 pub returns : goal.returns
 returns c =
     let described =
-    c.in_ok-read.ensures.built (no_errors c.args.context.now.quota c.in_ok-read.read.errors c.in_ok-validate_change.ensures) in
+    c.in_ok-read.ensures.built (no_errors c.args.context.now.quota c.in_ok-read.read.errors c.in_ok-described.ensures.valid) in
     has_right _ _ _ _ (sym c.may_create.ensures ∙ allowed c.may_create.result _ _ _ c.in_ok-authorize.ensures)
-    (no_rule_broken _ _ _ _ _ _ c.in_ok-read.ensures.errors c.in_ok-validate_change.ensures refl
-    (rw (c.in_ok-shown.ensures, c.in_ok-dataset.ensures, described) refl))
+    (no_rule_broken _ _ _ _ _ _ c.in_ok-read.ensures.errors c.in_ok-described.ensures.valid refl
+    (rw (c.in_ok-accept_creation.ensures, c.in_ok-described.ensures.value, described) refl))

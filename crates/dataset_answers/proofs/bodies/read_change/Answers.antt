@@ -12,7 +12,7 @@ returns-clause-errors g c =
     let summaries = g.H.TableLookup.summaries c.args.tables.now in
     let changed = changed_dataset c.args.context.now.call.now c.args.whole c.args.dataset.now in
     let read = c.in_ok-read.read in
-    c.in_ok-add_error.ensures.ok
+    c.in_ok-errors.ensures
     ∙ ap (λ error. error_if (codes "resources") error read.errors) c.lost_table_error-error.ensures
     ∙ lost-errors summaries read.dataset changed read.errors c.in_ok-read.ensures.id c.in_ok-read.ensures.resources
     ∙ ap (error_if (codes "resources") (lost_table_error summaries changed)) c.in_ok-read.ensures.errors
@@ -22,4 +22,4 @@ returns-clause-built g c =
     λ none.
     c.in_ok-read.ensures.built
     (error_if-none (codes "resources") c.lost_table_error-error.result c.in_ok-read.read.errors
-    (sym c.in_ok-add_error.ensures.ok ∙ none)).0
+    (sym c.in_ok-errors.ensures ∙ none)).0

@@ -16,13 +16,10 @@ more (inr b) then = inr b
 pub returns-clause-built : goal.returns-clause-built
 returns-clause-built c =
     λ none.
-    c.in_ok-read.ensures.built
-    (sym c.into_list.ensures.same
-    ∙ (with_errors-none c.into_list.result _ (sym c.in_ok-add_errors.ensures ∙ none)).0)
+    c.in_ok-read.ensures.built (with_errors-none c.in_ok-read.read.errors _ (sym c.in_ok-errors.ensures ∙ none)).0
 
 pub returns-clause-resources : goal.returns-clause-resources
 returns-clause-resources c =
     more c.in_ok-read.ensures.resources
-    (λ has. subst HasResourcesError (sym c.in_ok-add_errors.ensures)
-    (with_errors-has (codes "resources") c.into_list.result _
-    (subst HasResourcesError (sym c.into_list.ensures.same) has)))
+    (λ has. subst HasResourcesError (sym c.in_ok-errors.ensures)
+    (with_errors-has (codes "resources") c.in_ok-read.read.errors _ has))
