@@ -1,11 +1,13 @@
-//! Foreign keys between two tables: the checks of a batch and of a removal against another table.
-ghost use Rattle.std.specs.Prelude.{◌≡◌, ◌<◌, length};
+//! Foreign keys between two tables: the checks of a batch, of a removal and of all rows against another table.
+ghost use Rattle.std.specs.Prelude.{◌≡◌, ◌<◌, length, not};
+ghost use Rattle.std.specs.List.{list_all};
 ghost use Rattle.datastore_table.specs.Batch.{referred_checked};
-ghost use Rattle.datastore_table.specs.References.{foreign_checked, foreign_fields};
+ghost use Rattle.datastore_table.specs.References.{foreign_checked, foreign_fields, is_broken};
 
 use crate::batch::Batch;
 use crate::fault::TableFault;
 use crate::ids::Ids;
+use crate::meets::is_none_broken;
 use crate::references::check_all;
 use crate::removal::{Removal, check_referred_from};
 use crate::rows::CurrentRows;
@@ -57,6 +59,22 @@ pub fn check_referred(removal: &Removal, referring: &Table, foreign: u32) -> Res
         &removal.index,
         referring.rows(),
         &none,
+    )
+}
+
+/// Whether each row of the referring table refers by this foreign key to a row of the target. A row with Null in the
+/// foreign key refers to nothing. The foreign key is expected to name the target's whole primary key in order, with
+/// equal kinds.
+pub fn keeps_references(referring: &Table, foreign: &Foreign, target: &Table) -> bool
+    ensures { result ≡ list_all (λ row. not (is_broken foreign.now.fields target.now.schema.key target.now.rows row))
+        referring.now.rows }
+{
+    is_none_broken(
+        foreign.fields.as_slice(),
+        target.schema().key().as_slice(),
+        target.rows(),
+        target.index(),
+        referring.rows(),
     )
 }
 

@@ -29,7 +29,7 @@ mod work;
 mod written_rows;
 
 pub use batch::Batch;
-pub use checks::{check_foreign, check_referred};
+pub use checks::{check_foreign, check_referred, keeps_references};
 pub use fault::TableFault;
 pub use method::Method;
 pub use removal::Removal;

@@ -301,14 +301,23 @@ fn keeps_self_reference(
     requires { IsKeyed key.now rows.now index.now }
     ensures { result ≡ keeps_self_reference key.now rows.now foreign.now }
 {
-    !foreign.resource.is_empty() || is_none_broken(foreign.fields.as_slice(), key, rows, index)
+    !foreign.resource.is_empty()
+        || is_none_broken(foreign.fields.as_slice(), key, rows, index, rows)
 }
 
-fn is_none_broken(columns: &[u32], key: &[u32], rows: &[Row], index: &DigestIndex<u64>) -> bool
+/// Whether each of the referring rows refers by these columns to one of the rows, or to nothing.
+pub(crate) fn is_none_broken(
+    columns: &[u32],
+    key: &[u32],
+    rows: &[Row],
+    index: &DigestIndex<u64>,
+    referring: &[Row],
+) -> bool
     requires { IsKeyed key.now rows.now index.now }
-    ensures { result ≡ list_all (λ row. not (is_broken columns.now key.now rows.now row)) rows.now }
+    ensures { result ≡ list_all (λ row. not (is_broken columns.now key.now rows.now row)) referring.now }
 {
-    rows.iter()
+    referring
+        .iter()
         .all(|row| !is_broken_among(columns, key, rows, index, row))
 }
 

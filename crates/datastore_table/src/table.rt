@@ -10,7 +10,7 @@ ghost use Rattle.datastore_table.specs.declared.fault.TableFault.TheVariants.{Ou
 ghost use Rattle.datastore_table.specs.Batch.{delete_checked, cut_rows, IsReady, removed_keys, worked_on};
 ghost use Rattle.datastore_table.specs.Index.{IsKeyed, IsStoreOf};
 ghost use Rattle.datastore_table.specs.Keys.{AreFound};
-ghost use Rattle.datastore_table.specs.Meets.{is_restorable, rows_of};
+ghost use Rattle.datastore_table.specs.Meets.{IsTable, is_restorable, rows_of};
 ghost use Rattle.datastore_table.specs.Put.{put_records};
 ghost use Rattle.datastore_table.specs.Rows.{row_at, row_cmp, row_with, rows_after};
 ghost use Rattle.datastore_table.specs.Table.{IsSameTable};
@@ -138,6 +138,14 @@ impl Table {
         ensures values { All (λ row. All IsValue row.cells) result.now }
     {
         self.store.rows.as_slice()
+    }
+
+    /// Each table is valid: its rows meet its schema, their `_id`s ascend, and `next_id` is above them. This is a law;
+    /// the call does nothing.
+    pub fn rows_meet_schema(&self)
+        ensures { IsTable self.now.schema self.now.rows self.now.next_id }
+    {
+        let _ = &self.store;
     }
 
     /// The cells of the row with this `_id`.
