@@ -247,7 +247,7 @@ found-in key (t ∷ ts) u up (inr m) is =
     ap (λ r. cond (is_eq r) (Some t) (found (at_address key) ts)) (before ∙ less) ∙ found-in key ts u up.1 m is
 
 -- If each table is replaced by one at its own address, the tables still ascend.
-ascending-made : (f : ResourceTable → ResourceTable) (ts : List ResourceTable)
+pub ascending-made : (f : ResourceTable → ResourceTable) (ts : List ResourceTable)
     → ((u : ResourceTable) → IsIn u ts → (f u).address ≡ u.address) → IsAscending table_cmp ts
     → IsAscending table_cmp (map f ts)
 ascending-made f [] same up = tt

@@ -15,6 +15,7 @@ pub mod LengthLemmas
 pub mod RangeLemmas
 pub mod RowReferences
 pub mod ViewLemmas
+pub mod RestoredLemmas
 pub mod RestrictLemmas
 pub mod TableLemmas
 pub mod ErrorLemmas

@@ -159,7 +159,7 @@ IsAscending-set t u (v ∷ vs) (suc index) up there same =
 
 -- ---- the memory that tables have ready doesn't change the order
 
-inserted_without_room : (t : ResourceTable) (ts : List ResourceTable)
+pub inserted_without_room : (t : ResourceTable) (ts : List ResourceTable)
     → map without_room (inserted table_cmp t ts) ≡ inserted table_cmp (without_room t) (map without_room ts)
 inserted_without_room t [] = refl
 inserted_without_room t (u ∷ us) = by (is_lt (table_cmp u t)) (inserted_without_room t us)

@@ -10,6 +10,7 @@ pub mod Linked
 pub mod Resolution
 pub mod Order
 pub mod Plan
+pub mod Restored
 pub mod Restrict
 pub mod Tables
 pub mod Errors

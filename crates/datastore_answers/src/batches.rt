@@ -170,8 +170,8 @@ impl Tables {
         }
     }
 
-    // The table that the foreign key with this index references, if there is one.
-    fn target(&self, table: &ResourceTable, index: usize) -> Option<&ResourceTable>
+    /// The table that the foreign key with this index references, if there is one.
+    pub(crate) fn target(&self, table: &ResourceTable, index: usize) -> Option<&ResourceTable>
         ensures { option_map without_room (option_copied result)
             ≡ target_of (tables_in table.now.address.dataset (tables_of self.now)) table.now index }
     {

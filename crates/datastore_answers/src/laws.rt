@@ -1,6 +1,9 @@
 //! Laws of the answers: functions with an empty body, whose contracts are the laws.
-ghost use Rattle.std.specs.Prelude.{◌≡◌, List, ℕ, [], false};
+ghost use Rattle.std.specs.Prelude.{◌≡◌, List, ℕ, [], false, map, All, IsTrue};
+ghost use Rattle.portal_base.specs.Ordered.{ascending};
 ghost use Rattle.packages.specs.declared.package.Resource.{Resource};
+ghost use Rattle.table_schema.specs.Written.{IsDescribed};
+ghost use Rattle.datastore_table.specs.Meets.{IsTable};
 ghost use Rattle.visibility.specs.TableSummary.{breaks_references};
 ghost use Rattle.visibility.specs.CallView.{CallView};
 ghost use Rattle.datastore_answers.specs.TableAnswers.{TableAcceptsOnly};
@@ -12,7 +15,9 @@ ghost use Rattle.datastore_answers.specs.Fit.{IsFitTable};
 ghost use Rattle.datastore_answers.specs.Summaries.{summaries_of};
 ghost use Rattle.datastore_answers.specs.Consistent.{AreConsistent};
 ghost use Rattle.datastore_answers.specs.Linked.{AreLinked};
-ghost use Rattle.datastore_answers.specs.Tables.{tables_kept};
+ghost use Rattle.datastore_answers.specs.Order.{table_cmp};
+ghost use Rattle.datastore_answers.specs.Restored.{are_restorable};
+ghost use Rattle.datastore_answers.specs.Tables.{tables_kept, without_room};
 ghost use Rattle.datastore_answers.specs.Errors.{OrError};
 ghost use Rattle.datastore_answers.specs.declared.resource_table.ResourceTable.{ResourceTable};
 
@@ -50,4 +55,17 @@ pub fn changes_keep_references()
         → AreConsistent tables →
         breaks_references (summaries_of tables) dataset resources ≡ false →
         AreConsistent (tables_kept dataset resources tables) }
+{}
+
+/// Consistent tables can be restored from their own list, and are restored as they are: the list is in order, and no
+/// table keeps memory ready. What is restored from valid tables, whose schemas are described, is consistent.
+pub fn consistent_tables_are_restored_as_they_are()
+    ensures restorable { (tables : List ResourceTable) → AreConsistent tables → IsTrue (are_restorable tables) }
+    ensures ordered { (tables : List ResourceTable) → AreConsistent tables → ascending table_cmp tables ≡ tables }
+    ensures unready { (tables : List ResourceTable) → AreConsistent tables → map without_room tables ≡ tables }
+    ensures consistent { (tables : List ResourceTable)
+        → All (λ (t : ResourceTable). IsDescribed t.table.schema) tables
+        → All (λ (t : ResourceTable). IsTable t.table.schema t.table.rows t.table.next_id) tables
+        → IsTrue (are_restorable (map without_room tables)) →
+        AreConsistent (ascending table_cmp (map without_room tables)) }
 {}

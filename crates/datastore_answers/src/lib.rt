@@ -15,6 +15,7 @@ pub mod lookup;
 pub mod plan;
 mod resolution;
 pub mod resource_table;
+mod restored;
 mod table_index;
 mod table_lookup;
 pub mod tables;

@@ -67,8 +67,8 @@ fn refers_to_key(
     true
 }
 
-// Whether the foreign key names the whole key of the table, with equal kinds.
-fn fits(schema: &Schema, foreign: &Foreign, target: &Schema) -> bool
+/// Whether the foreign key names the whole key of the table, with equal kinds.
+pub(crate) fn fits(schema: &Schema, foreign: &Foreign, target: &Schema) -> bool
     ensures { result ≡ refers_to_key schema.now.fields target.now.fields foreign.now.fields target.now.key
         foreign.now.target }
 {
