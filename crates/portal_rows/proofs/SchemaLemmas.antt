@@ -1,10 +1,11 @@
--- The descriptor of a schema can be read from its own text, if the schema was read from a value that can be read.
+-- The descriptor of a schema can be read from its own text.
 use Rattle.std.proofs.Common.{◌≡◌, ℕ, suc, ℤ, pos, negsuc, Bool, true, false, ◌&&◌, List, [], ◌∷◌, ◌++◌}
 use Rattle.std.proofs.Common.{map, append_assoc, refl, sym, ap, ◌∙◌, subst, arith, rules, codes}
-use Rattle.std.specs.Prelude.{IfSome, Option, Some, None, Result, Ok, Err, option_map, if◌then◌else◌}
+use Rattle.std.specs.Prelude.{◌<◌, ◌^◌, nat_lt, IfSome, Option, Some, None, Result, Ok, Err, option_map, if◌then◌else◌}
 use Rattle.std.specs.Cmp.Lexicographic.{slice_cmp}
 use Rattle.std.specs.Ordering.{nat_cmp}
 use Rattle.std.proofs.lemmas.Bool.{and_from, and_parts}
+use Rattle.std.proofs.lemmas.Bool.Decides.{nat_tests}
 use Rattle.serde_json.specs.Find.{of_integer}
 use Rattle.portal_base.specs.Dictionary.{is_less, keys_ascend, precedes}
 use Rattle.portal_base.specs.Json.{Fits as FitsNumber, IsOrderly, IsReadable, ItemsAreOrderly, data_of, items_data}
@@ -60,80 +61,27 @@ or_fault-ok : {A : Type 0} (fault : SchemaFault) (o : Option A) (x : A) → or_f
 or_fault-ok fault None x e = cc
 or_fault-ok fault (Some y) x e = cc
 
-present-some : (key : List ℕ) (dictionary value : Json) → present key dictionary ≡ Some value
-    → member_of key dictionary ≡ Some value
-present-some key dictionary value e = by (member_of key dictionary) refl e
+-- ---- lengths and cells
+
+counted : (w z : ℤ) → count_of w ≡ Some z → FitsNumber (of_integer z)
+counted (pos n) z e = by (nat_lt n (2 ^ 64)) refl e
   where
-    full : (b : Bool) (found : Json) → (if b then None else Some found) ≡ Some value → found ≡ value
-    full true found h = absurd (cc)
-    full false found h = cc
-
-    by : (o : Option Json) → member_of key dictionary ≡ o → non_null o ≡ Some value → o ≡ Some value
-    by None is h = absurd (cc)
-    by (Some found) is h = ap Some (full (is_null_in (out-Json found)) found h)
-
-present-orderly : (key : List ℕ) (dictionary value : Json) → IsOrderly (data_of dictionary)
-    → present key dictionary ≡ Some value → IsOrderly (data_of value)
-present-orderly key dictionary value orderly e =
-    member_orderly key dictionary value orderly (present-some key dictionary value e)
-
--- ---- numbers, cells and lists of a value that can be read
-
-whole-back : (value : Json) (z : ℤ) → out-Json value ≡ Json-F.Whole z → value ≡ json.Whole z
-whole-back value z e = search (rules, the_lemmas)
-
-whole-fits : (value : Json) (z : ℤ) → IsOrderly (data_of value) → whole_in value ≡ Some z → FitsNumber (of_integer z)
-whole-fits value z orderly e = by (out-Json value) refl e
-  where
-    by : (v : Json-F Json) → out-Json value ≡ v → whole_of v ≡ Some z → FitsNumber (of_integer z)
-    by Json-F.Null is h = absurd (cc)
-    by (Json-F.Truth b) is h = absurd (cc)
-    by (Json-F.Whole w) is h =
-        let same : w ≡ z = cc in
-        let opened : IsOrderly (data_of (json.Whole z)) =
-        subst (λ (v : Json). IsOrderly (data_of v)) (whole-back value w is ∙ ap json.Whole same) orderly in
-        rw data_of-Whole at opened
-    by (Json-F.Text text) is h = absurd (cc)
-    by (Json-F.List items) is h = absurd (cc)
-    by (Json-F.Map entries) is h = absurd (cc)
-
-list-back : (value : Json) (items : List Json) → out-Json value ≡ Json-F.List items → value ≡ json.List items
-list-back value items e = search (rules, the_lemmas)
-
-each_orderly : (items : List Json) → ItemsAreOrderly (items_data items) → Each (λ item. IsOrderly (data_of item)) items
-each_orderly [] orderly = tt
-each_orderly (item ∷ items) orderly = (orderly.0, each_orderly items orderly.1)
-
-list-orderly : (value : Json) (items : List Json) → IsOrderly (data_of value) → list_in value ≡ Some items
-    → Each (λ item. IsOrderly (data_of item)) items
-list-orderly value items orderly e = by (out-Json value) refl e
-  where
-    by : (v : Json-F Json) → out-Json value ≡ v → list_of v ≡ Some items
-        → Each (λ item. IsOrderly (data_of item)) items
-    by Json-F.Null is h = absurd (cc)
-    by (Json-F.Truth b) is h = absurd (cc)
-    by (Json-F.Whole z) is h = absurd (cc)
-    by (Json-F.Text text) is h = absurd (cc)
-    by (Json-F.List others) is h =
-        let same : others ≡ items = cc in
-        let opened : IsOrderly (data_of (json.List items)) =
-        subst (λ (v : Json). IsOrderly (data_of v)) (list-back value others is ∙ ap json.List same) orderly in
-        each_orderly items (rw data_of-List at opened)
-    by (Json-F.Map entries) is h = absurd (cc)
-
-counted : (w z : ℤ) → count_of w ≡ Some z → w ≡ z
-counted (pos n) z e = cc
+    by : (b : Bool) → nat_lt n (2 ^ 64) ≡ b → (if b then Some (pos n) else None) ≡ Some z → FitsNumber (of_integer z)
+    by true small h =
+        let same : pos n ≡ z = cc in
+        let below : n < 2 ^ 64 = grind (arith, nat_tests) in
+        subst (λ y. FitsNumber (of_integer y)) same below
+    by false large h = absurd (cc)
 counted (negsuc n) z e = absurd (cc)
 
-length-fits : (k : Kind) (value : Json) (z : ℤ) → IsOrderly (data_of value) → length_in k value ≡ Some z
-    → FitsNumber (of_integer z)
-length-fits k value z orderly e = by (has_length k) e
+length-fits : (k : Kind) (value : Json) (z : ℤ) → length_in k value ≡ Some z → FitsNumber (of_integer z)
+length-fits k value z e = by (has_length k) e
   where
     by : (b : Bool) → (if b then (whole_in value >>= count_of) else None) ≡ Some z → FitsNumber (of_integer z)
     by false h = absurd (cc)
     by true h =
         let read = bind-some (whole_in value) count_of z h in
-        whole-fits value z orderly (read.1.0 ∙ ap Some (counted read.0 z read.1.1))
+        counted read.0 z read.1.1
 
 bound-fits : (k : Kind) (value : Json) (c : Cell) → bound_in k value ≡ Some c → Fits c
 bound-fits k value c e = by (has_order k) e
@@ -209,9 +157,9 @@ after_unique k value r u = optional (length_in k) (present (codes "minLength") v
 abbrev after_required : Kind → Json → Bool → Option Constraints
 after_required k value r = or_default truth_in false (present (codes "unique") value) >>= after_unique k value r
 
-constraints_in-fit : (k : Kind) (value : Json) (constraints : Constraints) → IsOrderly (data_of value)
+constraints_in-fit : (k : Kind) (value : Json) (constraints : Constraints)
     → constraints_in k value ≡ Some constraints → ConstraintsFit constraints
-constraints_in-fit k value constraints orderly e =
+constraints_in-fit k value constraints e =
     let r = bind-some (or_default truth_in false (present (codes "required") value)) (after_required k value) constraints
     e in
     let u = bind-some (or_default truth_in false (present (codes "unique") value)) (after_unique k value r.0) constraints
@@ -239,9 +187,9 @@ constraints_in-fit k value constraints orderly e =
     let same : read ≡ constraints = cc in
     subst ConstraintsFit same (record {
       min_length = optional-fits (length_in k) (λ z. FitsNumber (of_integer z)) (present (codes "minLength") value) a.0
-          (λ v z there got. length-fits k v z (present-orderly (codes "minLength") value v orderly there) got) a.1.0;
+          (λ v z there got. length-fits k v z got) a.1.0;
       max_length = optional-fits (length_in k) (λ z. FitsNumber (of_integer z)) (present (codes "maxLength") value) b.0
-          (λ v z there got. length-fits k v z (present-orderly (codes "maxLength") value v orderly there) got) b.1.0;
+          (λ v z there got. length-fits k v z got) b.1.0;
       minimum = optional-fits (bound_in k) Fits (present (codes "minimum") value) c.0
           (λ v x there got. bound-fits k v x got) c.1.0;
       maximum = optional-fits (bound_in k) Fits (present (codes "maximum") value) d.0
@@ -249,16 +197,9 @@ constraints_in-fit k value constraints orderly e =
       allowed = default-fit k (present (codes "enum") value) l.0 l.1.0;
     })
 
-dictionary_same : (value other : Json) → dictionary_in value ≡ Some other → value ≡ other
-dictionary_same value other e = by (is_map value) e
-  where
-    by : (b : Bool) → (if b then Some value else None) ≡ Some other → value ≡ other
-    by true h = cc
-    by false h = absurd (cc)
-
-constraints_of-fit : (k : Kind) (item : Json) (constraints : Constraints) → IsOrderly (data_of item)
+constraints_of-fit : (k : Kind) (item : Json) (constraints : Constraints)
     → constraints_of k item ≡ Some constraints → ConstraintsFit constraints
-constraints_of-fit k item constraints orderly e = by (present (codes "constraints") item) refl e
+constraints_of-fit k item constraints e = by (present (codes "constraints") item) refl e
   where
     by : (o : Option Json) → present (codes "constraints") item ≡ o
         → or_default (λ value. dictionary_in value >>= constraints_in k) no_constraints o ≡ Some constraints
@@ -269,10 +210,7 @@ constraints_of-fit k item constraints orderly e = by (present (codes "constraint
         (record { min_length = tt; max_length = tt; minimum = tt; maximum = tt; allowed = tt })
     by (Some value) is h =
         let read = bind-some (dictionary_in value) (constraints_in k) constraints h in
-        let inner : IsOrderly (data_of read.0) =
-        subst (λ (v : Json). IsOrderly (data_of v)) (dictionary_same value read.0 read.1.0)
-        (present-orderly (codes "constraints") item value orderly is) in
-        constraints_in-fit k read.0 constraints inner read.1.1
+        constraints_in-fit k read.0 constraints read.1.1
 
 -- ---- the fields
 
@@ -281,9 +219,9 @@ after_spelling name k item spelling =
     constraints_of k item >>= λ constraints.
     Some (record { name = name; form = spelling; constraints = constraints })
 
-column_of-fit : (name : List ℕ) (k : Kind) (item : Json) (column : Column) → IsOrderly (data_of item)
+column_of-fit : (name : List ℕ) (k : Kind) (item : Json) (column : Column)
     → column_of name k item ≡ Some column → ConstraintsFit column.constraints
-column_of-fit name k item column orderly e =
+column_of-fit name k item column e =
     let spelling = bind-some (form_in k item) (after_spelling name k item) column e in
     let read = bind-some (constraints_of k item)
     (λ constraints. Some (record { name = name; form = spelling.0; constraints = constraints })) column
@@ -291,7 +229,7 @@ column_of-fit name k item column orderly e =
     let made : Column = record { name = name; form = spelling.0; constraints = read.0 } in
     let last : Some made ≡ Some column = read.1.1 in
     let same : made ≡ column = cc in
-    subst (λ (c : Column). ConstraintsFit c.constraints) same (constraints_of-fit k item read.0 orderly read.1.0)
+    subst (λ (c : Column). ConstraintsFit c.constraints) same (constraints_of-fit k item read.0 read.1.0)
 
 abbrev after_pattern : ℕ → List ℕ → Kind → Json → Bool → Result Column SchemaFault
 after_pattern number name k item pattern = or_fault (BadConstraint number) (column_of name k item)
@@ -305,15 +243,15 @@ after_kind number name item k = format_reading item >>> after_format number name
 abbrev after_name : ℕ → Json → List ℕ → Result Column SchemaFault
 after_name number item name = kind_reading number item >>> after_kind number name item
 
-column_reading-fit : (number : ℕ) (names : List (List ℕ)) (item : Json) (column : Column) → IsOrderly (data_of item)
+column_reading-fit : (number : ℕ) (names : List (List ℕ)) (item : Json) (column : Column)
     → column_reading number names item ≡ Ok column → ConstraintsFit column.constraints
 unfolding column_reading
-column_reading-fit number names item column orderly e =
+column_reading-fit number names item column e =
     let name = bind-ok (name_reading number item >>> new_name number names) (after_name number item) column e in
     let k = bind-ok (kind_reading number item) (after_kind number name.0 item) column name.1.1 in
     let format = bind-ok (format_reading item) (after_format number name.0 k.0 item) column k.1.1 in
     let pattern = bind-ok (pattern_reading item) (after_pattern number name.0 k.0 item) column format.1.1 in
-    column_of-fit name.0 k.0 item column orderly
+    column_of-fit name.0 k.0 item column
     (or_fault-ok (BadConstraint number) (column_of name.0 k.0 item) column pattern.1.1)
 
 abbrev rest_after : ℕ → List (List ℕ) → List Json → Column → Result (List Column) SchemaFault
@@ -327,19 +265,19 @@ ok-is : (columns others : List Column) → read_as columns ≡ read_as others �
 ok-is columns others e = cc
 
 columns-fit : (number : ℕ) (names : List (List ℕ)) (items : List Json) (columns : List Column)
-    → Each (λ item. IsOrderly (data_of item)) items → columns_reading number names items ≡ Ok columns
+    → columns_reading number names items ≡ Ok columns
     → Each (λ (column : Column). ConstraintsFit column.constraints) columns
-columns-fit number names [] columns orderly e =
+columns-fit number names [] columns e =
     let none : [] ≡ columns = cc in
     subst (Each (λ (column : Column). ConstraintsFit column.constraints)) none tt
-columns-fit number names (item ∷ items) columns orderly e =
+columns-fit number names (item ∷ items) columns e =
     let first = bind-ok (column_reading number names item) (rest_after number names items) columns e in
     let rest = bind-ok (columns_reading (suc number) (names ++ first.0.name ∷ []) items)
     (λ others. Ok (first.0 ∷ others)) columns first.1.1 in
     let same : first.0 ∷ rest.0 ≡ columns = ok-is (first.0 ∷ rest.0) columns rest.1.1 in
     subst (Each (λ (column : Column). ConstraintsFit column.constraints)) same (
-      column_reading-fit number names item first.0 orderly.0 first.1.0,
-      columns-fit (suc number) (names ++ first.0.name ∷ []) items rest.0 orderly.1 rest.1.0,
+      column_reading-fit number names item first.0 first.1.0,
+      columns-fit (suc number) (names ++ first.0.name ∷ []) items rest.0 rest.1.0,
     )
 
 -- The constraints of the field fit.
@@ -353,29 +291,6 @@ fields-fit missing key index [] fit = tt
 fields-fit missing key index (column ∷ columns) fit =
     (fit.0, fields-fit missing key (suc index) columns fit.1)
 
-dictionaries-same : (items others : List Json) → dictionaries items ≡ Some others → items ≡ others
-dictionaries-same items others e = by _ e
-  where
-    by : (b : Bool) → (if b then Some items else None) ≡ Some others → items ≡ others
-    by true h = cc
-    by false h = absurd (cc)
-
-items-orderly : (value : Json) (items : List Json) → IsOrderly (data_of value) → field_items value ≡ Ok items
-    → Each (λ item. IsOrderly (data_of item)) items
-items-orderly value items orderly e =
-    let found = or_fault-ok NoFields (present (codes "fields") value >>= list_in >>= dictionaries) items
-    (gate (is_map value) e) in
-    let some = bind-some (present (codes "fields") value >>= list_in) dictionaries items found in
-    let list = bind-some (present (codes "fields") value) list_in some.0 some.1.0 in
-    subst (Each (λ item. IsOrderly (data_of item))) (dictionaries-same some.0 items some.1.1)
-    (list-orderly list.0 some.0 (present-orderly (codes "fields") value list.0 orderly list.1.0) list.1.1)
-  where
-    gate : (b : Bool) → (if b then or_fault NoFields (present (codes "fields") value >>= list_in >>= dictionaries)
-        else Err NotJson) ≡ Ok items
-        → or_fault NoFields (present (codes "fields") value >>= list_in >>= dictionaries) ≡ Ok items
-    gate true h = h
-    gate false h = cc
-
 abbrev after_key : List Column → List (List ℕ) → Json → List ℕ → Option SchemaValue
 after_key columns missing value key =
     foreign_keys_in columns key value >>= λ foreign. Some (schema_of columns missing key foreign)
@@ -383,10 +298,9 @@ after_key columns missing value key =
 abbrev after_missing : List Column → Json → List (List ℕ) → Option SchemaValue
 after_missing columns value missing = key_in columns value >>= after_key columns missing value
 
-schema-fits : (value : Json) (schema : SchemaValue) → IsOrderly (data_of value) → schema_reading value ≡ Ok schema
-    → Each FieldFits schema.fields
+schema-fits : (value : Json) (schema : SchemaValue) → schema_reading value ≡ Ok schema → Each FieldFits schema.fields
 unfolding schema_reading
-schema-fits value schema orderly e =
+schema-fits value schema e =
     let read = bind-ok (field_items value >>> columns_reading 1 []) (λ cs. or_fault BadKey (schema_with_keys cs value))
     schema e in
     let columns = read.0 in
@@ -401,7 +315,7 @@ schema-fits value schema orderly e =
     let same : schema_of columns missing.0 key.0 foreign.0 ≡ schema = cc in
     subst (λ (s : SchemaValue). Each FieldFits s.fields) same
     (fields-fit missing.0 key.0 0 columns
-    (columns-fit 1 [] items.0 columns (items-orderly value items.0 orderly items.1.0) items.1.1))
+    (columns-fit 1 [] items.0 columns items.1.1))
 
 -- ---- dictionaries of members that may be absent
 
@@ -642,13 +556,12 @@ schema_within schema fit = within-Map 4 _ refl (
   ),
 )
 
--- The descriptor of a schema that was read from an orderly value is orderly, and has few levels.
-pub descriptor-within : (value : Json) (schema : SchemaValue) → IsOrderly (data_of value)
-    → schema_reading value ≡ Ok schema → IsWithin 5 (schema_value schema)
-descriptor-within value schema orderly e = schema_within schema (schema-fits value schema orderly e)
+-- The descriptor of a schema that was read is orderly, and has few levels.
+pub descriptor-within : (value : Json) (schema : SchemaValue) → schema_reading value ≡ Ok schema
+    → IsWithin 5 (schema_value schema)
+descriptor-within value schema e = schema_within schema (schema-fits value schema e)
 
 -- So it can be read from its own text.
-pub descriptor-readable : (value : Json) (schema : SchemaValue) → IsReadable value → schema_reading value ≡ Ok schema
+pub descriptor-readable : (value : Json) (schema : SchemaValue) → schema_reading value ≡ Ok schema
     → IsReadable (schema_value schema)
-descriptor-readable value schema well e =
-    readable 5 (schema_value schema) (omega arith) (descriptor-within value schema well.0 e)
+descriptor-readable value schema e = readable 5 (schema_value schema) (omega arith) (descriptor-within value schema e)

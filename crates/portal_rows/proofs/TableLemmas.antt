@@ -87,7 +87,7 @@ head_value-readable head is =
     (within-Map 5 _ refl (
       within-Whole 5 (pos head.next_id) is.next_id,
       (
-        descriptor-within (schema_value head.schema) head.schema is.readable.0 is.described,
+        descriptor-within (schema_value head.schema) head.schema is.described,
         (
           deeper 1 5 (json.List (map number_value head.targets)) (omega arith)
               (within-List 0 (map number_value head.targets)
@@ -121,20 +121,16 @@ targets_below (value ∷ values) targets e =
     subst (Each (λ n. n < 2 ^ 32)) parts.1.1.2
     (number-below (2 ^ 32) value parts.0 parts.1.1.0, targets_below values parts.1.0 parts.1.1.1)
 
-pub head_read : (value : Json) (head : TableHead) → IsReadable value → head_reading value ≡ Some head → IsHead head
-head_read value head well e =
+pub head_read : (value : Json) (head : TableHead) → head_reading value ≡ Some head → IsHead head
+head_read value head e =
     let parts = parts_of (schema_member_reading value) (next_id_reading value) (targets_reading value) head e in
     let schema = and_then-some (λ descriptor. result_ok (schema_reading descriptor)) (member_of (codes "schema") value)
     head.schema parts.0 in
     let next_id = and_then-some (number_in (2 ^ 64)) (member_of (codes "next_id") value) head.next_id parts.1 in
     let targets = and_then-some (all_read (number_in (2 ^ 32)))
     (option_and_then list_in (member_of (codes "targets") value)) head.targets parts.2 in
-    let described = result-ok (schema_reading schema.0) head.schema schema.1.1 in
     record {
-      described = reading-described schema.0 head.schema described;
-      readable = readable 5 (schema_value head.schema) (omega arith)
-          (descriptor-within schema.0 head.schema
-          (member_orderly (codes "schema") value schema.0 well.0 schema.1.0) described);
+      described = reading-described schema.0 head.schema (result-ok (schema_reading schema.0) head.schema schema.1.1);
       next_id = number-below (2 ^ 64) next_id.0 head.next_id next_id.1.1;
       targets = all-each (λ n. n < 2 ^ 32) head.targets (targets_below targets.0 head.targets targets.1.1);
     }

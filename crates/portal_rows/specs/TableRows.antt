@@ -4,7 +4,7 @@ use Rattle.std.specs.Prelude.{replicate, take}
 use Rattle.datastore_table.specs.Meets.{are_accepted}
 use Rattle.datastore_table.specs.Table.{TableValue}
 use Rattle.datastore_table.specs.declared.row.Row.{Row}
-use Rattle.portal_base.specs.Json.{IsReadable, json_text}
+use Rattle.portal_base.specs.Json.{json_text}
 use Rattle.portal_base.specs.declared.json_value.Json as json
 use Rattle.portal_base.specs.declared.json_value.Json.{Json}
 use Rattle.portal_keeper.specs.declared.row.KeptRow.{KeptRow}
@@ -69,11 +69,9 @@ rows_of_table resource table targets =
 
 -- ---- rows that are read
 
--- A schema that its own descriptor describes, and numbers of the size that they have in a table. The descriptor can be
--- read back from its text, so that each of its numbers has 64 bits.
+-- A schema that its own descriptor describes, and numbers of the size that they have in a table.
 pub record IsHead (head : TableHead) : Type 0 where
   pub described : IsDescribed head.schema
-  pub readable : IsReadable (schema_value head.schema)
   pub next_id : head.next_id < 2 ^ 64
   pub targets : All (λ n. n < 2 ^ 32) head.targets
 

@@ -25,10 +25,10 @@ pub fn rows_of_a_table_are_in_order()
         table.next_id < 2 ^ 64 → AreInOrder (rows_of_table resource table targets) }
 {}
 
-/// The descriptor of a schema can be read from its own text, if the schema was read from a value that can be read. So a
-/// schema of a request's body is one that the row of a table can have.
-pub fn schemas_of_readable_descriptors_have_readable_descriptors()
-    ensures { (value : Json) (schema : SchemaValue) → IsReadable value → schema_reading value ≡ Ok schema →
+/// The descriptor of a schema that was read can be read from its own text. So each schema is one that the row of a table
+/// can have.
+pub fn descriptors_of_schemas_are_readable()
+    ensures { (value : Json) (schema : SchemaValue) → schema_reading value ≡ Ok schema →
         IsReadable (schema_value schema) }
 {}
 

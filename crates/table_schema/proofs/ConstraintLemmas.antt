@@ -1,7 +1,7 @@
 -- The constraints of a field read back from the dictionary that they are written as.
 use Rattle.std.proofs.Common.{◌≡◌, ℕ, zero, suc, arith, Bool, true, false, refl, ap, ◌∙◌, subst, List, [], ◌∷◌, ◌++◌}
 use Rattle.std.proofs.Common.{map, codes}
-use Rattle.std.specs.Prelude.{if◌then◌else◌, Option, Some, None, option_map, ℤ, pos, negsuc, IfSome, All}
+use Rattle.std.specs.Prelude.{◌^◌, nat_lt, if◌then◌else◌, Option, Some, None, option_map, ℤ, pos, negsuc, IfSome, All}
 use Rattle.std.specs.Option.{option_or}
 use Rattle.std.specs.Str.{bytes_eq}
 use Rattle.portal_base.specs.Json.{first_of}
@@ -92,7 +92,14 @@ whole_in_kept (Json-F.List js) z e = refl
 whole_in_kept (Json-F.Map es) z e = refl
 
 count-back : (w z : ℤ) → count_of w ≡ Some z → count_of z ≡ Some z
-count-back (pos n) z e = let same : pos n ≡ z = cc in subst (λ y. count_of y ≡ Some y) same refl
+count-back (pos n) z e = by (nat_lt n (2 ^ 64)) refl e
+  where
+    by : (b : Bool) → nat_lt n (2 ^ 64) ≡ b → (if b then Some (pos n) else None) ≡ Some z → count_of z ≡ Some z
+    by true small h =
+        let same : pos n ≡ z = cc in
+        let kept : count_of (pos n) ≡ Some (pos n) = ap (λ b. if b then Some (pos n) else None) small in
+        subst (λ y. count_of y ≡ Some y) same kept
+    by false large h = absurd (cc)
 count-back (negsuc n) z e = absurd (cc)
 
 length-back : (k : Kind) (value : Json) (z : ℤ) → length_in k value ≡ Some z → length_in k (json.Whole z) ≡ Some z

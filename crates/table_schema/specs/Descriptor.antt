@@ -1,5 +1,6 @@
 -- The fields of a descriptor (Table Schema v1, "Field descriptors"), and their errors in order.
-use Rattle.std.specs.Prelude.{ℕ, suc, nat_le, Bool, true, false, ◌&&◌, if◌then◌else◌, List, [], ◌∷◌, ◌++◌, length}
+use Rattle.std.specs.Prelude.{ℕ, suc, ◌^◌, nat_le, nat_lt, Bool, true, false, ◌&&◌, if◌then◌else◌, List, [], ◌∷◌, ◌++◌}
+use Rattle.std.specs.Prelude.{length}
 use Rattle.std.specs.Prelude.{codes, Option, Some, None, option_map, is_some, Result, Ok, Err, ℤ, pos, negsuc}
 use Rattle.std.specs.List.{list_all}
 use Rattle.std.specs.Str.{bytes_eq, chars}
@@ -152,11 +153,12 @@ has_order kind.Text = false
 has_order kind.Boolean = false
 has_order other = true
 
+-- a whole number from 0 that fits a `u64`
 abbrev pub count_of : ℤ → Option ℤ
-count_of (pos n) = Some (pos n)
+count_of (pos n) = if nat_lt n (2 ^ 64) then Some (pos n) else None
 count_of (negsuc n) = None
 
--- a whole number from 0, for a type that has lengths
+-- such a number, for a type that has lengths
 abbrev pub length_in : Kind → Json → Option ℤ
 length_in k value = if has_length k then (whole_in value >>= count_of) else None
 

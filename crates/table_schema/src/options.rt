@@ -195,9 +195,16 @@ fn length_in(value: &Json, kind: Kind) -> Option<i128>
     ensures { result ≡ length_in kind value.now }
 {
     match value {
-        Json::Whole(count) if has_length(kind) && *count >= 0 => Some(*count),
+        Json::Whole(count) if has_length(kind) => count_of(*count),
         _ => None,
     }
+}
+
+// The number, if it is a `u64`.
+fn count_of(number: i128) -> Option<i128>
+    ensures { result ≡ count_of number }
+{
+    (0 <= number && number < 1 << 64).then_some(number)
 }
 
 // Whether `minLength` and `maxLength` apply to the type.

@@ -7,9 +7,7 @@ use Rattle.portal_rows.proofs.table_reading.head_of_body.Goals as goal
 
 pub returns-in-Some-clause-sound : goal.returns-in-Some-clause-sound
 returns-in-Some-clause-sound c =
-    let readable = rw c.in-Some.is at c.in_ok-value.ensures.readable in
-    sound_reading c.head_in.result (head_reading c.in-Some.value) IsHead
-    (λ head e. head_read c.in-Some.value head readable e) c.head_in.ensures
+    sound_reading c.head_in.result (head_reading c.in-Some.value) IsHead (head_read c.in-Some.value) c.head_in.ensures
 
 pub returns-in-Some-clause-complete : goal.returns-in-Some-clause-complete
 returns-in-Some-clause-complete c =
