@@ -14,7 +14,7 @@ use Rattle.portal_calls.specs.declared.answer.Right.TheVariants.{CreateDataset, 
 use Rattle.portal_calls.specs.declared.answer.Right.TheVariants.{CreateOrganization, AdministerOrganization}
 use Rattle.portal_calls.specs.declared.event.Refusal.{Refusal}
 use Rattle.portal_calls.specs.declared.event.Refusal.TheVariants.{NotFound, NotAuthorized, Validation, NameInUse}
-use Rattle.portal_calls.specs.declared.event.Refusal.TheVariants.{OutOfMemory}
+use Rattle.portal_calls.specs.declared.event.Refusal.TheVariants.{KeeperFault, OutOfMemory}
 use Rattle.action_api.specs.declared.early.Early.{Early}
 use Rattle.action_api.specs.declared.early.Early.TheVariants.{TooLong, NotJson, Fraction, UnknownAction}
 use Rattle.action_api.specs.declared.early.Early.TheVariants.{OutOfMemory as no_memory}
@@ -61,12 +61,17 @@ in_use_dictionary key = validation_dictionary ((key, codes "That name is already
 abbrev pub memory_dictionary : Json
 memory_dictionary = error_dictionary (codes "Memory Error") (codes "Want of memory")
 
+-- the error when the store fails
+abbrev pub store_dictionary : Json
+store_dictionary = error_dictionary (codes "Store Error") (codes "The store failed")
+
 abbrev pub refusal_dictionary : Refusal → Json
 refusal_dictionary (NotFound kind) = error_dictionary (codes "Not Found Error") (codes "Not found: " ++ kind_name kind)
 refusal_dictionary (NotAuthorized right) =
     error_dictionary (codes "Authorization Error") (codes "Access denied: " ++ right_name right)
 refusal_dictionary (Validation faults) = validation_dictionary faults
 refusal_dictionary (NameInUse key) = in_use_dictionary key
+refusal_dictionary KeeperFault = store_dictionary
 refusal_dictionary OutOfMemory = memory_dictionary
 
 abbrev pub bad_request : List ℕ → Json

@@ -7,7 +7,7 @@ use Rattle.portal_calls.specs.Action.{action_name, action_named}
 use Rattle.portal_calls.specs.declared.action.Action.{Action}
 use Rattle.portal_calls.specs.declared.event.Refusal.{Refusal}
 use Rattle.portal_calls.specs.declared.event.Refusal.TheVariants.{NotFound, NotAuthorized, Validation, NameInUse}
-use Rattle.portal_calls.specs.declared.event.Refusal.TheVariants.{OutOfMemory}
+use Rattle.portal_calls.specs.declared.event.Refusal.TheVariants.{KeeperFault, OutOfMemory}
 use Rattle.portal_calls.specs.declared.event.Reply.{Reply}
 use Rattle.portal_calls.specs.declared.event.Reply.TheVariants.{Accepted, Shown, Refused}
 use Rattle.action_api.specs.Error.{refusal_dictionary, early_dictionary}
@@ -35,6 +35,7 @@ refusal_help action (NotFound kind) = help_of action
 refusal_help action (NotAuthorized right) = help_of action
 refusal_help action (Validation faults) = help_of action
 refusal_help action (NameInUse key) = help_of action
+refusal_help action KeeperFault = help_of action
 refusal_help action OutOfMemory = []
 
 -- of the early faults, those of a body that can't be read have help
@@ -58,6 +59,7 @@ refusal_status (NotFound kind) = 404
 refusal_status (NotAuthorized right) = 403
 refusal_status (Validation faults) = 409
 refusal_status (NameInUse key) = 409
+refusal_status KeeperFault = 503
 refusal_status OutOfMemory = 507
 
 abbrev pub early_status : Early → ℕ

@@ -5,7 +5,7 @@ ghost use Rattle.std.specs.Ordering.{nat_cmp, is_lt};
 ghost use Rattle.std.specs.Cmp.Lexicographic.{slice_cmp};
 ghost use Rattle.action_api.specs.Error.{kind_name, right_name, error_dictionary, list_of_one, fault_member};
 ghost use Rattle.action_api.specs.Error.{validation_dictionary, in_use_dictionary, refusal_dictionary};
-ghost use Rattle.action_api.specs.Error.{early_dictionary, bad_request, memory_dictionary};
+ghost use Rattle.action_api.specs.Error.{early_dictionary, bad_request, memory_dictionary, store_dictionary};
 
 use crate::early::Early;
 use crate::help::joined;
@@ -68,6 +68,12 @@ fn unknown_action(alloc: Global, name: &Text) -> Result<Json, AllocError>
         "Action name not known: ",
         name.as_str(),
     )
+}
+
+fn store_failed(alloc: Global) -> Result<Json, AllocError>
+    ensures { IfOk result (λ json. json ≡ store_dictionary) }
+{
+    error_json(alloc, "Store Error", Text::from_static("The store failed"))
 }
 
 fn out_of_memory(alloc: Global) -> Result<Json, AllocError>
@@ -169,6 +175,7 @@ pub fn refusal_json(alloc: Global, refusal: &Refusal) -> Result<Json, AllocError
         }
         Refusal::Validation(faults) => validation_json(alloc, faults.as_slice()),
         Refusal::NameInUse(key) => in_use_json(alloc, key),
+        Refusal::KeeperFault => store_failed(alloc),
         Refusal::OutOfMemory => out_of_memory(alloc),
     }
 }

@@ -33,6 +33,7 @@ fn status_of_refusal(refusal: &Refusal) -> u16
         Refusal::NotAuthorized(_) => 403,
         Refusal::Validation(_) => 409,
         Refusal::NameInUse(_) => 409,
+        Refusal::KeeperFault => 503,
         Refusal::OutOfMemory => 507,
     }
 }

@@ -4,7 +4,7 @@ use Rattle.portal_calls.specs.declared.answer.Denial.{Denial}
 use Rattle.portal_calls.specs.declared.answer.Denial.TheVariants as denial
 use Rattle.portal_calls.specs.declared.event.Refusal.{Refusal}
 use Rattle.portal_calls.specs.declared.event.Refusal.TheVariants.{NotFound, NotAuthorized, Validation, NameInUse}
-use Rattle.portal_calls.specs.declared.event.Refusal.TheVariants.{OutOfMemory}
+use Rattle.portal_calls.specs.declared.event.Refusal.TheVariants.{KeeperFault, OutOfMemory}
 use Rattle.portal_calls.specs.declared.event.Reply.{Reply}
 use Rattle.portal_calls.specs.declared.event.Reply.TheVariants.{Accepted, Shown, Refused}
 
@@ -20,6 +20,7 @@ is_name_in_use_refusal (NotFound kind) = false
 is_name_in_use_refusal (NotAuthorized right) = false
 is_name_in_use_refusal (Validation faults) = false
 is_name_in_use_refusal (NameInUse key) = true
+is_name_in_use_refusal KeeperFault = false
 is_name_in_use_refusal OutOfMemory = false
 
 -- The reply is that a name or an id is in use. It is the only one that may depend on what its caller doesn't see.

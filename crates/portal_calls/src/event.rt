@@ -25,6 +25,8 @@ pub enum Refusal {
     Validation(Seq<(Text, Text)>),
     /// The value at this key, `name` or `id`, is in use. Everything else accepts the call.
     NameInUse(Text),
+    /// The store failed to keep an accepted change, and the portal is as before.
+    KeeperFault,
     /// Memory ran out, and the portal is as before.
     OutOfMemory,
 }
