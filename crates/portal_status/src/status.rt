@@ -19,6 +19,8 @@ pub enum Status {
     ReadFault,
     /// 4: output failed.
     WriteFault,
+    /// 5: the store failed.
+    KeeperFault,
     /// 6: out of memory.
     OutOfMemory,
     /// 7: the portal file breaks a rule. The text names it.
@@ -31,6 +33,8 @@ pub enum Status {
     Refused,
     /// 11: the listener failed.
     ListenFault,
+    /// 12: the rows of the store are those of no state.
+    StoredRows,
 }
 
 impl Status {
@@ -43,12 +47,14 @@ impl Status {
             Status::Words => 2,
             Status::ReadFault => 3,
             Status::WriteFault => 4,
+            Status::KeeperFault => 5,
             Status::OutOfMemory => 6,
             Status::PortalFile(_) => 7,
             Status::FetchFault(_) => 8,
             Status::DataFault(_) => 9,
             Status::Refused => 10,
             Status::ListenFault => 11,
+            Status::StoredRows => 12,
         }
     }
 }
@@ -119,9 +125,11 @@ pub fn report<E: Sink>(faults: &mut E, status: Status) -> Status
         Status::Words => report_fault(faults, "bad words"),
         Status::ReadFault => report_fault(faults, "input failed"),
         Status::WriteFault => report_fault(faults, "output failed"),
+        Status::KeeperFault => report_fault(faults, "store failed"),
         Status::OutOfMemory => report_fault(faults, "out of memory"),
         Status::Refused => report_fault(faults, "call refused"),
         Status::ListenFault => report_fault(faults, "listener failed"),
+        Status::StoredRows => report_fault(faults, "stored rows are no portal's"),
         Status::PortalFile(text) => report_fault(faults, text.as_str()),
         Status::FetchFault(text) => report_fault(faults, text.as_str()),
         Status::DataFault(text) => report_fault(faults, text.as_str()),
