@@ -9,7 +9,7 @@ ghost use Rattle.datastore_answers.specs.Tables.{without_room, table_at, tables_
 use crate::address::Address;
 use crate::plan::TablePlan;
 use crate::resource_table::ResourceTable;
-use crate::table_index::{find_index, find_range};
+use crate::table_index::{find_index, find_range, tables_in};
 use crate::table_lookup::is_among;
 use datastore_table::{Batch, Method, Removal};
 use packages::package::Resource;
@@ -66,6 +66,13 @@ impl Tables {
             Some(index) => Some(&self.tables[index]),
             None => None,
         }
+    }
+
+    /// The tables of the dataset with this id, in the order of their numbers.
+    pub fn of_dataset(&self, dataset: &Text) -> &[ResourceTable]
+        ensures { result.now ≡ tables_in dataset.now self.now.tables }
+    {
+        tables_in(self.tables.as_slice(), dataset)
     }
 
     /// Makes room for one more table.

@@ -37,4 +37,11 @@ impl Batch {
     {
         self.work.changed()
     }
+
+    /// The `_id` of the next row after the batch.
+    pub fn next_id(&self) -> u64
+        ensures { result ≡ self.now.work.next_id }
+    {
+        self.work.next_id()
+    }
 }

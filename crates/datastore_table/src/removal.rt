@@ -39,6 +39,15 @@ impl Model for Removal {
     ghost invariant = { λ r. AreFound r.keys.items r.index };
 }
 
+impl Removal {
+    /// The `_id`s of the rows to delete, as they were given. The table may lack rows of some of them.
+    pub fn ids(&self) -> &[u64]
+        ensures { result.now ≡ self.now.ids }
+    {
+        self.ids.as_slice()
+    }
+}
+
 /// Deletes the rows with these `_id`s. It takes no memory.
 pub(crate) fn delete(rows: &mut Vec<Row>, ids: &Ids)
     ensures { rows.new.items ≡ cut_rows ids.now rows.old.items }
