@@ -33,6 +33,7 @@ use Rattle.datastore_answers.specs.declared.resource_table.ResourceTable.{Resour
 use Rattle.datastore_answers.proofs.KeepLemmas.{at-is, found-in, number_itself}
 use Rattle.datastore_answers.proofs.TableLemmas.{there-at}
 use Rattle.portal_calls.specs.declared.call.Call.{Call}
+use Rattle.portal_core.specs.Answer.{call_view_of}
 use Rattle.portal_core.specs.Planned.{PlannedChange, People, Datasets, Tables, entries_of}
 use Rattle.portal_core.specs.Fit.{IsFit}
 use Rattle.portal_core.specs.State.{State}
@@ -44,9 +45,10 @@ use Rattle.portal_core.specs.Entries.{DropDataset, DropOrg, DropRow, DropTable, 
 use Rattle.portal_core.specs.Entries.{rows_of, state_after}
 use Rattle.portal_core.specs.EntriesOf.{drop_of_role, drops_of, drops_of_table, entries_of_batch, ids_of, puts_of}
 use Rattle.portal_core.specs.EntriesOf.{roles_in, rows_written, tables_gone, is_gone}
-use Rattle.portal_core.proofs.ChangeEntries.{entries-same, own-there}
+use Rattle.portal_core.proofs.ChangeEntries.{entries-same, own-found}
 use Rattle.portal_core.proofs.DatasetEntries.{state_after-tables, tables-dropped}
 use Rattle.portal_core.proofs.DropLemmas.{filter-none}
+use Rattle.portal_core.proofs.Keeping.{fit_in_valid}
 use Rattle.portal_core.proofs.PeopleEntries.{roles-dropped, state_after-roles}
 use Rattle.portal_core.proofs.StateLemmas.{with_tables}
 use Rattle.portal_core.proofs.TableEntries.{all_dropped-rows, state_after-drops, state_after-drops_of_table}
@@ -211,8 +213,8 @@ puts-alone method records (Some t) state = by (put_records method records t.tabl
 
 -- ---- all changes
 
-alone-in_state : (call : Call) (state : State) (change : PlannedChange) → IsValid state
-    → IsFit call (view_of call.caller state) change → AllDropAlone (entries_of change state) state
+pub alone-in_state : (call : Call) (state : State) (change : PlannedChange) → IsValid state → IsFit call state change
+    → AllDropAlone (entries_of change state) state
 alone-in_state call state (People (org.Create o)) valid fit = (tt, tt)
 alone-in_state call state (People (org.Patch o)) valid fit = (tt, tt)
 alone-in_state call state (People (org.Remove name)) valid fit = org-alone name state
@@ -233,7 +235,8 @@ alone-in_state call state (Datasets (dataset.Remove id)) valid fit =
 alone-in_state call state (Tables (table.Create t)) valid fit =
     (tt, all-quiet (PutRow t.address) (λ row s. tt) t.table.rows _)
 alone-in_state call state (Tables (table.Remove a)) valid fit =
-    let there : found (at_address a) state.tables ≡ Some fit.own.table = own-there call state a fit.own in
+    let there : found (at_address a) state.tables ≡ Some fit.own.table =
+    own-found (call_view_of call state) state.tables a fit.own in
     let here : fit.own.table.address ≡ a = at-is a fit.own.table (there-at a state.tables fit.own.table there) in
     subst (λ (o : Option ResourceTable). AllDropAlone (drops_of o) state) (sym there)
     (table-alone fit.own.table state
@@ -247,4 +250,4 @@ pub all-alone : (call : Call) (state : State) (change : PlannedChange) → IsVal
     → AllDropAlone (entries_of change (view_of call.caller state)) state
 all-alone call state change valid fit =
     subst (λ (entries : List Entry). AllDropAlone entries state) (sym (entries-same call state change fit))
-    (alone-in_state call state change valid fit)
+    (alone-in_state call state change valid (fit_in_valid change call state valid fit))

@@ -92,7 +92,7 @@ change-entries (Tables change) state takes = table-entries change state takes
 -- ---- the caller's own tables
 
 -- The caller's own table is found at its address in the view,
-own-found : (view : CallView) (ts : List ResourceTable) (a : Address) (own : IsOwn view ts a)
+pub own-found : (view : CallView) (ts : List ResourceTable) (a : Address) (own : IsOwn view ts a)
     → found (at_address a) ts ≡ Some own.table
 own-found view ts a own =
     ap (λ (b : Address). found (at_address b) ts) own.here
@@ -130,24 +130,22 @@ rows-ascend ts kept t m =
 no-room : (ts : List ResourceTable) → AreConsistent ts → (t : ResourceTable) → IsIn t ts → t.table.room ≡ 0
 no-room ts kept t m = All-IsIn (λ (u : ResourceTable). u.table.room ≡ 0) ts kept.unready t m
 
--- The caller's own table, in tables that ascend and have it at its address.
-own-has : (call : Call) (state : State) (a : Address) → IsValid state
-    → (own : IsOwn (call_view_of call (view_of call.caller state)) (view_of call.caller state).tables a)
-    → (tables : List ResourceTable) → IsAscending table_cmp tables → found (at_address a) tables ≡ Some own.table
-    → HasTable a tables
-own-has call state a valid own tables up there =
-    let among : IsIn own.table state.tables =
-    (IsIn-find (is_at a) own.table state.tables (own-there call state a own)).0 in
+-- A table of a valid state, in tables that ascend and have it at its address.
+table-has : (state : State) (a : Address) (t : ResourceTable) → IsValid state
+    → found (at_address a) state.tables ≡ Some t → (tables : List ResourceTable) → IsAscending table_cmp tables
+    → found (at_address a) tables ≡ Some t → HasTable a tables
+table-has state a t valid here tables up there =
+    let among : IsIn t state.tables = (IsIn-find (is_at a) t state.tables here).0 in
     record {
-      table = own.table;
+      table = t;
       there = there;
       ascending = up;
-      rows = rows-ascend state.tables valid.tables own.table among;
-      room = no-room state.tables valid.tables own.table among;
+      rows = rows-ascend state.tables valid.tables t among;
+      room = no-room state.tables valid.tables t among;
     }
 
 -- There is no table at the address of a fit new one.
-none-there : (view : CallView) (ts : List ResourceTable) (t : ResourceTable) (fit : IsFitCreate view ts t)
+pub none-there : (view : CallView) (ts : List ResourceTable) (t : ResourceTable) (fit : IsFitCreate view ts t)
     → found (at_address t.address) ts ≡ None
 none-there view ts t fit =
     ap (λ (b : Address). found (at_address b) ts) fit.own.here
@@ -156,12 +154,11 @@ none-there view ts t fit =
 
 -- So it is new in tables without one there.
 new-there : (call : Call) (state : State) (t : ResourceTable) → IsValid state
-    → IsFit call (view_of call.caller state) (Tables (table.Create t)) → (tables : List ResourceTable)
+    → IsFit call state (Tables (table.Create t)) → (tables : List ResourceTable)
     → found (at_address t.address) tables ≡ None → IsNew t tables
 new-there call state t valid fit tables none =
     let after : AreConsistent (upserted table_cmp t state.tables) =
-    fit-kept (call_view_of call state) state.tables (table.Create t) valid.tables
-    (fit_in_valid (Tables (table.Create t)) call state valid fit) in
+    fit-kept (call_view_of call state) state.tables (table.Create t) valid.tables fit in
     let among : IsIn t (upserted table_cmp t state.tables) = upserted-IsIn table_cmp t state.tables in
     record {
       none = none;
@@ -187,19 +184,19 @@ takes-datasets (dataset.Remove id) view summaries up fit = tt
 
 -- ---- the entries of a fit change
 
-in-state : (change : PlannedChange) (call : Call) (state : State) → IsValid state
-    → IsFit call (view_of call.caller state) change → TakesChange change state
+in-state : (change : PlannedChange) (call : Call) (state : State) → IsValid state → IsFit call state change
+    → TakesChange change state
 in-state (People change) call state valid fit = tt
 in-state (Datasets change) call state valid fit =
-    takes-datasets change (call_view_of call state) (summaries_of state.tables) valid.datasets
-    (fit_in_valid (Datasets change) call state valid fit)
+    takes-datasets change (call_view_of call state) (summaries_of state.tables) valid.datasets fit
 in-state (Tables (table.Create t)) call state valid fit =
-    new-there call state t valid fit state.tables
-    (none-there (call_view_of call state) state.tables t
-    (fit_in_valid (Tables (table.Create t)) call state valid fit))
-in-state (Tables (table.Remove a)) call state valid fit = (fit.own.table, own-there call state a fit.own)
+    new-there call state t valid fit state.tables (none-there (call_view_of call state) state.tables t fit)
+in-state (Tables (table.Remove a)) call state valid fit =
+    (fit.own.table, own-found (call_view_of call state) state.tables a fit.own)
 in-state (Tables (table.Put a method records)) call state valid fit =
-    own-has call state a valid fit.own state.tables valid.tables.ascending (own-there call state a fit.own)
+    let there : found (at_address a) state.tables ≡ Some fit.own.table =
+    own-found (call_view_of call state) state.tables a fit.own in
+    table-has state a fit.own.table valid there state.tables valid.tables.ascending there
 in-state (Tables (table.DeleteRows a ids)) call state valid fit = tt
 
 in-view : (change : PlannedChange) (call : Call) (state : State) → IsValid state
@@ -210,14 +207,15 @@ in-view (Datasets change) call state valid fit =
     (summaries_of (view_of call.caller state).tables)
     (IsAscending-filter dataset_cmp (sees_in state.people call.caller) state.datasets valid.datasets) fit
 in-view (Tables (table.Create t)) call state valid fit =
-    new-there call state t valid fit (view_of call.caller state).tables
+    new-there call state t valid (fit_in_valid (Tables (table.Create t)) call state valid fit)
+    (view_of call.caller state).tables
     (none-there (call_view_of call (view_of call.caller state)) (view_of call.caller state).tables t fit)
 in-view (Tables (table.Remove a)) call state valid fit = (
   fit.own.table,
   own-found (call_view_of call (view_of call.caller state)) (view_of call.caller state).tables a fit.own,
 )
 in-view (Tables (table.Put a method records)) call state valid fit =
-    own-has call state a valid fit.own (view_of call.caller state).tables
+    table-has state a fit.own.table valid (own-there call state a fit.own) (view_of call.caller state).tables
     (IsAscending-filter table_cmp (is_table_among (datasets_seen call.caller state.people state.datasets))
     state.tables valid.tables.ascending)
     (own-found (call_view_of call (view_of call.caller state)) (view_of call.caller state).tables a fit.own)
@@ -267,12 +265,17 @@ entries-same call state (Tables (table.Put a method records)) fit =
     ap (puts_of method records) (own-same call state a fit.own)
 entries-same call state (Tables (table.DeleteRows a ids)) fit = refl
 
+-- What is fit to be made in the state is made by its entries there.
+pub entries-made : (call : Call) (state : State) (change : PlannedChange) → IsValid state → IsFit call state change
+    → state_after (entries_of change state) state ≡ changed change state
+entries-made call state change valid fit = change-entries change state (in-state change call state valid fit)
+
 pub entries-in_state : (call : Call) (state : State) (change : PlannedChange) → IsValid state
     → IsFit call (view_of call.caller state) change
     → state_after (entries_of change (view_of call.caller state)) state ≡ changed change state
 entries-in_state call state change valid fit =
     ap (λ (entries : List Entry). state_after entries state) (entries-same call state change fit)
-    ∙ change-entries change state (in-state change call state valid fit)
+    ∙ entries-made call state change valid (fit_in_valid change call state valid fit)
 
 -- So a fit change that is applied is the planned one, with its charge.
 pub applied-planned : (planned : PlannedChange) (call : Call) (state : State) → IsValid state

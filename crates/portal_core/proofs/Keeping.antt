@@ -71,7 +71,7 @@ use Rattle.portal_core.proofs.TableViewing.{any-among, made-address}
 use Rattle.portal_core.specs.Valid.{HasHome, IsValid}
 use Rattle.portal_core.specs.View.{view_of}
 use Rattle.portal_core.specs.declared.change.Claim.TheVariants.{OrgName, DatasetName, DatasetId}
-use Rattle.portal_core.specs.declared.portal.Opening.{Opening}
+use Rattle.portal_core.specs.declared.opening.Opening.{Opening}
 
 -- ---- what a portal is opened with
 

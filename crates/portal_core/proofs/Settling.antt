@@ -13,9 +13,9 @@ use Rattle.portal_calls.specs.declared.call.Call.{Call}
 use Rattle.portal_calls.specs.Reply.{is_change, is_name_in_use}
 use Rattle.portal_calls.specs.declared.event.Event.{Event}
 use Rattle.portal_calls.specs.declared.event.Event.TheVariants.{Call as a_call}
-use Rattle.portal_calls.specs.declared.event.Refusal.TheVariants.{OutOfMemory}
+use Rattle.portal_calls.specs.declared.event.Refusal.TheVariants.{KeeperFault, OutOfMemory}
 use Rattle.portal_calls.specs.declared.event.Reply.TheVariants as reply
-use Rattle.portal_calls.proofs.Refusing.{quiet-refusal, refusal_there}
+use Rattle.portal_calls.proofs.Refusing.{quiet-refusal, refusal_kept, refusal_there}
 use Rattle.portal_hall.specs.History.{replay}
 use Rattle.packages.specs.Shelf.{IsValidShelf}
 use Rattle.portal_core.specs.Answer.{answer_to, planned_answer}
@@ -245,7 +245,7 @@ pub replay-append : (state : State) (events more : List Event)
 replay-append state [] more = refl
 replay-append state (e ∷ events) more = replay-append (step_of state e).core events more
 
--- ---- memory
+-- ---- the reply of a step is no fault
 
 settled_there : (answer : Answer Change) (call : Call) (state : State)
     → (outcome_of answer call state).reply ≢ reply.Refused OutOfMemory
@@ -257,7 +257,22 @@ settled_there (Accepted json change) call state = by (find (is_in_use state) cha
     by None = λ is. absurd (cc)
     by (Some c) = λ is. absurd (cc)
 
--- the reply of a step is never that memory ran out
+-- It is never that memory ran out,
 pub step_there : (state : State) (call : Call) → (call_step state call).reply ≢ reply.Refused OutOfMemory
 step_there state call =
     settled_there (answer_in state (known_call state.people call)) (known_call state.people call) state
+
+settled_kept : (answer : Answer Change) (call : Call) (state : State)
+    → (outcome_of answer call state).reply ≢ reply.Refused KeeperFault
+settled_kept (Shown json) call state = λ is. absurd (cc)
+settled_kept (Refused denial) call state = refusal_kept denial
+settled_kept (Accepted json change) call state = by (find (is_in_use state) change.claims)
+  where
+    by : (claim : Option Claim) → (outcome_unless_in_use claim call json change state).reply ≢ reply.Refused KeeperFault
+    by None = λ is. absurd (cc)
+    by (Some c) = λ is. absurd (cc)
+
+-- nor that the keeper failed.
+pub step_kept : (state : State) (call : Call) → (call_step state call).reply ≢ reply.Refused KeeperFault
+step_kept state call =
+    settled_kept (answer_in state (known_call state.people call)) (known_call state.people call) state

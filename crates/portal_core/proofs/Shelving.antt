@@ -38,7 +38,7 @@ use Rattle.portal_core.specs.Parts.{state_of, IsConsistent, IsFree, IsOnShelf, I
 use Rattle.portal_core.specs.Valid.{IsValid}
 use Rattle.portal_core.specs.declared.change.Claim.TheVariants.{DatasetName, DatasetId}
 use Rattle.portal_core.specs.declared.parts.Parts.{Parts}
-use Rattle.portal_core.specs.declared.portal.Opening.{Opening}
+use Rattle.portal_core.specs.declared.opening.Opening.{Opening}
 use Rattle.portal_base.proofs.IdForms.{id_is_no_name}
 use Rattle.portal_core.proofs.Keeping.{first_unused, unfaulted, opened_valid}
 
@@ -52,7 +52,7 @@ unequal a b differ = by (bytes_eq a b) refl
     by true is = absurd (differ ((bytes_eq-Decides a b).0 is))
 
 -- a name is no id
-name_is_no_id : (name id : List ℕ) → is_name name longest_name ≡ true → IsId id → bytes_eq id name ≡ false
+pub name_is_no_id : (name id : List ℕ) → is_name name longest_name ≡ true → IsId id → bytes_eq id name ≡ false
 name_is_no_id name id named formed =
     unequal id name
     (λ same. let not_named : is_name name longest_name ≡ false =

@@ -8,7 +8,7 @@ use Rattle.org_roles.specs.Order.{user_cmp, org_cmp, membership_cmp}
 use Rattle.org_roles.specs.declared.entry.Membership.{Membership}
 use Rattle.org_roles.specs.declared.entry.Org.{Org}
 use Rattle.portal_core.specs.State.{State}
-use Rattle.portal_core.specs.declared.portal.Opening.{Opening}
+use Rattle.portal_core.specs.declared.opening.Opening.{Opening}
 
 -- each organization has a name that isn't empty
 abbrev pub are_named : List Org → Bool

@@ -31,7 +31,7 @@ ghost use Rattle.portal_core.specs.State.{State, accepted_bytes_of_user};
 ghost use Rattle.portal_core.specs.Step.{answer_in, call_step, step_of};
 ghost use Rattle.portal_core.specs.Valid.{IsValid};
 ghost use Rattle.portal_core.specs.View.{view_of};
-ghost use Rattle.portal_core.specs.declared.portal.Opening.{Opening};
+ghost use Rattle.portal_core.specs.declared.opening.Opening.{Opening};
 
 /// A replay of events and then of more is one replay.
 pub fn a_replay_goes_on()

@@ -1,6 +1,6 @@
 //! The portal's parts as one value, and changes of it. A change first prepares all growth. Then a commit makes the
 //! change: it takes no memory and can't fail.
-ghost use Rattle.std.specs.Prelude.{◌≡◌, IfNone, IfOk, OnErr, OnOk, IsTrue, is_none, find};
+ghost use Rattle.std.specs.Prelude.{◌≡◌, ◌≤◌, IfNone, IfOk, OnErr, OnOk, IsErrOf, IsTrue, is_none, find};
 ghost use Rattle.std.specs.Option.{option_map, option_copied};
 ghost use Rattle.org_roles.specs.Changed.{org_fault, IsReady};
 ghost use Rattle.packages.specs.Shelf.{IsValidShelf};
@@ -10,8 +10,12 @@ ghost use Rattle.portal_core.specs.Changed.{AreUnused, changed, charge_of, is_in
 ghost use Rattle.portal_core.specs.Fit.{IsFit};
 ghost use Rattle.portal_core.specs.Parts.{state_of, planned_in, with_prepared, IsConsistent, MakesSound, IsTakenBy};
 ghost use Rattle.portal_core.specs.Parts.{IsUnrefused, IsPlanned, IsPrepared, IsChangeReady, IsChargeReady};
+ghost use Rattle.portal_base.specs.Outside.{Rose};
+ghost use Rattle.portal_core.specs.PortalValue.{AreKept};
 ghost use Rattle.portal_core.specs.State.{accepted_bytes_of};
+ghost use Rattle.portal_core.specs.View.{view_of};
 
+use crate::act_fault::ActFault;
 use crate::change::Plan;
 use crate::quota::{QuotaLedger, QuotaUsed};
 use dataset_answers::change::DatasetChange;
@@ -26,6 +30,7 @@ use portal_base::caller::Caller;
 use portal_base::copy::TryClone;
 use portal_base::text::Text;
 use portal_calls::call::Call;
+use portal_keeper::keeper::Keeper;
 use std::alloc::{AllocError, Global};
 
 /// The parts of a portal.
@@ -107,18 +112,29 @@ impl Parts {
         }
     }
 
-    /// Makes a change that is fit and claims nothing that is in use, and charges it to the caller's quota. Where memory
-    /// runs out, nothing changes.
-    pub fn apply(&mut self, alloc: Global, call: &Call, plan: Plan) -> Result<(), AllocError>
-        requires consistent { IsConsistent self.old }
-        requires fit { IsFit call.now (state_of self.old) (planned_of plan) }
+    /// Makes a change that is fit and claims nothing that is in use: the keeper changes the rows of the store, and then the
+    /// parts change. The call is charged to its caller's quota. Where memory runs out or the keeper fails, nothing changes.
+    #[tactic(auto, using(crate::proofs::StoreLemmas::fit_there))]
+    pub(crate) fn apply<K: Keeper>(
+        &mut self,
+        alloc: Global,
+        keeper: &mut K,
+        call: &Call,
+        plan: Plan,
+    ) -> Result<(), ActFault>
+        requires kept { AreKept (K.rows keeper.old) self.old }
+        requires fit { IsFit call.now (view_of call.now.caller (state_of self.old)) (planned_of plan) }
         requires planned { IsPlanned plan self.old }
         requires unused { AreUnused (state_of self.old) (claims_of (planned_of plan)) }
+        ensures parts { AreKept (K.rows keeper.new) self.new }
         ensures applied { OnOk result (state_of self.new ≡ with_planned call.now (planned_of plan) (state_of self.old)) }
         ensures kept { OnErr result (state_of self.new ≡ state_of self.old) }
-        ensures shelved { IsValidShelf self.new.shelf }
+        ensures fault { IsErrOf result ActFault.Keeper → Rose (K.faults keeper.old) (K.faults keeper.new) }
+        ensures counts { K.faults keeper.old ≤ K.faults keeper.new }
     {
+        let changes = self.row_changes(alloc, call, &plan)?;
         let prepared = self.prepare(alloc, call, plan)?;
+        keeper.apply(alloc, &changes)?;
         self.commit(prepared);
         Ok(())
     }

@@ -1,125 +1,132 @@
 //! The portal, and the one step that an event makes.
 //!
-//! The portal decides a call on its caller's view: the right first, then the rules. Then it prepares all growth, and
-//! then a commit makes the change: it takes no memory and can't fail.
-ghost use Rattle.std.specs.Prelude.{◌≡◌, ◌≢◌, IsTrue, IfOk, OnOk, OnErr};
-ghost use Rattle.portal_core.specs.Planned.{planned_of};
+//! The portal decides a call on its caller's view: the right first, then the rules. Then it prepares all growth, then its
+//! keeper changes the rows of the store, and then a commit makes the change: it takes no memory and can't fail.
+ghost use Rattle.std.specs.Prelude.{◌≡◌, ◌≢◌, ◌≤◌, List, IsTrue, IfErr, IfOk, IfSome, OnOk, OnErr, IsErrOf};
+ghost use Rattle.portal_base.specs.Outside.{Rose};
 ghost use Rattle.portal_core.specs.Fit.{IsFit};
-ghost use Rattle.portal_core.specs.Parts.{state_of, IsPlanned, IsConsistent};
-ghost use Rattle.portal_core.specs.Step.{planned_outcome};
+ghost use Rattle.portal_core.specs.Parts.{state_of, IsPlanned};
+ghost use Rattle.portal_core.specs.Planned.{planned_of};
+ghost use Rattle.portal_core.specs.PortalValue.{AreKept};
+ghost use Rattle.portal_core.specs.Step.{known_step, planned_outcome};
 ghost use Rattle.portal_core.specs.View.{view_of};
 
+use crate::act_fault::ActFault;
 use crate::change::Plan;
 use crate::decide::decide;
+use crate::opening::opened_parts;
+pub use crate::opening::{OpenFault, Opening, Role0};
 use crate::parts::Parts;
-use crate::quota::QuotaLedger;
-use datastore_answers::tables::Tables;
-use org_roles::entry::{Membership, Org, User};
-use org_roles::people::People;
-use packages::shelf::Shelf;
 use portal_base::caller::Caller;
 use portal_base::copy::TryClone;
 use portal_base::json_value::Json;
-use portal_base::seq::Seq;
 use portal_base::text::Text;
 use portal_calls::answer::Answer;
 use portal_calls::call::{Call, Request};
 use portal_calls::event::{Event, Refusal, Reply, refusal_of};
+use portal_keeper::keeper::Keeper;
 use std::alloc::{AllocError, Global};
 use std::marker::Model;
 
-/// A role of a user in an organization, in an opening.
-pub type Role0 = Membership;
-
-/// The users, organizations and roles that a portal is opened with.
+/// The portal over a keeper of its rows. Its value in contracts is its state, which is valid, and the keeper. Where the
+/// rows of the keeper are observable, they are those of the state.
 #[derive(Drop)]
-pub struct Opening {
-    pub users: Seq<User>,
-    pub orgs: Seq<Org>,
-    pub roles: Seq<Role0>,
-}
-
-/// Why opening a portal failed.
-#[derive(Clone, Copy, Debug, PartialEq, Eq)]
-pub enum OpenFault {
-    OutOfMemory,
-}
-
-/// The portal. Its value in contracts is its state, which is valid.
-#[derive(Drop)]
-pub struct Portal {
+pub struct Portal<K: Keeper> {
     alloc: Global,
     parts: Parts,
+    keeper: K,
 }
 
-impl Model for Portal {
-    ghost use Rattle.portal_core.specs.Parts.{state_of, IsConsistent};
-    ghost use Rattle.portal_core.specs.State.{State};
+impl<K: Keeper> Model for Portal<K> {
+    ghost use Rattle.portal_core.specs.Parts.{state_of};
+    ghost use Rattle.portal_core.specs.PortalValue.{AreKept, PortalValue};
 
-    ghost Value = { State };
+    ghost Value = { PortalValue K };
 
-    ghost view = { λ p. state_of p.parts };
+    ghost view = { λ p. record { state = state_of p.parts; keeper = p.keeper } };
 
-    ghost invariant = { λ p. IsConsistent p.parts };
+    ghost invariant = { λ p. AreKept (K.rows p.keeper) p.parts };
 }
 
-impl Portal {
+impl<K: Keeper> Portal<K> {
+    ghost use Rattle.portal_keeper.specs.Keeping.{Shows};
+    ghost use Rattle.portal_keeper.specs.declared.row.KeptRow.{KeptRow};
+    ghost use Rattle.portal_core.specs.KeptRows.{kept_rows};
     ghost use Rattle.portal_core.specs.Known.{is_known};
-    ghost use Rattle.portal_core.specs.Opened.{opened, is_opening};
-    ghost use Rattle.portal_core.specs.Step.{step_of, call_step, known_step};
+    ghost use Rattle.portal_core.specs.Opened.{is_opening};
+    ghost use Rattle.portal_core.specs.PortalValue.{AreOfNoState, IsOpenedOver};
+    ghost use Rattle.portal_core.specs.Step.{step_of, call_step};
+    ghost use Rattle.portal_core.specs.Valid.{IsValid};
 
-    /// A portal with these users, organizations and roles, and no dataset.
-    pub fn open(alloc: Global, opening: &Opening) -> Result<Portal, OpenFault>
+    /// Opens a portal over a keeper. If the keeper has no rows, the portal has the users, organizations and roles of the
+    /// opening, and no dataset, and the keeper gets its rows. Else the portal has the state whose rows they are, with the
+    /// users of the opening. A fault comes with the keeper.
+    ///
+    /// `BadRows` comes with the rows, exactly if they are those of no state. `Keeper` comes only where the keeper's count of
+    /// faults rose.
+    pub fn open(alloc: Global, keeper: K, opening: &Opening) -> Result<Portal<K>, (OpenFault, K)>
         requires { IsTrue (is_opening opening.now) }
-        ensures { IfOk result (λ portal. portal ≡ opened opening.now) }
+        ensures opened { IfOk result
+            (λ portal. IfSome (K.rows keeper) (λ rows. IsOpenedOver opening.now rows portal.state)) }
+        ensures valid { IfOk result (λ portal. IsValid portal.state) }
+        ensures counts { IfOk result (λ portal. K.faults keeper ≤ K.faults portal.keeper) }
+        ensures failed { IfErr result
+            (λ back. back.0 ≡ OpenFault.Keeper → Rose (K.faults keeper) (K.faults back.1)) }
+        ensures bad_rows { IfErr result (λ back. (rows : List KeptRow) → back.0 ≡ OpenFault.BadRows rows →
+            Shows (K.rows keeper) rows × Shows (K.rows back.1) rows × AreOfNoState rows) }
+        ensures kept { IfErr result
+            (λ back. IfSome (K.rows keeper) (λ rows. Shows (K.rows back.1) rows)) }
+        ensures counted { IfErr result (λ back. K.faults keeper ≤ K.faults back.1) }
     {
-        match Portal::assemble(alloc, opening) {
-            Ok(portal) => Ok(portal),
-            Err(_refused) => Err(OpenFault::OutOfMemory),
+        let mut keeper = keeper;
+        match opened_parts(alloc, &mut keeper, opening) {
+            Ok(parts) => Ok(Portal {
+                alloc,
+                parts,
+                keeper,
+            }),
+            Err(fault) => Err((fault, keeper)),
         }
     }
 
-    #[tactic(auto, using(crate::proofs::Shelving::opened_consistent))]
-    fn assemble(alloc: Global, opening: &Opening) -> Result<Portal, AllocError>
-        requires { IsTrue (is_opening opening.now) }
-        ensures { IfOk result (λ portal. portal ≡ opened opening.now) }
-    {
-        let users = opening.users.try_clone(alloc)?;
-        let orgs = opening.orgs.try_clone(alloc)?;
-        let roles = opening.roles.try_clone(alloc)?;
-        Ok(Portal {
-            alloc,
-            parts: Parts {
-                people: People::of_lists(users, orgs, roles),
-                shelf: Shelf::new(alloc),
-                tables: Tables::new(alloc),
-                quota_used: QuotaLedger::new(alloc),
-            },
-        })
-    }
-
     /// Makes the step of one event. The reply and the state after it are the step's. Where memory runs out, the reply
-    /// is `OutOfMemory` and nothing changes.
-    #[tactic(auto, using(crate::proofs::Settling::step_there))]
+    /// is `OutOfMemory`, and where the keeper fails, it is `KeeperFault`; then nothing changes. The keeper is called for an
+    /// accepted change alone, before the change is made.
+    #[tactic(auto, using(crate::proofs::Settling::step_there, crate::proofs::Settling::step_kept))]
     pub fn act(&mut self, event: &Event) -> Reply
-        ensures reply { result ≢ Reply.Refused Refusal.OutOfMemory
-            → result ≡ (step_of self.old event.now).reply }
-        ensures state { result ≢ Reply.Refused Refusal.OutOfMemory
-            → self.new ≡ (step_of self.old event.now).core }
-        ensures kept { result ≡ Reply.Refused Refusal.OutOfMemory → self.new ≡ self.old }
+        ensures reply { result ≢ Reply.Refused Refusal.KeeperFault → result ≢ Reply.Refused Refusal.OutOfMemory
+            → result ≡ (step_of self.old.state event.now).reply }
+        ensures state { result ≢ Reply.Refused Refusal.KeeperFault → result ≢ Reply.Refused Refusal.OutOfMemory
+            → self.new.state ≡ (step_of self.old.state event.now).core }
+        ensures failed { result ≡ Reply.Refused Refusal.KeeperFault → self.new.state ≡ self.old.state }
+        ensures memory { result ≡ Reply.Refused Refusal.OutOfMemory → self.new.state ≡ self.old.state }
+        ensures fault { result ≡ Reply.Refused Refusal.KeeperFault
+            → Rose (K.faults self.old.keeper) (K.faults self.new.keeper) }
+        ensures counts { K.faults self.old.keeper ≤ K.faults self.new.keeper }
     {
         let Event::Call(call) = event;
         match self.act_on_call(call) {
             Ok(reply) => reply,
-            Err(_refused) => Reply::Refused(Refusal::OutOfMemory),
+            Err(ActFault::Keeper) => Reply::Refused(Refusal::KeeperFault),
+            Err(ActFault::OutOfMemory) => Reply::Refused(Refusal::OutOfMemory),
         }
     }
 
+    /// The keeper. Where its rows are observable, they are those of the state.
+    pub fn into_keeper(self) -> K
+        ensures keeper { result ≡ self.keeper }
+        ensures rows { Shows (K.rows result) (kept_rows self.state) }
+    {
+        self.keeper
+    }
+
     /// Makes the step of a call. A caller whom no user has is nobody.
-    fn act_on_call(&mut self, call: &Call) -> Result<Reply, AllocError>
-        ensures reply { IfOk result (λ reply. reply ≡ (call_step self.old call.now).reply) }
-        ensures state { OnOk result (self.new ≡ (call_step self.old call.now).core) }
-        ensures kept { OnErr result (self.new ≡ self.old) }
+    fn act_on_call(&mut self, call: &Call) -> Result<Reply, ActFault>
+        ensures reply { IfOk result (λ reply. reply ≡ (call_step self.old.state call.now).reply) }
+        ensures state { OnOk result (self.new.state ≡ (call_step self.old.state call.now).core) }
+        ensures kept { OnErr result (self.new.state ≡ self.old.state) }
+        ensures fault { IsErrOf result ActFault.Keeper → Rose (K.faults self.old.keeper) (K.faults self.new.keeper) }
+        ensures counts { K.faults self.old.keeper ≤ K.faults self.new.keeper }
     {
         if self.is_known(&call.caller) {
             return self.act_on_known(call);
@@ -130,7 +137,7 @@ impl Portal {
 
     /// Whether the caller is nobody, or a user of this portal.
     fn is_known(&self, caller: &Caller) -> bool
-        ensures { result ≡ is_known self.now.people caller.now }
+        ensures { result ≡ is_known self.now.state.people caller.now }
     {
         match caller {
             Caller::Anonymous => true,
@@ -139,23 +146,14 @@ impl Portal {
     }
 
     /// Makes the step of a call whose caller is known.
-    #[tactic(auto, using(crate::proofs::Answering::accepted_fit))]
-    fn act_on_known(&mut self, call: &Call) -> Result<Reply, AllocError>
-        ensures reply { IfOk result (λ reply. reply ≡ (known_step self.old call.now).reply) }
-        ensures state { OnOk result (self.new ≡ (known_step self.old call.now).core) }
-        ensures kept { OnErr result (self.new ≡ self.old) }
+    fn act_on_known(&mut self, call: &Call) -> Result<Reply, ActFault>
+        ensures reply { IfOk result (λ reply. reply ≡ (known_step self.old.state call.now).reply) }
+        ensures state { OnOk result (self.new.state ≡ (known_step self.old.state call.now).core) }
+        ensures kept { OnErr result (self.new.state ≡ self.old.state) }
+        ensures fault { IsErrOf result ActFault.Keeper → Rose (K.faults self.old.keeper) (K.faults self.new.keeper) }
+        ensures counts { K.faults self.old.keeper ≤ K.faults self.new.keeper }
     {
-        match decide(self.alloc, &mut self.parts, call)? {
-            Answer::Shown(json) => Ok(Reply::Shown(json)),
-            Answer::Refused(denial) => Ok(Reply::Refused(refusal_of(denial))),
-            Answer::Accepted(json, plan) => apply_if_unused(
-                self.alloc,
-                &mut self.parts,
-                call,
-                json,
-                plan,
-            ),
-        }
+        act_on_parts(self.alloc, &mut self.parts, &mut self.keeper, call)
     }
 }
 
@@ -176,28 +174,54 @@ fn by_nobody(alloc: Global, call: &Call) -> Result<Call, AllocError>
     })
 }
 
-/// Makes an accepted change, where nothing that it claims is in use, else refuses it.
-#[tactic(auto, using(crate::proofs::Settling::outcome_unused, crate::proofs::Settling::kept_consistent))]
-fn apply_if_unused(
+/// Makes the step of a call whose caller is known: decides it, and makes the change of an accepted one.
+#[tactic(auto, using(crate::proofs::Answering::accepted_fit, crate::proofs::StoreLemmas::decided_kept))]
+fn act_on_parts<K: Keeper>(
     alloc: Global,
     parts: &mut Parts,
+    keeper: &mut K,
+    call: &Call,
+) -> Result<Reply, ActFault>
+    requires { AreKept (K.rows keeper.old) parts.old }
+    ensures parts { AreKept (K.rows keeper.new) parts.new }
+    ensures reply { IfOk result (λ reply. reply ≡ (known_step (state_of parts.old) call.now).reply) }
+    ensures state { OnOk result (state_of parts.new ≡ (known_step (state_of parts.old) call.now).core) }
+    ensures kept { OnErr result (state_of parts.new ≡ state_of parts.old) }
+    ensures fault { IsErrOf result ActFault.Keeper → Rose (K.faults keeper.old) (K.faults keeper.new) }
+    ensures counts { K.faults keeper.old ≤ K.faults keeper.new }
+{
+    match decide(alloc, parts, call)? {
+        Answer::Shown(json) => Ok(Reply::Shown(json)),
+        Answer::Refused(denial) => Ok(Reply::Refused(refusal_of(denial))),
+        Answer::Accepted(json, plan) => apply_if_unused(alloc, parts, keeper, call, json, plan),
+    }
+}
+
+/// Makes an accepted change, where nothing that it claims is in use, else refuses it.
+#[tactic(auto, using(crate::proofs::Settling::outcome_unused))]
+fn apply_if_unused<K: Keeper>(
+    alloc: Global,
+    parts: &mut Parts,
+    keeper: &mut K,
     call: &Call,
     json: Json,
     plan: Plan,
-) -> Result<Reply, AllocError>
-    requires consistent { IsConsistent parts.old }
+) -> Result<Reply, ActFault>
+    requires kept { AreKept (K.rows keeper.old) parts.old }
     requires fit { IsFit call.now (view_of call.now.caller (state_of parts.old)) (planned_of plan) }
     requires planned { IsPlanned plan parts.old }
-    ensures consistent { IsConsistent parts.new }
+    ensures parts { AreKept (K.rows keeper.new) parts.new }
     ensures reply { IfOk result (λ reply.
         reply ≡ (planned_outcome json (planned_of plan) call.now (state_of parts.old)).reply) }
     ensures state { OnOk result
         (state_of parts.new ≡ (planned_outcome json (planned_of plan) call.now (state_of parts.old)).core) }
     ensures kept { OnErr result (state_of parts.new ≡ state_of parts.old) }
+    ensures fault { IsErrOf result ActFault.Keeper → Rose (K.faults keeper.old) (K.faults keeper.new) }
+    ensures counts { K.faults keeper.old ≤ K.faults keeper.new }
 {
     if let Some(key) = parts.key_in_use(&plan) {
         return Ok(Reply::Refused(Refusal::NameInUse(Text::from_static(key))));
     }
-    parts.apply(alloc, call, plan)?;
+    parts.apply(alloc, keeper, call, plan)?;
     Ok(Reply::Accepted(json))
 }

@@ -1,0 +1,134 @@
+-- Parts that are read from values make up a valid state, and no other state has these values.
+use Rattle.std.proofs.Common.{◌≡◌, ◌≢◌, ◌∙◌, List, [], ◌∷◌, All, map}
+use Rattle.std.proofs.Common.{refl, sym, ap, subst, Contains}
+use Rattle.portal_base.specs.Moment.{IsMoment}
+use Rattle.portal_base.specs.Ordered.{IsAscending}
+use Rattle.portal_base.proofs.Unique.{IsIn}
+use Rattle.portal_base.proofs.Upserted.{All-IsIn, All-each}
+use Rattle.org_roles.specs.PeopleLists.{PeopleLists}
+use Rattle.org_roles.specs.declared.entry.Membership.{Membership}
+use Rattle.org_roles.specs.declared.entry.Org.{Org}
+use Rattle.dataset_answers.specs.Sound.{IsSound}
+use Rattle.dataset_rows.specs.Rows.{IsWellTyped}
+use Rattle.datastore_answers.specs.Tables.{tables_of}
+use Rattle.datastore_answers.specs.declared.resource_table.ResourceTable.{ResourceTable}
+use Rattle.packages.specs.Order.{dataset_cmp}
+use Rattle.packages.specs.Shelf.{IsValidShelf, datasets_of}
+use Rattle.packages.specs.declared.package.Package.{Package}
+use Rattle.packages.proofs.FindLemmas.{IsIn-map, map-IsIn}
+use Rattle.portal_rows.specs.KeptValues.{AreKeptValues}
+use Rattle.portal_rows.specs.OrgRows.{IsOrgWithRoles}
+use Rattle.portal_rows.specs.declared.kept_values.KeptValues.{KeptValues}
+use Rattle.portal_rows.specs.declared.org_reading.OrgWithRoles.{OrgWithRoles}
+use Rattle.portal_core.specs.Parts.{IsConsistent, state_of}
+use Rattle.portal_core.specs.Restored.{ArePeopleOf, AreShelvable, AreTablesOf}
+use Rattle.portal_core.specs.State.{State, quota_used_cmp}
+use Rattle.portal_core.specs.Typed.{IsTyped}
+use Rattle.portal_core.specs.Valid.{HasHome, IsValid}
+use Rattle.portal_core.specs.Values.{values_of, with_roles}
+use Rattle.portal_core.specs.declared.parts.Parts.{Parts}
+use Rattle.portal_core.proofs.RestoredDatasets.{same-sound}
+
+-- ---- organizations
+
+-- The organizations with their roles have these organizations.
+orgs-back : (roles : List Membership) (orgs : List Org)
+    → map (λ (o : OrgWithRoles). o.org) (map (with_roles roles) orgs) ≡ orgs
+orgs-back roles [] = refl
+orgs-back roles (o ∷ orgs) = ap (λ (l : List Org). o ∷ l) (orgs-back roles orgs)
+
+pub same-orgs : (one other : PeopleLists) (kept : List OrgWithRoles) → map (with_roles one.roles) one.orgs ≡ kept
+    → map (with_roles other.roles) other.orgs ≡ kept → one.orgs ≡ other.orgs
+same-orgs one other kept first second =
+    sym (orgs-back one.roles one.orgs)
+    ∙ ap (map (λ (o : OrgWithRoles). o.org)) (first ∙ sym second)
+    ∙ orgs-back other.roles other.orgs
+
+-- ---- the state of the parts
+
+pub parts-consistent : (values : KeptValues) (parts : Parts) → AreKeptValues values
+    → ArePeopleOf values.orgs parts.people.people → AreShelvable parts.people.people values.datasets
+    → datasets_of parts.shelf ≡ values.datasets → IsValidShelf parts.shelf
+    → AreTablesOf (datasets_of parts.shelf) values.tables (tables_of parts.tables) → parts.quota_used.used ≡ []
+    → IsConsistent parts
+parts-consistent values parts kept people shelvable datasets shelved tables none = record {
+  valid = record {
+    people = people.sorted;
+    orgs = people.named;
+    roles = people.roles_have_orgs;
+    datasets = subst (IsAscending dataset_cmp) (sym datasets) kept.datasets_ascend;
+    names = subst (λ (ds : List Package). (d e : Package) → Contains ds d → Contains ds e → d.name ≡ e.name → d ≡ e)
+        (sym datasets) shelvable.names;
+    sound = subst (All (IsSound parts.people.people)) (sym datasets) shelvable.sound;
+    tables = tables.consistent;
+    homes = tables.homes;
+    quota_used = subst (IsAscending quota_used_cmp) (sym none) tt;
+  };
+  shelved = shelved;
+}
+
+pub parts-values : (values : KeptValues) (parts : Parts) → ArePeopleOf values.orgs parts.people.people
+    → datasets_of parts.shelf ≡ values.datasets
+    → AreTablesOf (datasets_of parts.shelf) values.tables (tables_of parts.tables) → values_of (state_of parts) ≡ values
+parts-values values parts people datasets tables = λ i. record {
+  orgs = people.orgs i;
+  datasets = datasets i;
+  tables = tables.same i;
+}
+
+orgs-created : (roles : List Membership) (orgs : List Org) (kept : List OrgWithRoles)
+    → map (with_roles roles) orgs ≡ kept → All IsOrgWithRoles kept → All (λ (o : Org). IsMoment o.created) orgs
+orgs-created roles orgs kept same all =
+    All-each (λ (o : Org). IsMoment o.created) orgs
+    (λ o m. (All-IsIn IsOrgWithRoles kept all (with_roles roles o)
+    (subst (IsIn (with_roles roles o)) same (IsIn-map (with_roles roles) o orgs m))).created)
+
+pub parts-typed : (values : KeptValues) (parts : Parts) → AreKeptValues values
+    → ArePeopleOf values.orgs parts.people.people → datasets_of parts.shelf ≡ values.datasets
+    → AreTablesOf (datasets_of parts.shelf) values.tables (tables_of parts.tables) → IsTyped (state_of parts)
+parts-typed values parts kept people datasets tables = record {
+  orgs = orgs-created parts.people.people.roles parts.people.people.orgs values.orgs people.orgs kept.orgs;
+  datasets = subst (All IsWellTyped) (sym datasets) kept.datasets;
+  tables = tables.sized;
+  targets = tables.targets;
+}
+
+-- ---- no state has these values
+
+-- Each organization of a valid state has a name.
+pub no-people : (values : KeptValues) → (All (λ (o : OrgWithRoles). o.org.name ≢ []) values.orgs → ⊥) → (state : State)
+    → IsValid state → values_of state ≡ values → ⊥
+no-people values none state valid same =
+    none
+    (subst (All (λ (o : OrgWithRoles). o.org.name ≢ [])) (ap (λ (v : KeptValues). v.orgs) same)
+    (All-each (λ (o : OrgWithRoles). o.org.name ≢ []) (map (with_roles state.people.roles) state.people.orgs)
+    (λ o m.
+    let w = map-IsIn (with_roles state.people.roles) o state.people.orgs m in
+    subst (λ (k : OrgWithRoles). k.org.name ≢ []) (sym w.2)
+    (All-IsIn (λ (x : Org). x.name ≢ []) state.people.orgs valid.orgs w.0 w.1))))
+
+-- Its datasets may stand on one shelf,
+pub no-shelf : (values : KeptValues) (people : PeopleLists) → ArePeopleOf values.orgs people
+    → (AreShelvable people values.datasets → ⊥) → (state : State) → IsValid state → values_of state ≡ values → ⊥
+no-shelf values people of none state valid same =
+    none (subst (AreShelvable people) (ap (λ (v : KeptValues). v.datasets) same) (record {
+      sound = All-each (IsSound people) state.datasets (λ d m.
+          same-sound state.people people d
+          (same-orgs state.people people values.orgs (ap (λ (v : KeptValues). v.orgs) same) of.orgs)
+          (All-IsIn (IsSound state.people) state.datasets valid.sound d m));
+      names = valid.names;
+    }))
+
+-- and its tables may be the tables of a state with its datasets.
+pub no-tables : (values : KeptValues) (datasets : List Package) → datasets ≡ values.datasets
+    → ((tables : List ResourceTable) → AreTablesOf datasets values.tables tables → ⊥) → (state : State) → IsValid state
+    → IsTyped state → values_of state ≡ values → ⊥
+no-tables values datasets are none state valid typed same =
+    none state.tables (record {
+      same = ap (λ (v : KeptValues). v.tables) same;
+      consistent = valid.tables;
+      homes = subst (λ (ds : List Package). All (HasHome ds) state.tables)
+          (ap (λ (v : KeptValues). v.datasets) same ∙ sym are) valid.homes;
+      sized = typed.tables;
+      targets = typed.targets;
+    })

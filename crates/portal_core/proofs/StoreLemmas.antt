@@ -1,0 +1,126 @@
+-- The store beside the parts: its rows stay those of the state.
+use Rattle.std.proofs.Common.{◌≡◌, List, Option, Some, None, refl, sym, ap, ◌∙◌, subst}
+use Rattle.std.specs.Prelude.{IsSomeAnd}
+use Rattle.packages.specs.Shelf.{IsValidShelf}
+use Rattle.portal_base.specs.declared.caller.Caller.{Caller}
+use Rattle.portal_base.specs.declared.caller.Caller.TheVariants.{Anonymous, Named}
+use Rattle.portal_calls.specs.declared.call.Call.{Call}
+use Rattle.portal_keeper.specs.Changed.{rows_after}
+use Rattle.portal_keeper.specs.Keeping.{ChangesRows, KeepsRows, Shows}
+use Rattle.portal_keeper.specs.declared.change.Change.{Change}
+use Rattle.portal_keeper.specs.declared.row.KeptRow.{KeptRow}
+use Rattle.portal_core.specs.Changed.{AreUnused, changed, charge_of, charged, with_charge, with_planned}
+use Rattle.portal_core.specs.Fit.{IsFit}
+use Rattle.portal_core.specs.KeptRows.{AreSized, kept_rows}
+use Rattle.portal_core.specs.Parts.{IsConsistent, planned_in, state_of, with_prepared}
+use Rattle.portal_core.specs.Planned.{Datasets, People, PlannedChange, Tables, claims_of}
+use Rattle.portal_core.specs.PortalValue.{AreKept}
+use Rattle.portal_core.specs.RowChanges.{planned_row_changes}
+use Rattle.portal_core.specs.State.{State}
+use Rattle.portal_core.specs.View.{view_of}
+use Rattle.portal_core.specs.declared.parts.Parts.{Parts}
+use Rattle.portal_core.specs.declared.parts.Prepared.{Prepared}
+use Rattle.portal_core.specs.declared.quota.QuotaUsed.{QuotaUsed}
+use Rattle.portal_core.proofs.AcceptedChanges.{charged-rows}
+use Rattle.portal_core.proofs.Keeping.{fit_in_valid}
+use Rattle.portal_core.proofs.PlannedRows.{planned-follow}
+use Rattle.portal_core.proofs.Settling.{applied_consistent, kept_consistent}
+
+-- ---- a keeper's rows
+
+-- Rows that stay are shown as they were.
+pub shown_kept : (old new : Option (List KeptRow)) (rows : List KeptRow) → Shows old rows → KeepsRows old new
+    → Shows new rows
+shown_kept None None rows shown kept = tt
+shown_kept None (Some after) rows shown kept = absurd (cc)
+shown_kept (Some before) None rows shown kept = tt
+shown_kept (Some before) (Some after) rows shown kept = let same : before ≡ after = cc in sym same ∙ shown
+
+-- Rows that are changed are shown as they are after the changes.
+pub shown_changed : (old new : Option (List KeptRow)) (changes : List Change) (rows after : List KeptRow)
+    → Shows old rows → ChangesRows old changes new → rows_after changes rows ≡ after → Shows new after
+shown_changed old None changes rows after shown made is = tt
+shown_changed None (Some kept) changes rows after shown made is = absurd (made)
+shown_changed (Some before) (Some kept) changes rows after shown made is =
+    made ∙ ap (rows_after changes) shown ∙ is
+
+-- ---- parts
+
+-- Parts that make up the same state are kept as well.
+pub same_kept : (rows : Option (List KeptRow)) (old new : Parts) → AreKept rows old → state_of new ≡ state_of old
+    → IsValidShelf new.shelf → AreKept rows new
+same_kept rows old new kept same shelved = record {
+  consistent = kept_consistent old new kept.consistent same shelved;
+  sized = subst (λ (s : State). AreSized s.tables) (sym same) kept.sized;
+  kept = subst (λ (s : State). Shows rows (kept_rows s)) (sym same) kept.kept;
+}
+
+pub decided_kept : (rows : Option (List KeptRow)) (old new : Parts) → AreKept rows old → state_of new ≡ state_of old
+    → new.shelf ≡ old.shelf → AreKept rows new
+decided_kept rows old new kept same shelf =
+    same_kept rows old new kept same (subst IsValidShelf (sym shelf) kept.consistent.shelved)
+
+-- What is fit on the caller's view is fit on the state.
+pub fit_there : (planned : PlannedChange) (call : Call) (parts : Parts) → IsConsistent parts
+    → IsFit call (view_of call.caller (state_of parts)) planned → IsFit call (state_of parts) planned
+fit_there planned call parts consistent fit = fit_in_valid planned call (state_of parts) consistent.valid fit
+
+-- A change leaves what was accepted from each caller.
+quota_used-changed : (planned : PlannedChange) (state : State) → (changed planned state).quota_used ≡ state.quota_used
+quota_used-changed (People change) state = refl
+quota_used-changed (Datasets change) state = refl
+quota_used-changed (Tables change) state = refl
+
+-- A prepared change that is made is the planned one, charged.
+pub made_planned : (planned : PlannedChange) (call : Call) (prepared : Prepared) (state before after : State)
+    → before ≡ state → planned_in prepared.change ≡ planned
+    → prepared.charge ≡ charge_of call.caller call.size state.quota_used
+    → after ≡ with_prepared prepared before → after ≡ with_planned call planned state
+made_planned planned call prepared state before after same change charge made =
+    made
+    ∙ ap (with_prepared prepared) same
+    ∙ ap (λ (p : PlannedChange). with_charge prepared.charge (changed p state)) change
+    ∙ ap (λ (c : Option QuotaUsed). with_charge c (changed planned state))
+    (charge ∙ ap (charge_of call.caller call.size) (sym (quota_used-changed planned state)))
+
+-- Where the keeper refused, the parts are kept over its rows.
+pub refused_kept : (old new : Option (List KeptRow)) (before after : Parts) → AreKept old before
+    → state_of after ≡ state_of before → IsValidShelf after.shelf → KeepsRows old new → AreKept new after
+refused_kept old new before after kept same shelved rows =
+    let there = same_kept old before after kept same shelved in
+    record {
+      consistent = there.consistent;
+      sized = there.sized;
+      kept = shown_kept old new (kept_rows (state_of after)) there.kept rows;
+    }
+
+-- Where the keeper made the changes of rows, and the parts the change, they are kept again.
+pub applied_kept : (planned : PlannedChange) (call : Call) (before after : Parts) (old new : Option (List KeptRow))
+    → AreKept old before → IsFit call (view_of call.caller (state_of before)) planned
+    → AreUnused (state_of before) (claims_of planned)
+    → AreSized (changed planned (state_of before)).tables
+    → state_of after ≡ with_planned call planned (state_of before) → IsValidShelf after.shelf
+    → ChangesRows old (planned_row_changes planned (state_of before)) new → AreKept new after
+applied_kept planned call before after old new kept fit unused sized is shelved rows =
+    let state : State = state_of before in
+    let charged : kept_rows (with_planned call planned state) ≡ kept_rows (changed planned state) =
+    charged-rows call.caller call.size (changed planned state) in
+    record {
+      consistent = applied_consistent planned call before after kept.consistent fit unused is shelved;
+      sized = subst (λ (s : State). AreSized s.tables) (sym is) (sized_charged planned call state sized);
+      kept = subst (λ (s : State). Shows new (kept_rows s)) (sym is)
+          (subst (Shows new) (sym charged)
+          (shown_changed old new (planned_row_changes planned state) (kept_rows state)
+          (kept_rows (changed planned state)) kept.kept rows
+          (planned-follow planned call state kept.consistent.valid (fit_there planned call before kept.consistent fit)
+          unused kept.sized sized)));
+    }
+  where
+    sized_charged : (planned : PlannedChange) (call : Call) (state : State) → AreSized (changed planned state).tables
+        → AreSized (with_planned call planned state).tables
+    sized_charged planned call state sized = by call.caller sized
+      where
+        by : (caller : Caller) → AreSized (changed planned state).tables
+            → AreSized (charged caller call.size (changed planned state)).tables
+        by Anonymous s = s
+        by (Named user) s = s

@@ -1,0 +1,67 @@
+-- The parts of a state that are read back from the values that a store keeps of it: what has to hold of each part, so
+-- that the state is valid and has these values.
+use Rattle.std.specs.Prelude.{◌≡◌, ◌≢◌, ◌<◌, ◌≤◌, ◌^◌, ◌==◌, ℕ, true, List, [], All, if◌then◌else◌, map}
+use Rattle.std.specs.List.{Contains}
+use Rattle.org_roles.specs.PeopleLists.{AreSorted, PeopleLists, RolesHaveOrgs}
+use Rattle.packages.specs.declared.package.Package.{Package}
+use Rattle.portal_base.specs.Ordered.{ascending}
+use Rattle.portal_rows.specs.KeptValues.{kept_table_cmp}
+use Rattle.portal_rows.specs.declared.kept_tables.KeptTable.{KeptTable}
+use Rattle.portal_rows.specs.declared.org_reading.OrgWithRoles.{OrgWithRoles}
+use Rattle.dataset_answers.specs.Sound.{IsSound}
+use Rattle.datastore_answers.specs.Consistent.{AreConsistent}
+use Rattle.datastore_answers.specs.declared.address.Address.{Address}
+use Rattle.datastore_answers.specs.declared.resource_table.ResourceTable.{ResourceTable}
+use Rattle.datastore_table.specs.Meets.{IsTable}
+use Rattle.visibility.specs.TableSummary.{is_among}
+use Rattle.portal_core.specs.KeptRows.{AreSized, resource_id}
+use Rattle.portal_core.specs.Valid.{HasHome}
+use Rattle.portal_core.specs.Values.{kept_table, with_roles}
+
+-- ---- people
+
+-- The organizations with their roles are those of the people, who may be the people of a valid state.
+pub record ArePeopleOf (kept : List OrgWithRoles) (people : PeopleLists) : Type 0 where
+  pub orgs : map (with_roles people.roles) people.orgs ≡ kept
+  pub sorted : AreSorted people
+  pub named : All (λ o. o.name ≢ []) people.orgs
+  pub roles_have_orgs : RolesHaveOrgs people
+
+-- ---- datasets
+
+-- Datasets that may stand on one shelf, given the people: each is sound, and no two have one name.
+pub record AreShelvable (people : PeopleLists) (datasets : List Package) : Type 0 where
+  pub sound : All (IsSound people) datasets
+  pub names : (d e : Package) → Contains datasets d → Contains datasets e → d.name ≡ e.name → d ≡ e
+
+-- ---- tables
+
+-- The address of an existing resource that has this id.
+pub record IsAddressOf (datasets : List Package) (id : List ℕ) (address : Address) : Type 0 where
+  pub same : resource_id address ≡ id
+  pub number : address.number < 2 ^ 32
+  pub dataset : Package
+  pub is_present : Contains datasets dataset
+  pub own : dataset.id ≡ address.dataset
+  pub resource : is_among dataset.resources address.number ≡ true
+
+-- the number of a referenced resource, where the table's own number is the first one and a row has the second
+abbrev pub target_of : ℕ → ℕ → ℕ
+target_of own number = if number == 0 then own else number
+
+-- The table has these values, and may be a table of a valid state with these datasets. Each target is the number of a
+-- resource, and so at least 1: 0 is free to stand for the table's own number.
+pub record IsTableOf (datasets : List Package) (kept : KeptTable) (t : ResourceTable) : Type 0 where
+  pub same : kept_table t ≡ kept
+  pub number : t.address.number < 2 ^ 32
+  pub home : HasHome datasets t
+  pub targets : All (λ n. (1 ≤ n) × (n < 2 ^ 32)) t.targets
+  pub valid : IsTable t.table.schema t.table.rows t.table.next_id
+
+-- The tables have these values, and may be the tables of a valid state with these datasets.
+pub record AreTablesOf (datasets : List Package) (kept : List KeptTable) (tables : List ResourceTable) : Type 0 where
+  pub same : ascending kept_table_cmp (map kept_table tables) ≡ kept
+  pub consistent : AreConsistent tables
+  pub homes : All (HasHome datasets) tables
+  pub sized : AreSized tables
+  pub targets : All (λ (t : ResourceTable). All (λ number. number < 2 ^ 32) t.targets) tables

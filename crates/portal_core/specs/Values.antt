@@ -1,0 +1,43 @@
+-- What a store keeps of a state, as values: organizations with their roles, datasets, and tables.
+use Rattle.std.specs.Prelude.{◌≡◌, List, map}
+use Rattle.org_roles.specs.declared.entry.Membership.{Membership}
+use Rattle.org_roles.specs.declared.entry.Org.{Org}
+use Rattle.datastore_answers.specs.declared.resource_table.ResourceTable.{ResourceTable}
+use Rattle.portal_base.specs.Ordered.{ascending}
+use Rattle.portal_keeper.specs.declared.row.KeptRow.{KeptRow}
+use Rattle.portal_rows.specs.KeptValues.{kept_table_cmp}
+use Rattle.portal_rows.specs.OrgRows.{memberships_in}
+use Rattle.portal_rows.specs.TableRows.{head_of}
+use Rattle.portal_rows.specs.declared.kept_tables.KeptTable.{KeptTable}
+use Rattle.portal_rows.specs.declared.kept_values.KeptValues.{KeptValues}
+use Rattle.portal_rows.specs.declared.org_reading.OrgWithRoles.{OrgWithRoles}
+use Rattle.portal_core.specs.KeptRows.{kept_rows, resource_id, row_targets}
+use Rattle.portal_core.specs.State.{State}
+use Rattle.portal_core.specs.Typed.{IsTyped}
+use Rattle.portal_core.specs.Valid.{IsValid}
+
+-- the organization with those of these roles that are in it
+abbrev pub with_roles : List Membership → Org → OrgWithRoles
+with_roles roles org = record { org = org; roles = memberships_in org.name roles }
+
+-- The table under its resource's id. Of its references, those to itself have the target 0.
+abbrev pub kept_table : ResourceTable → KeptTable
+kept_table t = record {
+  resource = resource_id t.address;
+  head = head_of t.table (row_targets t);
+  rows = t.table.rows;
+}
+
+-- The values of a state. The tables are in the order of the bytes of their resources' ids, and not in that of their numbers.
+abbrev pub values_of : State → KeptValues
+values_of state = record {
+  orgs = map (with_roles state.people.roles) state.people.orgs;
+  datasets = state.datasets;
+  tables = ascending kept_table_cmp (map kept_table state.tables);
+}
+
+-- The rows are those of the state, which is valid and has values of the right types.
+pub record IsStateOf (rows : List KeptRow) (state : State) : Type 0 where
+  pub valid : IsValid state
+  pub typed : IsTyped state
+  pub kept : kept_rows state ≡ rows

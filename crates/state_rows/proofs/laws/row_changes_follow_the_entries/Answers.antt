@@ -1,7 +1,0 @@
--- Rows are known by their bodies. At a key that an entry is about, the last change says what the rows after the entries
--- have there; at any other key no entry changes the row.
-use Rattle.state_rows.proofs.RowChanges.{rows_after-row_changes}
-use Rattle.state_rows.proofs.laws.row_changes_follow_the_entries.Goals as goal
-
-pub returns : goal.returns
-returns c = rows_after-row_changes
