@@ -489,6 +489,7 @@ too_long_at_end first old mid new state after before reading end k same ends wit
     )
     by playing.ReadFault is = stopped (λ done. absurd (cc))
     by playing.WriteFault is = stopped (λ done. absurd (cc))
+    by playing.KeeperFault is = stopped (λ done. absurd (cc))
     by playing.TooLong is = stopped (λ done. absurd (cc))
     by playing.OutOfMemory is = stopped (λ done. absurd (cc))
 

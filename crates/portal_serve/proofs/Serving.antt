@@ -2,7 +2,7 @@
 use Rattle.std.proofs.Common.{◌≡◌, ◌≢◌, ℕ, ◌≤◌, List, [], ◌∷◌, ◌++◌, Bool, false, Result, Ok, Err, Option}
 use Rattle.std.proofs.Common.{Some, None}
 use Rattle.std.proofs.Common.{refl, sym, ap, subst, ◌∙◌, take, Bor}
-use Rattle.std.proofs.Common.{rules, inl, inr}
+use Rattle.std.proofs.Common.{arith, rules, inl, inr}
 use Rattle.std.specs.Prelude.{IsSome, IfSome, codes}
 use Rattle.http.specs.StatusCode.{reason_phrase}
 use Rattle.serde_json.specs.Data.{boolean, string, object, no_members, member}
@@ -28,14 +28,14 @@ use Rattle.portal_base.specs.Json.{data_of}
 use Rattle.portal_base.specs.Outside.{Rose, Takes, TakesPrefix}
 use Rattle.portal_base.specs.declared.json_value.Json.{the_lemmas}
 use Rattle.portal_calls.specs.declared.event.Refusal.TheVariants.{NotFound, NotAuthorized, Validation, NameInUse}
-use Rattle.portal_calls.specs.declared.event.Refusal.TheVariants.{OutOfMemory}
+use Rattle.portal_calls.specs.declared.event.Refusal.TheVariants.{KeeperFault, OutOfMemory}
 use Rattle.portal_calls.specs.declared.event.Reply.{Reply}
 use Rattle.portal_calls.specs.declared.event.Reply.TheVariants.{Accepted, Shown, Refused}
 use Rattle.portal_core.specs.State.{State}
 use Rattle.portal_serve.proofs.Working.{Rose-before}
 use Rattle.portal_serve.specs.RequestOutcome.{RequestOutcome}
 use Rattle.portal_serve.specs.Served.{Answers, LinkTrace, IsReadingAnswer, Writes, WritesFault, answer_text, error_text}
-use Rattle.portal_serve.specs.Served.{fault_text, memory_text}
+use Rattle.portal_serve.specs.Served.{RepliesWith, fault_text, memory_text, store_text}
 use Rattle.portal_serve.specs.declared.serve.Served.{Served}
 use Rattle.portal_serve.specs.declared.serve.Served.TheVariants as served
 
@@ -91,12 +91,37 @@ has_phrase (Ok (Refused (NotFound kind))) = refl
 has_phrase (Ok (Refused (NotAuthorized right))) = refl
 has_phrase (Ok (Refused (Validation faults))) = refl
 has_phrase (Ok (Refused (NameInUse key))) = refl
+has_phrase (Ok (Refused KeeperFault)) = refl
 has_phrase (Ok (Refused OutOfMemory)) = refl
 has_phrase (Err TooLong) = refl
 has_phrase (Err NotJson) = refl
 has_phrase (Err Fraction) = refl
 has_phrase (Err (UnknownAction name)) = refl
 has_phrase (Err no_memory) = refl
+
+-- so has that of the reply to a request
+pub replies_phrase : (incoming : Incoming) (outcome : RequestOutcome) (state : State) (text : ℕ × List ℕ) (after : State)
+    → RepliesWith incoming outcome state text after → IsSome (reason_phrase text.0)
+replies_phrase incoming outcome state text after (inl r) =
+    subst (λ (t : ℕ × List ℕ). IsSome (reason_phrase t.0)) (sym r.0) (has_phrase outcome.reply)
+replies_phrase incoming outcome state text after (inr r) =
+    subst (λ (t : ℕ × List ℕ). IsSome (reason_phrase t.0)) (sym r.0) (has_phrase (Ok (Refused KeeperFault)))
+
+-- no reply but that of a store that failed has the status 503
+pub status_kept : (reply : Result Reply Early) → reply ≢ Ok (Refused KeeperFault) → reply_status reply ≢ 503
+status_kept (Ok (Accepted value)) other = λ is. absurd (omega (arith, is))
+status_kept (Ok (Shown value)) other = λ is. absurd (omega (arith, is))
+status_kept (Ok (Refused (NotFound kind))) other = λ is. absurd (omega (arith, is))
+status_kept (Ok (Refused (NotAuthorized right))) other = λ is. absurd (omega (arith, is))
+status_kept (Ok (Refused (Validation faults))) other = λ is. absurd (omega (arith, is))
+status_kept (Ok (Refused (NameInUse key))) other = λ is. absurd (omega (arith, is))
+status_kept (Ok (Refused KeeperFault)) other = λ is. other refl
+status_kept (Ok (Refused OutOfMemory)) other = λ is. absurd (omega (arith, is))
+status_kept (Err TooLong) other = λ is. absurd (omega (arith, is))
+status_kept (Err NotJson) other = λ is. absurd (omega (arith, is))
+status_kept (Err Fraction) other = λ is. absurd (omega (arith, is))
+status_kept (Err (UnknownAction name)) other = λ is. absurd (omega (arith, is))
+status_kept (Err no_memory) other = λ is. absurd (omega (arith, is))
 
 -- ---- a link that was read before it was written to
 
@@ -117,8 +142,10 @@ pub answers_since : (incoming : Incoming) (outcome : RequestOutcome) (state : St
     → Answers incoming outcome state middle new end after → Answers incoming outcome state old new end after
 answers_since incoming outcome state old middle new end after same rose (inl a) =
     inl (writes_since (answer_text incoming outcome) old middle new end same rose a.0, a.1)
-answers_since incoming outcome state old middle new end after same rose (inr a) =
-    inr (writes_since memory_text old middle new end same rose a.0, a.1)
+answers_since incoming outcome state old middle new end after same rose (inr (inl a)) =
+    inr (inl (writes_since (store_text incoming) old middle new end same rose a.0, a.1))
+answers_since incoming outcome state old middle new end after same rose (inr (inr a)) =
+    inr (inr (writes_since memory_text old middle new end same rose a.0, a.1))
 
 -- and the reply to a fault
 pub fault_since : (fault : FrontFault) (old middle new : LinkTrace) (end : Served) → middle.taken ≡ old.taken

@@ -379,6 +379,7 @@ stops_before state script old = inl (begins_no_line state old old refl)
 -- processing a line stops after the line was begun
 pub begun_in_line : (why : CallStop) (end : PlayEnd) → end ≡ end_of_call why → 1 ≤ begun_limit end
 begun_in_line call_stop.WriteFault end is = subst (λ e. 1 ≤ begun_limit e) (sym is) (omega arith)
+begun_in_line call_stop.KeeperFault end is = subst (λ e. 1 ≤ begun_limit e) (sym is) (omega arith)
 begun_in_line call_stop.OutOfMemory end is = subst (λ e. 1 ≤ begun_limit e) (sym is) (omega arith)
 
 pub on_err_always : {T E P : Type 0} (r : Result T E) → P → OnErr r P

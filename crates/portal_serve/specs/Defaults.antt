@@ -6,6 +6,7 @@ use Rattle.org_roles.specs.declared.entry.Membership.{Membership}
 use Rattle.org_roles.specs.declared.role.Role.{Role}
 use Rattle.org_roles.specs.declared.role.Role.TheVariants.{Member, Editor, Admin}
 use Rattle.portal_core.specs.State.{State}
+use Rattle.portal_core.specs.declared.opening.Opening.{Opening}
 use Rattle.portal_serve.specs.Tokens.{Digests, digest_of}
 
 abbrev pub a_user : List ℕ → Bool → User
@@ -27,6 +28,10 @@ default_org = record { name = codes "city"; title = codes "City"; description = 
 -- ann edits, bob is a member, cyn administers
 abbrev pub default_roles : List Membership
 default_roles = city_role (codes "ann") Editor ∷ city_role (codes "bob") Member ∷ city_role (codes "cyn") Admin ∷ []
+
+-- what the default portal is opened with
+abbrev pub default_opening : Opening
+default_opening = record { users = default_users; orgs = default_org ∷ []; roles = default_roles }
 
 -- The state before the first line of a script: these people, no dataset, no table, and nothing accepted.
 abbrev pub default_state : State

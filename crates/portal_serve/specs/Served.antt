@@ -19,6 +19,8 @@ use Rattle.portal_base.specs.Json.{json_text}
 use Rattle.portal_base.specs.Outside.{Rose, Takes, TakesPrefix}
 use Rattle.portal_base.specs.declared.json_value.Json.{Json}
 use Rattle.portal_calls.specs.declared.call.Request.{Request}
+use Rattle.portal_calls.specs.declared.event.Refusal.TheVariants.{KeeperFault}
+use Rattle.portal_calls.specs.declared.event.Reply.TheVariants.{Refused}
 use Rattle.portal_core.specs.State.{State}
 use Rattle.portal_serve.specs.RequestOutcome.{RequestOutcome, outcome_of_request}
 use Rattle.portal_serve.specs.Tokens.{Digests, caller_of_token}
@@ -58,6 +60,17 @@ outcome_of_incoming digests state moment nonce incoming =
 -- the status and the text of the reply
 abbrev pub answer_text : Incoming → RequestOutcome → ℕ × List ℕ
 answer_text incoming outcome = reply_text (Some (name_in incoming)) outcome.reply
+
+-- the status and the text of the reply that the store failed to keep the change of the request
+abbrev pub store_text : Incoming → ℕ × List ℕ
+store_text incoming = reply_text (Some (name_in incoming)) (Ok (Refused KeeperFault))
+
+-- The text is that of the reply, and the state is that of the outcome. Or it says that the store failed, and the state is
+-- as before.
+abbrev pub RepliesWith : Incoming → RequestOutcome → State → ℕ × List ℕ → State → Type 0
+RepliesWith incoming outcome state text after =
+    ((text ≡ answer_text incoming outcome) × (after ≡ outcome.state))
+    ⊎ ((text ≡ store_text incoming) × (after ≡ state))
 
 -- ---- faults of the connection
 
@@ -115,12 +128,13 @@ abbrev pub WritesFault : FrontFault → Option (ℕ × List ℕ) → LinkTrace �
 WritesFault fault (Some text) old new end = Writes text old new end
 WritesFault fault None old new end = WritesNothing fault old new end
 
--- The reply to the request was written, and the state is that of its outcome. Where memory ran out, the reply says so,
--- and the call may have been made or not.
+-- The reply to the request was written, and the state is that of its outcome. Where the store failed, the reply says so, and
+-- the state is as before. Where memory ran out, the reply says so, and the call may have been made or not.
 abbrev pub Answers : Incoming → RequestOutcome → State → LinkTrace → LinkTrace → Served → State → Type 0
 Answers incoming outcome state old new end after =
     (Writes (answer_text incoming outcome) old new end × (after ≡ outcome.state))
-    ⊎ (Writes memory_text old new end × ((after ≡ state) ⊎ (after ≡ outcome.state)))
+    ⊎ ((Writes (store_text incoming) old new end × (after ≡ state))
+    ⊎ (Writes memory_text old new end × ((after ≡ state) ⊎ (after ≡ outcome.state))))
 
 -- The response to what was received was written, and this is the state after it.
 abbrev pub Processes : Digests → State → ℤ → ℕ → Result Incoming FrontFault → LinkTrace → LinkTrace → Served → State

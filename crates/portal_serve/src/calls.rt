@@ -1,5 +1,5 @@
 //! Calls on a stage: each draws its moment and nonce, is made on the portal, and writes its reply's line.
-ghost use Rattle.std.specs.Prelude.{◌≡◌, ◌⊎◌, ◌≤◌, Some, Err, IfOk, OnOk, OnErr};
+ghost use Rattle.std.specs.Prelude.{◌≡◌, ◌⊎◌, ◌≤◌, Some, Err, IfOk, OnOk, OnErr, IsErrOf};
 ghost use Rattle.portal_base.specs.Outside.{Rose, Takes, TakesPrefix};
 ghost use Rattle.action_api.specs.Reply.{reply_status};
 ghost use Rattle.portal_serve.specs.Calls.{BeginsCall, MakesCall};
@@ -7,7 +7,7 @@ ghost use Rattle.portal_serve.specs.Values.{script_call};
 ghost use Rattle.portal_serve.specs.Stage.{AreSameLoans, trace_of};
 ghost use Rattle.portal_serve.specs.Transcript.{outcome_of_call, reply_line};
 
-use crate::calling::{Drawn, reply_to_request};
+use crate::calling::{Drawn, NoReply, reply_to_request};
 use crate::line::render_line;
 use crate::script::ScriptCall;
 use crate::stage::Stage;
@@ -20,6 +20,7 @@ use portal_base::outside::{Clock, Nonces, Sink};
 use portal_base::seq::Seq;
 use portal_calls::event::Reply;
 use portal_core::portal::Portal;
+use portal_keeper::keeper::Keeper;
 use std::alloc::{AllocError, Global};
 
 /// Why a call's line isn't complete.
@@ -27,6 +28,8 @@ use std::alloc::{AllocError, Global};
 pub enum CallStop {
     /// Output's count of faults rose.
     WriteFault,
+    /// The keeper's count of faults rose.
+    KeeperFault,
     /// Memory ran out.
     OutOfMemory,
 }
@@ -39,6 +42,20 @@ impl From<AllocError> for CallStop {
 
     fn from(_refused: AllocError) -> CallStop {
         CallStop::OutOfMemory
+    }
+}
+
+impl From<NoReply> for CallStop {
+    ghost use Rattle.std.specs.Prelude.{◌≡◌};
+    ghost use Rattle.portal_serve.specs.Stopped.{stop_without_reply};
+
+    ghost from_gives = { λ none stop. stop ≡ stop_without_reply none };
+
+    fn from(none: NoReply) -> CallStop {
+        match none {
+            NoReply::KeeperFault => CallStop::KeeperFault,
+            NoReply::OutOfMemory => CallStop::OutOfMemory,
+        }
     }
 }
 
@@ -70,39 +87,45 @@ pub(crate) fn write_line<O: Sink, C: Clock, N: Nonces>(
 }
 
 /// The reply to the call of a caller for an action with a body.
-fn reply_to_call(
+fn reply_to_call<P: Keeper>(
     alloc: Global,
-    portal: &mut Portal,
+    portal: &mut Portal<P>,
     caller: Caller,
     action: &str,
     body: Json,
     drawn: Drawn,
-) -> Result<Result<Reply, Early>, AllocError>
-    ensures reply { IfOk result (λ reply. reply ≡ (outcome_of_call portal.old
+) -> Result<Result<Reply, Early>, NoReply>
+    ensures reply { IfOk result (λ reply. reply ≡ (outcome_of_call portal.old.state
         (record { caller = caller; action = action.now; body = body }) drawn.size drawn.moment drawn.nonce.0).reply) }
-    ensures state { OnOk result (portal.new ≡ (outcome_of_call portal.old
+    ensures state { OnOk result (portal.new.state ≡ (outcome_of_call portal.old.state
         (record { caller = caller; action = action.now; body = body }) drawn.size drawn.moment drawn.nonce.0).state) }
-    ensures kept { OnErr result (portal.new ≡ portal.old) }
+    ensures kept { OnErr result (portal.new.state ≡ portal.old.state) }
+    ensures keeper_fault { IsErrOf result NoReply.KeeperFault
+        → Rose (P.faults portal.old.keeper) (P.faults portal.new.keeper) }
+    ensures keeper_counts { P.faults portal.old.keeper ≤ P.faults portal.new.keeper }
 {
     let request = request_for(alloc, action, body);
     reply_to_request(portal, caller, request, drawn)
 }
 
 /// Makes a call, and renders its line of the transcript.
-fn process_call(
+fn process_call<P: Keeper>(
     alloc: Global,
-    portal: &mut Portal,
+    portal: &mut Portal<P>,
     call: ScriptCall,
     drawn: Drawn,
-) -> Result<ProcessedCall, AllocError>
+) -> Result<ProcessedCall, NoReply>
     ensures status { IfOk result (λ processed. processed.status
-        ≡ reply_status (outcome_of_call portal.old (script_call call) drawn.size drawn.moment drawn.nonce.0).reply) }
+        ≡ reply_status (outcome_of_call portal.old.state (script_call call) drawn.size drawn.moment drawn.nonce.0).reply) }
     ensures line { IfOk result (λ processed. processed.line ≡ reply_line (Some call.action)
-        (outcome_of_call portal.old (script_call call) drawn.size drawn.moment drawn.nonce.0).reply) }
-    ensures state { OnOk result (portal.new
-        ≡ (outcome_of_call portal.old (script_call call) drawn.size drawn.moment drawn.nonce.0).state) }
-    ensures stopped { OnErr result ((portal.new ≡ portal.old) ⊎ (portal.new
-        ≡ (outcome_of_call portal.old (script_call call) drawn.size drawn.moment drawn.nonce.0).state)) }
+        (outcome_of_call portal.old.state (script_call call) drawn.size drawn.moment drawn.nonce.0).reply) }
+    ensures state { OnOk result (portal.new.state
+        ≡ (outcome_of_call portal.old.state (script_call call) drawn.size drawn.moment drawn.nonce.0).state) }
+    ensures stopped { OnErr result ((portal.new.state ≡ portal.old.state) ⊎ (portal.new.state
+        ≡ (outcome_of_call portal.old.state (script_call call) drawn.size drawn.moment drawn.nonce.0).state)) }
+    ensures keeper_fault { IsErrOf result NoReply.KeeperFault
+        → Rose (P.faults portal.old.keeper) (P.faults portal.new.keeper) }
+    ensures keeper_counts { P.faults portal.old.keeper ≤ P.faults portal.new.keeper }
 {
     let ScriptCall {
         caller,
@@ -117,21 +140,24 @@ fn process_call(
 
 /// Makes a call of this size on a stage, writes its line, and returns its reply's HTTP status. Where it stops, output
 /// has taken some prefix of the line, and the call may have been made.
-pub fn make_call<O: Sink, C: Clock, N: Nonces>(
+pub fn make_call<P: Keeper, O: Sink, C: Clock, N: Nonces>(
     alloc: Global,
-    portal: &mut Portal,
+    portal: &mut Portal<P>,
     call: ScriptCall,
     size: u64,
     stage: &mut Stage<'_, '_, '_, O, C, N>,
 ) -> Result<u16, CallStop>
-    ensures made { IfOk result (λ status. MakesCall portal.old (script_call call) size status portal.new
+    ensures made { IfOk result (λ status. MakesCall portal.old.state (script_call call) size status portal.new.state
         (trace_of O.taken C.given N.given stage.old) (trace_of O.taken C.given N.given stage.new)) }
-    ensures begun { OnErr result (BeginsCall portal.old (script_call call) size portal.new
+    ensures begun { OnErr result (BeginsCall portal.old.state (script_call call) size portal.new.state
         (trace_of O.taken C.given N.given stage.old) (trace_of O.taken C.given N.given stage.new)) }
     ensures fault { result ≡ Err CallStop.WriteFault
         → Rose (O.faults stage.old.output.now) (O.faults stage.new.output.now) }
     ensures counts { O.faults stage.old.output.now ≤ O.faults stage.new.output.now }
     ensures loans { AreSameLoans stage.old stage.new }
+    ensures keeper_fault { IsErrOf result CallStop.KeeperFault
+        → Rose (P.faults portal.old.keeper) (P.faults portal.new.keeper) }
+    ensures keeper_counts { P.faults portal.old.keeper ≤ P.faults portal.new.keeper }
 {
     let (moment, nonce) = stage.draw();
     let drawn = Drawn {

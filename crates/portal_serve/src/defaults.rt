@@ -2,7 +2,7 @@
 //! organization.
 ghost use Rattle.std.specs.Prelude.{◌≡◌, [], ◌∷◌, ◌++◌, codes, pos, IfOk};
 ghost use Rattle.portal_serve.specs.Defaults.{a_user, city_role, default_users, default_org, default_roles};
-ghost use Rattle.portal_serve.specs.Defaults.{default_state};
+ghost use Rattle.portal_serve.specs.Defaults.{default_opening, default_state};
 ghost use Rattle.portal_serve.specs.Defaults.{default_digests};
 ghost use Rattle.portal_serve.specs.Tokens.{digest_of};
 
@@ -13,6 +13,7 @@ use portal_base::moment::Moment;
 use portal_base::seq::Seq;
 use portal_base::text::Text;
 use portal_core::portal::{Opening, Portal};
+use portal_keeper::memory::MemoryKeeper;
 use std::alloc::{AllocError, Global};
 
 fn user(alloc: Global, name: &str, sysadmin: bool) -> Result<User, AllocError>
@@ -75,7 +76,7 @@ fn roles(alloc: Global) -> Result<Seq<Membership>, AllocError>
 /// editor, bob as member and cyn as admin.
 pub fn default_opening(alloc: Global) -> Result<Opening, AllocError>
     ensures { IfOk result
-        (λ opening. opening ≡ record { users = default_users; orgs = default_org ∷ []; roles = default_roles }) }
+        (λ opening. opening ≡ default_opening) }
 {
     Ok(Opening {
         users: users(alloc)?,
@@ -84,12 +85,19 @@ pub fn default_opening(alloc: Global) -> Result<Opening, AllocError>
     })
 }
 
-/// The portal of that opening.
-pub fn default_portal(alloc: Global) -> Result<Portal, AllocError>
-    ensures { IfOk result (λ portal. portal ≡ default_state) }
+/// A keeper in memory without rows, which never fails.
+fn empty_keeper(alloc: Global) -> MemoryKeeper
+    ensures { result.rows ≡ [] }
+{
+    MemoryKeeper::new(alloc, Seq::new(alloc), Seq::new(alloc))
+}
+
+/// The portal of that opening, over a keeper in memory.
+pub fn default_portal(alloc: Global) -> Result<Portal<MemoryKeeper>, AllocError>
+    ensures { IfOk result (λ portal. portal.state ≡ default_state) }
 {
     let opening = default_opening(alloc)?;
-    match Portal::open(alloc, &opening) {
+    match Portal::open(alloc, empty_keeper(alloc), &opening) {
         Ok(portal) => Ok(portal),
         Err(_fault) => Err(AllocError),
     }

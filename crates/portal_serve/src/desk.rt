@@ -7,24 +7,26 @@ use crate::serve::serve_link;
 use crate::tokens::Tokens;
 use portal_base::outside::{Clock, Desk, Failed, Listener, Nonces};
 use portal_core::portal::Portal;
+use portal_keeper::keeper::Keeper;
 use std::alloc::Global;
 
 /// Serves the next link, and returns whether there was one.
-fn serve_next<L: Listener, C: Clock, N: Nonces>(
+fn serve_next<P: Keeper, L: Listener, C: Clock, N: Nonces>(
     alloc: Global,
-    portal: &mut Portal,
+    portal: &mut Portal<P>,
     tokens: &Tokens,
     desk: &mut Desk<L, C, N>,
 ) -> Result<bool, Failed>
     requires home { L.is_out desk.old.listener ≡ false }
     ensures home { L.is_out desk.new.listener ≡ false }
     ensures next { ServesNext (λ peer. link_trace (L.Peer.to_come peer) (L.Peer.taken peer) (L.Peer.faults peer))
-        tokens.now portal.old
+        tokens.now portal.old.state
         (desk_trace (L.to_come desk.old.listener) (L.taken_back desk.old.listener) (L.count desk.old.listener)
         (L.is_at_end desk.old.listener) (L.faults desk.old.listener) (C.given desk.old.clock) (N.given desk.old.nonces))
         (desk_trace (L.to_come desk.new.listener) (L.taken_back desk.new.listener) (L.count desk.new.listener)
         (L.is_at_end desk.new.listener) (L.faults desk.new.listener) (C.given desk.new.clock) (N.given desk.new.nonces))
-        portal.new result }
+        portal.new.state result }
+    ensures keeper_counts { P.faults portal.old.keeper ≤ P.faults portal.new.keeper }
     ensures counts { L.faults desk.old.listener ≤ L.faults desk.new.listener }
 {
     let mut peer = match desk.listener.accept() {
@@ -41,9 +43,9 @@ fn serve_next<L: Listener, C: Clock, N: Nonces>(
 
 /// Serves the desk's links one after another, at most `limit` of them, and gives each back to the listener. It fails
 /// where the listener's count of faults rose.
-pub fn serve_desk<L: Listener, C: Clock, N: Nonces>(
+pub fn serve_desk<P: Keeper, L: Listener, C: Clock, N: Nonces>(
     alloc: Global,
-    portal: &mut Portal,
+    portal: &mut Portal<P>,
     tokens: &Tokens,
     desk: &mut Desk<L, C, N>,
     limit: u64,
@@ -51,12 +53,13 @@ pub fn serve_desk<L: Listener, C: Clock, N: Nonces>(
     requires home { L.is_out desk.old.listener ≡ false }
     ensures home { L.is_out desk.new.listener ≡ false }
     ensures served { ServesDesk (λ peer. link_trace (L.Peer.to_come peer) (L.Peer.taken peer) (L.Peer.faults peer))
-        tokens.now portal.old limit
+        tokens.now portal.old.state limit
         (desk_trace (L.to_come desk.old.listener) (L.taken_back desk.old.listener) (L.count desk.old.listener)
         (L.is_at_end desk.old.listener) (L.faults desk.old.listener) (C.given desk.old.clock) (N.given desk.old.nonces))
         (desk_trace (L.to_come desk.new.listener) (L.taken_back desk.new.listener) (L.count desk.new.listener)
         (L.is_at_end desk.new.listener) (L.faults desk.new.listener) (C.given desk.new.clock) (N.given desk.new.nonces))
-        portal.new result }
+        portal.new.state result }
+    ensures keeper_counts { P.faults portal.old.keeper ≤ P.faults portal.new.keeper }
     ensures counts { L.faults desk.old.listener ≤ L.faults desk.new.listener }
 {
     for _ in 0..limit {

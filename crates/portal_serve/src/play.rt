@@ -20,6 +20,7 @@ use crate::stage::Stage;
 use action_api::early::Early;
 use portal_base::outside::{Clock, Nonces, Sink, Source};
 use portal_core::portal::Portal;
+use portal_keeper::keeper::Keeper;
 use portal_lines::lines::{LineFault, LineReader, NextLine};
 use std::alloc::Global;
 
@@ -35,6 +36,8 @@ pub enum PlayEnd {
     ReadFault,
     /// Output's count of faults rose.
     WriteFault,
+    /// The keeper's count of faults rose.
+    KeeperFault,
     /// Input gave more than 2^40 bytes.
     TooLong,
     /// Memory ran out.
@@ -42,22 +45,25 @@ pub enum PlayEnd {
 }
 
 /// Plays the call that a line asks for.
-fn play_call<O: Sink, C: Clock, N: Nonces>(
+fn play_call<P: Keeper, O: Sink, C: Clock, N: Nonces>(
     alloc: Global,
-    portal: &mut Portal,
+    portal: &mut Portal<P>,
     call: ScriptCall,
     line: &[u8],
     stage: &mut Stage<'_, '_, '_, O, C, N>,
 ) -> Result<(), CallStop>
     requires { call_of_line line.now ≡ Ok (script_call call) }
-    ensures ok { OnOk result (ProcessesLines portal.old (line.now ∷ []) portal.new
+    ensures ok { OnOk result (ProcessesLines portal.old.state (line.now ∷ []) portal.new.state
         (trace_of O.taken C.given N.given stage.old) (trace_of O.taken C.given N.given stage.new)) }
-    ensures cut { OnErr result (StopsLines portal.old (line.now ∷ []) portal.new
+    ensures cut { OnErr result (StopsLines portal.old.state (line.now ∷ []) portal.new.state
         (trace_of O.taken C.given N.given stage.old) (trace_of O.taken C.given N.given stage.new)) }
     ensures fault { result ≡ Err CallStop.WriteFault
         → Rose (O.faults stage.old.output.now) (O.faults stage.new.output.now) }
     ensures counts { O.faults stage.old.output.now ≤ O.faults stage.new.output.now }
     ensures loans { AreSameLoans stage.old stage.new }
+    ensures keeper_fault { result ≡ Err CallStop.KeeperFault
+        → Rose (P.faults portal.old.keeper) (P.faults portal.new.keeper) }
+    ensures keeper_counts { P.faults portal.old.keeper ≤ P.faults portal.new.keeper }
 {
     match make_call(alloc, portal, call, line.len() as u64, stage) {
         Ok(_status) => Ok(()),
@@ -76,6 +82,7 @@ fn write_early<O: Sink, C: Clock, N: Nonces>(
         (O.taken stage.new.output.now)) }
     ensures fault { result ≡ Err CallStop.WriteFault
         → Rose (O.faults stage.old.output.now) (O.faults stage.new.output.now) }
+    ensures other { result ≢ Err CallStop.KeeperFault }
     ensures counts { O.faults stage.old.output.now ≤ O.faults stage.new.output.now }
     ensures clock { stage.new.clock.now ≡ stage.old.clock.now }
     ensures nonces { stage.new.nonces.now ≡ stage.old.nonces.now }
@@ -86,21 +93,24 @@ fn write_early<O: Sink, C: Clock, N: Nonces>(
 }
 
 /// Processes a line, and skips an empty one.
-fn play_line<O: Sink, C: Clock, N: Nonces>(
+fn play_line<P: Keeper, O: Sink, C: Clock, N: Nonces>(
     alloc: Global,
-    portal: &mut Portal,
+    portal: &mut Portal<P>,
     line: &[u8],
     stage: &mut Stage<'_, '_, '_, O, C, N>,
 ) -> Result<(), CallStop>
     requires { length line.now ≤ LONGEST_LINE }
-    ensures ok { OnOk result (ProcessesLines portal.old (unless_empty line.now) portal.new
+    ensures ok { OnOk result (ProcessesLines portal.old.state (unless_empty line.now) portal.new.state
         (trace_of O.taken C.given N.given stage.old) (trace_of O.taken C.given N.given stage.new)) }
-    ensures cut { OnErr result (StopsLines portal.old (unless_empty line.now) portal.new
+    ensures cut { OnErr result (StopsLines portal.old.state (unless_empty line.now) portal.new.state
         (trace_of O.taken C.given N.given stage.old) (trace_of O.taken C.given N.given stage.new)) }
     ensures fault { result ≡ Err CallStop.WriteFault
         → Rose (O.faults stage.old.output.now) (O.faults stage.new.output.now) }
     ensures counts { O.faults stage.old.output.now ≤ O.faults stage.new.output.now }
     ensures loans { AreSameLoans stage.old stage.new }
+    ensures keeper_fault { result ≡ Err CallStop.KeeperFault
+        → Rose (P.faults portal.old.keeper) (P.faults portal.new.keeper) }
+    ensures keeper_counts { P.faults portal.old.keeper ≤ P.faults portal.new.keeper }
 {
     if line.is_empty() {
         return Ok(());
@@ -118,6 +128,7 @@ fn end_of_call(stop: CallStop) -> PlayEnd
 {
     match stop {
         CallStop::WriteFault => PlayEnd::WriteFault,
+        CallStop::KeeperFault => PlayEnd::KeeperFault,
         CallStop::OutOfMemory => PlayEnd::OutOfMemory,
     }
 }
@@ -135,9 +146,9 @@ fn end_of_fault(fault: LineFault) -> PlayEnd
 }
 
 /// Processes the next line of input. If playing ended with it, returns how.
-fn play_next<S: Source, O: Sink, C: Clock, N: Nonces>(
+fn play_next<P: Keeper, S: Source, O: Sink, C: Clock, N: Nonces>(
     alloc: Global,
-    portal: &mut Portal,
+    portal: &mut Portal<P>,
     reader: &mut LineReader,
     input: &mut S,
     stage: &mut Stage<'_, '_, '_, O, C, N>,
@@ -148,20 +159,20 @@ fn play_next<S: Source, O: Sink, C: Clock, N: Nonces>(
     ensures limit { reader.new.limit ≡ reader.old.limit }
     ensures goes_on { result ≡ None → reader.new.has_failed ≡ false }
 
-    ensures more { result ≡ None → TakesTurn portal.old portal.new reader.old reader.new
+    ensures more { result ≡ None → TakesTurn portal.old.state portal.new.state reader.old reader.new
         (with_input (S.to_come input.old) (trace_of O.taken C.given N.given stage.old))
         (with_input (S.to_come input.new) (trace_of O.taken C.given N.given stage.new)) }
     ensures falls { result ≡ None → bytes_left reader.new < bytes_left reader.old }
-    ensures end { result ≡ Some PlayEnd.Done → EndsTurn portal.old portal.new reader.old reader.new
+    ensures end { result ≡ Some PlayEnd.Done → EndsTurn portal.old.state portal.new.state reader.old reader.new
         (with_input (S.to_come input.old) (trace_of O.taken C.given N.given stage.old))
         (with_input (S.to_come input.new) (trace_of O.taken C.given N.given stage.new)) }
     ensures within { result ≡ Some PlayEnd.Done → reader.new.received ≤ reader.new.limit }
 
-    ensures cut { IfSome result (λ end. end ≢ PlayEnd.Done → StopsTurn (begun_limit end) portal.old portal.new
+    ensures cut { IfSome result (λ end. end ≢ PlayEnd.Done → StopsTurn (begun_limit end) portal.old.state portal.new.state
         reader.old reader.new
         (with_input (S.to_come input.old) (trace_of O.taken C.given N.given stage.old))
         (with_input (S.to_come input.new) (trace_of O.taken C.given N.given stage.new))) }
-    ensures unended { result ≡ Some PlayEnd.ReadFault → FailsTurn portal.old portal.new reader.old reader.new
+    ensures unended { result ≡ Some PlayEnd.ReadFault → FailsTurn portal.old.state portal.new.state reader.old reader.new
         (with_input (S.to_come input.old) (trace_of O.taken C.given N.given stage.old))
         (with_input (S.to_come input.new) (trace_of O.taken C.given N.given stage.new)) }
     ensures read_fault { result ≡ Some PlayEnd.ReadFault → Rose (S.faults input.old) (S.faults input.new) }
@@ -171,6 +182,9 @@ fn play_next<S: Source, O: Sink, C: Clock, N: Nonces>(
     ensures reads { S.faults input.old ≤ S.faults input.new }
     ensures writes { O.faults stage.old.output.now ≤ O.faults stage.new.output.now }
     ensures loans { AreSameLoans stage.old stage.new }
+    ensures keeper_fault { result ≡ Some PlayEnd.KeeperFault
+        → Rose (P.faults portal.old.keeper) (P.faults portal.new.keeper) }
+    ensures keeper_counts { P.faults portal.old.keeper ≤ P.faults portal.new.keeper }
 {
     match reader.next(input) {
         Ok(NextLine::Line) => match play_line(alloc, portal, reader.line(), stage) {
@@ -187,23 +201,23 @@ fn play_next<S: Source, O: Sink, C: Clock, N: Nonces>(
 }
 
 /// Processes the lines of input in order.
-fn play_lines<S: Source, O: Sink, C: Clock, N: Nonces>(
+fn play_lines<P: Keeper, S: Source, O: Sink, C: Clock, N: Nonces>(
     alloc: Global,
-    portal: &mut Portal,
+    portal: &mut Portal<P>,
     input: &mut S,
     stage: &mut Stage<'_, '_, '_, O, C, N>,
 ) -> PlayEnd
     ensures done { result ≡ PlayEnd.Done → (whole : List ℕ) → S.to_come input.old ≡ Some whole
-        → PlaysAll portal.old whole portal.new
+        → PlaysAll portal.old.state whole portal.new.state
         (with_input (S.to_come input.old) (trace_of O.taken C.given N.given stage.old))
         (with_input (S.to_come input.new) (trace_of O.taken C.given N.given stage.new)) }
     ensures cut { result ≢ PlayEnd.Done → (whole : List ℕ) → S.to_come input.old ≡ Some whole
-        → PlaysPart (begun_limit result) portal.old whole portal.new
+        → PlaysPart (begun_limit result) portal.old.state whole portal.new.state
         (with_input (S.to_come input.old) (trace_of O.taken C.given N.given stage.old))
         (with_input (S.to_come input.new) (trace_of O.taken C.given N.given stage.new)) }
 
     ensures unended { result ≡ PlayEnd.ReadFault → (whole : List ℕ) → S.to_come input.old ≡ Some whole
-        → PlaysRead portal.old whole portal.new
+        → PlaysRead portal.old.state whole portal.new.state
         (with_input (S.to_come input.old) (trace_of O.taken C.given N.given stage.old))
         (with_input (S.to_come input.new) (trace_of O.taken C.given N.given stage.new)) }
     ensures read_fault { result ≡ PlayEnd.ReadFault → Rose (S.faults input.old) (S.faults input.new) }
@@ -212,6 +226,9 @@ fn play_lines<S: Source, O: Sink, C: Clock, N: Nonces>(
     ensures too_long { (whole : List ℕ) → S.to_come input.old ≡ Some whole →
         ((result ≡ PlayEnd.TooLong) ↔ GaveTooMuch whole (S.to_come input.new)) }
     ensures loans { AreSameLoans stage.old stage.new }
+    ensures keeper_fault { result ≡ PlayEnd.KeeperFault
+        → Rose (P.faults portal.old.keeper) (P.faults portal.new.keeper) }
+    ensures keeper_counts { P.faults portal.old.keeper ≤ P.faults portal.new.keeper }
 {
     let mut reader = match LineReader::new(alloc, LONGEST_LINE, INPUT_LIMIT) {
         Ok(reader) => reader,
@@ -226,9 +243,9 @@ fn play_lines<S: Source, O: Sink, C: Clock, N: Nonces>(
 
 /// Plays the script on input, and writes its transcript to output. It holds one line of the input, and the bytes of one
 /// read.
-pub fn play<S: Source, O: Sink, C: Clock, N: Nonces>(
+pub fn play<S: Source, O: Sink, P: Keeper, C: Clock, N: Nonces>(
     alloc: Global,
-    portal: &mut Portal,
+    portal: &mut Portal<P>,
     input: &mut S,
     output: &mut O,
     clock: &mut C,
@@ -237,25 +254,28 @@ pub fn play<S: Source, O: Sink, C: Clock, N: Nonces>(
     // Where input is observable, all of it was read, output took its transcript, and the portal is in the state in
     // which the script ends.
     ensures done { result ≡ PlayEnd.Done → (whole : List ℕ) → S.to_come input.old ≡ Some whole
-        → PlaysAll portal.old whole portal.new
+        → PlaysAll portal.old.state whole portal.new.state
         (device_trace (S.to_come input.old) (O.taken output.old) (C.given clock.old) (N.given nonces.old))
         (device_trace (S.to_come input.new) (O.taken output.new) (C.given clock.new) (N.given nonces.new)) }
     // Otherwise the moments and nonces drawn, the bytes that output took and the portal's state belong to one position
     // in the script.
     ensures cut { result ≢ PlayEnd.Done → (whole : List ℕ) → S.to_come input.old ≡ Some whole
-        → PlaysPart (begun_limit result) portal.old whole portal.new
+        → PlaysPart (begun_limit result) portal.old.state whole portal.new.state
         (device_trace (S.to_come input.old) (O.taken output.old) (C.given clock.old) (N.given nonces.old))
         (device_trace (S.to_come input.new) (O.taken output.new) (C.given clock.new) (N.given nonces.new)) }
 
     // Where input failed, each complete line was processed.
     ensures unended { result ≡ PlayEnd.ReadFault → (whole : List ℕ) → S.to_come input.old ≡ Some whole
-        → PlaysRead portal.old whole portal.new
+        → PlaysRead portal.old.state whole portal.new.state
         (device_trace (S.to_come input.old) (O.taken output.old) (C.given clock.old) (N.given nonces.old))
         (device_trace (S.to_come input.new) (O.taken output.new) (C.given clock.new) (N.given nonces.new)) }
     ensures read_fault { result ≡ PlayEnd.ReadFault → Rose (S.faults input.old) (S.faults input.new) }
     ensures write_fault { result ≡ PlayEnd.WriteFault → Rose (O.faults output.old) (O.faults output.new) }
     ensures too_long { (whole : List ℕ) → S.to_come input.old ≡ Some whole →
         ((result ≡ PlayEnd.TooLong) ↔ GaveTooMuch whole (S.to_come input.new)) }
+    ensures keeper_fault { result ≡ PlayEnd.KeeperFault
+        → Rose (P.faults portal.old.keeper) (P.faults portal.new.keeper) }
+    ensures keeper_counts { P.faults portal.old.keeper ≤ P.faults portal.new.keeper }
 {
     let mut stage = Stage {
         output,

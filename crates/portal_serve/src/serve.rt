@@ -1,14 +1,15 @@
 //! Serving one connection: it reads one request off a link, makes its call, and writes one response.
-ghost use Rattle.std.specs.Prelude.{◌≡◌, ◌≢◌, ◌⊎◌, ◌≤◌, Ok, Err, IfOk, IfErr, OnOk, OnErr, IsSome, option_map};
+ghost use Rattle.std.specs.Prelude.{◌≡◌, ◌≢◌, ◌⊎◌, ◌≤◌, Ok, Err, IfOk, IfErr, IfSome, OnOk, OnErr, IsSome, option_map};
 ghost use Rattle.std.specs.Option.{option_copied};
 ghost use Rattle.http.specs.StatusCode.{reason_phrase};
 ghost use Rattle.portal_serve.specs.Served.{outcome_of_incoming, answer_text, body_or_empty, fault_text, link_trace};
-ghost use Rattle.portal_serve.specs.Served.{memory_text};
+ghost use Rattle.portal_serve.specs.Served.{memory_text, store_text};
 ghost use Rattle.portal_serve.specs.Served.{name_in, request_in, size_in, token_in};
-ghost use Rattle.portal_serve.specs.Served.{Answers, Serves, Writes, WritesFault};
+ghost use Rattle.portal_base.specs.Outside.{Rose};
+ghost use Rattle.portal_serve.specs.Served.{Answers, RepliesWith, Serves, Writes, WritesFault};
 ghost use Rattle.portal_serve.specs.Values.{fixed_text};
 
-use crate::calling::{Drawn, reply_to_request};
+use crate::calling::{Drawn, NoReply, reply_to_request};
 use crate::tokens::Tokens;
 use action_api::early::Early;
 use action_api::query::{is_reading, request_of_query};
@@ -23,7 +24,9 @@ use portal_base::nonce::Nonce;
 use portal_base::outside::Link;
 use portal_base::seq::Seq;
 use portal_calls::call::Request;
+use portal_calls::event::{Refusal, Reply};
 use portal_core::portal::Portal;
+use portal_keeper::keeper::Keeper;
 use std::alloc::{AllocError, Global};
 
 /// How serving a link ended.
@@ -73,7 +76,8 @@ fn memory_reply() -> FixedReply
 
 /// The reply to a fault, if it has one.
 fn fault_reply(fault: FrontFault) -> Option<FixedReply>
-    ensures { option_map fixed_text result ≡ fault_text fault }
+    ensures text { option_map fixed_text result ≡ fault_text fault }
+    ensures status { IfSome result (λ reply. reply.status ≢ 503) }
 {
     match fault {
         FrontFault::BadHead => Some(FixedReply {
@@ -158,21 +162,32 @@ fn read_request(alloc: Global, incoming: &Incoming) -> Result<Request, Early>
     }
 }
 
-/// Makes the call of a received request, and returns the status and the text of its reply.
-fn process(
+/// The status and the text of the reply that the store failed to keep the change of a request.
+fn store_reply(alloc: Global, incoming: &Incoming) -> Result<(u16, Seq<u8>), AllocError>
+    ensures { IfOk result (λ text. text ≡ store_text incoming.now) }
+{
+    let refused = Ok(Reply::Refused(Refusal::KeeperFault));
+    reply_text(alloc, Some(name_in(incoming)), &refused)
+}
+
+/// Makes the call of a received request, and returns the status and the text of its reply. They say that the store failed,
+/// if the keeper's count of faults rose.
+fn process<P: Keeper>(
     alloc: Global,
-    portal: &mut Portal,
+    portal: &mut Portal<P>,
     tokens: &Tokens,
     incoming: &Incoming,
     moment: Moment,
     nonce: Nonce,
 ) -> Result<(u16, Seq<u8>), AllocError>
-    ensures text { IfOk result (λ text. text
-        ≡ answer_text incoming.now (outcome_of_incoming tokens.now portal.old moment nonce.0 incoming.now)) }
-    ensures state { OnOk result
-        (portal.new ≡ (outcome_of_incoming tokens.now portal.old moment nonce.0 incoming.now).state) }
-    ensures stopped { OnErr result ((portal.new ≡ portal.old)
-        ⊎ (portal.new ≡ (outcome_of_incoming tokens.now portal.old moment nonce.0 incoming.now).state)) }
+    ensures replies { IfOk result (λ text. RepliesWith incoming.now
+        (outcome_of_incoming tokens.now portal.old.state moment nonce.0 incoming.now) portal.old.state text
+        portal.new.state) }
+    ensures store_failed { IfOk result
+        (λ text. text.0 ≡ 503 → Rose (P.faults portal.old.keeper) (P.faults portal.new.keeper)) }
+    ensures stopped { OnErr result ((portal.new.state ≡ portal.old.state) ⊎ (portal.new.state
+        ≡ (outcome_of_incoming tokens.now portal.old.state moment nonce.0 incoming.now).state)) }
+    ensures keeper_counts { P.faults portal.old.keeper ≤ P.faults portal.new.keeper }
 {
     let caller = tokens.caller(alloc, token_in(incoming))?;
     let request = read_request(alloc, incoming);
@@ -181,8 +196,11 @@ fn process(
         moment,
         nonce,
     };
-    let reply = reply_to_request(portal, caller, request, drawn)?;
-    reply_text(alloc, Some(name_in(incoming)), &reply)
+    match reply_to_request(portal, caller, request, drawn) {
+        Ok(reply) => reply_text(alloc, Some(name_in(incoming)), &reply),
+        Err(NoReply::KeeperFault) => store_reply(alloc, incoming),
+        Err(NoReply::OutOfMemory) => Err(AllocError),
+    }
 }
 
 /// Writes a response.
@@ -192,6 +210,7 @@ fn write<K: Link>(link: &mut K, status: u16, text: &[u8]) -> Served
         (link_trace (K.to_come link.old) (K.taken link.old) (K.faults link.old))
         (link_trace (K.to_come link.new) (K.taken link.new) (K.faults link.new)) result }
     ensures to_come { K.to_come link.new ≡ K.to_come link.old }
+    ensures replied { result ≡ Served.Replied 503 → status ≡ 503 }
     ensures counts { K.faults link.old ≤ K.faults link.new }
 {
     match send(link, status, text) {
@@ -201,9 +220,9 @@ fn write<K: Link>(link: &mut K, status: u16, text: &[u8]) -> Served
 }
 
 /// Makes the call of a received request, and writes its reply.
-fn answer<K: Link>(
+fn answer<P: Keeper, K: Link>(
     alloc: Global,
-    portal: &mut Portal,
+    portal: &mut Portal<P>,
     tokens: &Tokens,
     link: &mut K,
     incoming: &Incoming,
@@ -211,10 +230,13 @@ fn answer<K: Link>(
     nonce: Nonce,
 ) -> Served
     ensures answers { Answers incoming.now
-        (outcome_of_incoming tokens.now portal.old moment nonce.0 incoming.now) portal.old
+        (outcome_of_incoming tokens.now portal.old.state moment nonce.0 incoming.now) portal.old.state
         (link_trace (K.to_come link.old) (K.taken link.old) (K.faults link.old))
-        (link_trace (K.to_come link.new) (K.taken link.new) (K.faults link.new)) result portal.new }
+        (link_trace (K.to_come link.new) (K.taken link.new) (K.faults link.new)) result portal.new.state }
     ensures to_come { K.to_come link.new ≡ K.to_come link.old }
+    ensures store_failed { result ≡ Served.Replied 503
+        → Rose (P.faults portal.old.keeper) (P.faults portal.new.keeper) }
+    ensures keeper_counts { P.faults portal.old.keeper ≤ P.faults portal.new.keeper }
     ensures counts { K.faults link.old ≤ K.faults link.new }
 {
     match process(alloc, portal, tokens, incoming, moment, nonce) {
@@ -232,6 +254,7 @@ fn answer_fault<K: Link>(link: &mut K, fault: FrontFault) -> Served
         (link_trace (K.to_come link.old) (K.taken link.old) (K.faults link.old))
         (link_trace (K.to_come link.new) (K.taken link.new) (K.faults link.new)) result }
     ensures failed { fault ≡ FrontFault.LinkFault → (result ≡ Served.LinkFault) × (link.new ≡ link.old) }
+    ensures other { result ≢ Served.Replied 503 }
     ensures to_come { K.to_come link.new ≡ K.to_come link.old }
     ensures counts { K.faults link.old ≤ K.faults link.new }
 {
@@ -245,17 +268,21 @@ fn answer_fault<K: Link>(link: &mut K, fault: FrontFault) -> Served
 /// Reads one request off the link, and nothing after it but the rest of the piece in which it ends. It makes the call for
 /// the token's user with this moment and nonce, and writes the reply. Where memory runs out, the reply is 507, and its
 /// bytes take no memory.
-pub fn serve_link<K: Link>(
+pub fn serve_link<P: Keeper, K: Link>(
     alloc: Global,
-    portal: &mut Portal,
+    portal: &mut Portal<P>,
     tokens: &Tokens,
     link: &mut K,
     moment: Moment,
     nonce: Nonce,
 ) -> Served
-    ensures served { Serves tokens.now portal.old moment nonce.0
+    ensures served { Serves tokens.now portal.old.state moment nonce.0
         (link_trace (K.to_come link.old) (K.taken link.old) (K.faults link.old))
-        (link_trace (K.to_come link.new) (K.taken link.new) (K.faults link.new)) result portal.new }
+        (link_trace (K.to_come link.new) (K.taken link.new) (K.faults link.new)) result portal.new.state }
+    // Status 503 says that the keeper's count of faults rose.
+    ensures store_failed { result ≡ Served.Replied 503
+        → Rose (P.faults portal.old.keeper) (P.faults portal.new.keeper) }
+    ensures keeper_counts { P.faults portal.old.keeper ≤ P.faults portal.new.keeper }
     ensures counts { K.faults link.old ≤ K.faults link.new }
 {
     match receive(alloc, link, is_reading) {

@@ -4,11 +4,11 @@ use Rattle.portal_serve.proofs.Working.{reply_made, state_made}
 use Rattle.portal_serve.proofs.calling.reply_to_request.Goals as goal
 
 pub returns-in_default-clause-reply : goal.returns-in_default-clause-reply
-returns-in_default-clause-reply c =
-    reply_made c.args.portal.now c.args.caller c.args.request c.in-Ok.request c.args.drawn.size c.args.drawn.moment
-    c.args.drawn.nonce.0 _ c.in-Ok.is (c.act-reply.ensures.reply (λ out. search rules))
+returns-in_default-clause-reply g c =
+    reply_made c.args.portal.now.state c.args.caller c.args.request c.in-Ok.request c.args.drawn.size c.args.drawn.moment
+    c.args.drawn.nonce.0 _ c.in-Ok.is (c.act-reply.ensures.reply (λ out. search rules) (λ out. search rules))
 
 pub returns-in_default-clause-state : goal.returns-in_default-clause-state
-returns-in_default-clause-state c =
-    state_made c.args.portal.now _ c.args.caller c.args.request c.in-Ok.request c.args.drawn.size c.args.drawn.moment
-    c.args.drawn.nonce.0 c.in-Ok.is (c.act-reply.ensures.state (λ out. search rules))
+returns-in_default-clause-state g c =
+    state_made c.args.portal.now.state _ c.args.caller c.args.request c.in-Ok.request c.args.drawn.size c.args.drawn.moment
+    c.args.drawn.nonce.0 c.in-Ok.is (c.act-reply.ensures.state (λ out. search rules) (λ out. search rules))

@@ -6,7 +6,7 @@ use Rattle.portal_serve.proofs.desk.serve_desk.Goals as goal
 
 pub loop-init : goal.loop-init
 loop-init g c =
-    record { home = c.requires.home; served = serves_none _ _ _ 0 _ _ refl refl refl refl refl; quiet = refl }
+    record { home = c.requires.home; served = serves_none _ _ _ 0 _ _ refl refl refl refl refl; keeps = omega arith; quiet = refl }
 
 pub returns-in-Ok-false-clause-served : goal.returns-in-Ok-false-clause-served
 returns-in-Ok-false-clause-served g c =
@@ -25,6 +25,7 @@ loop-preserved g c = record {
   home = c.serve_next.ensures.home;
   served = desk_goes_on _ _ _ _ _ _ _ _ _ c.serve_next.result
       (c.in-Ok-true.is ∙ ap (λ b. Ok b) c.in-Ok-true.field-0-test) c.loop.invariant.served c.serve_next.ensures.next;
+  keeps = omega (arith, c.loop.invariant.keeps, c.serve_next.ensures.keeper_counts);
   quiet = goes_on_quiet _ _ _ _ _ _ _ c.serve_next.result
       (c.in-Ok-true.is ∙ ap (λ b. Ok b) c.in-Ok-true.field-0-test) c.loop.invariant.quiet c.serve_next.ensures.next;
 }

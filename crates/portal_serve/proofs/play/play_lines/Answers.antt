@@ -14,6 +14,7 @@ lines-init g c = record {
   reads = omega arith;
   writes = omega arith;
   loans = same_loans _;
+  keeps = omega arith;
 }
 
 pub lines-preserved : goal.lines-preserved
@@ -23,6 +24,7 @@ lines-preserved g c = record {
   reads = omega (arith, c.lines.invariant.reads, c.play_next.ensures.reads);
   writes = omega (arith, c.lines.invariant.writes, c.play_next.ensures.writes);
   loans = same_loans_on _ _ _ c.lines.invariant.loans c.play_next.ensures.loans;
+  keeps = omega (arith, c.lines.invariant.keeps, c.play_next.ensures.keeper_counts);
 }
 
 pub returns-in-Some-clause-done : goal.returns-in-Some-clause-done

@@ -8,14 +8,15 @@ use Rattle.portal_serve.proofs.play.play_lines.Given as goal
 -- what the lines so far did, that no count of faults fell, and that the devices are those that were borrowed
 abbrev pub invariant-lines : goal.invariant-lines
 invariant-lines g l = record {
-  kept : Keeps l.fn.portal
+  kept : Keeps l.fn.portal.state
       (with_input (g.S.Source.to_come l.fn.input)
       (trace_of g.O.Sink.taken g.C.Clock.given g.N.Nonces.given l.fn.stage))
       (with_input (g.S.Source.to_come l.input)
-      (trace_of g.O.Sink.taken g.C.Clock.given g.N.Nonces.given l.stage)) l.portal l.reader;
+      (trace_of g.O.Sink.taken g.C.Clock.given g.N.Nonces.given l.stage)) l.portal.state l.reader;
   reads : g.S.Source.faults l.fn.input ≤ g.S.Source.faults l.input;
   writes : g.O.Sink.faults l.fn.stage.output.now ≤ g.O.Sink.faults l.stage.output.now;
   loans : AreSameLoans l.fn.stage l.stage;
+  keeps : g.P.Keeper.faults l.fn.portal.keeper ≤ g.P.Keeper.faults l.portal.keeper;
 }
 
 -- each line leaves fewer bytes
