@@ -11,29 +11,22 @@ use Rattle.portal_status.specs.Fetch.{FetchTrace}
 use Rattle.portal_status.specs.declared.status.Status.{Status}
 use Rattle.portal_status.specs.declared.fetch.TheConstants.{LONGEST_FILE}
 
--- A load by the schema that was fetched.
-pub loads_fetched : (trace : FetchTrace) (options : LoadOptions) (first state after : State) (old new : DeviceTrace)
+pub loads_fetched : (trace : FetchTrace) (options : LoadOptions) (state after : State) (old new : DeviceTrace)
     (status : Status) (location bytes schema resource : List ℕ) → HoldsAt trace.held location bytes
     → length bytes ≤ LONGEST_FILE → location ≡ options.schema → schema ≡ bytes → resource ≡ options.resource
-    → state ≡ first → ReportsSchema schema old new status
+    → ReportsSchema schema old new status
     → LoadsWith (load_task (Named options.caller) schema resource) state after old new status
-    → LoadsFrom trace options first old new status
-loads_fetched trace options first state after old new status location bytes schema resource holds within is_location
-    is_schema is_resource is_first reports loads = inr (
+    → LoadsFrom trace options state after old new status
+loads_fetched trace options state after old new status location bytes schema resource holds within is_location
+    is_schema is_resource reports loads = inr (
       bytes,
       subst (λ (l : List ℕ). HoldsAt trace.held l bytes) is_location holds,
       within,
       (
         subst (λ (s : List ℕ). ReportsSchema s old new status) is_schema reports,
-        (
-          after,
-          subst (λ (s : State). LoadsWith (load_task (Named options.caller) bytes options.resource) s after old new
-              status)
-              is_first
-              (subst (λ (r : List ℕ). LoadsWith (load_task (Named options.caller) bytes r) state after old new status)
-              is_resource
-              (subst (λ (s : List ℕ). LoadsWith (load_task (Named options.caller) s resource) state after old new status)
-              is_schema loads)),
-        ),
+        subst (λ (r : List ℕ). LoadsWith (load_task (Named options.caller) bytes r) state after old new status)
+            is_resource
+            (subst (λ (s : List ℕ). LoadsWith (load_task (Named options.caller) s resource) state after old new status)
+            is_schema loads),
       ),
     )

@@ -35,12 +35,13 @@ use Rattle.portal_load.specs.declared.load.Task.{Task}
 use Rattle.portal_load.specs.declared.stop.CallFault.{CallFault}
 use Rattle.portal_load.specs.declared.stop.CallFault.TheVariants as call_fault
 use Rattle.portal_load.specs.declared.stop.LoadStop.{LoadStop}
-use Rattle.portal_load.specs.declared.stop.LoadStop.TheVariants.{ReadFault, WriteFault, OutOfMemory, DataFault, Refused}
+use Rattle.portal_load.specs.declared.stop.LoadStop.TheVariants.{ReadFault, WriteFault, KeeperFault, OutOfMemory, DataFault, Refused}
 
 -- a call whose line was not written whole
 pub ends_begun : (state after : State) (calls : List ScriptCall) (old new : StageTrace) (stop : CallStop)
     → StopsOn 1 state calls after old new → CallsEnd state calls after old new (fault_for_stop stop)
 ends_begun state after calls old new call_stop.WriteFault stops = stops
+ends_begun state after calls old new call_stop.KeeperFault stops = stops
 ends_begun state after calls old new call_stop.OutOfMemory stops = stops
 
 -- the exit of a `?` when memory ran out before a call
@@ -116,6 +117,8 @@ ends_insert task state after piece pieces rest old new fault same ended =
         refuses_on_within state after (inserts_for task (piece ∷ [])) (inserts_for task rest.pieces) old new refuses
     by call_fault.WriteFault stops =
         stops_on_within 1 state after (inserts_for task (piece ∷ [])) (inserts_for task rest.pieces) old new stops
+    by call_fault.KeeperFault stops =
+        stops_on_within 1 state after (inserts_for task (piece ∷ [])) (inserts_for task rest.pieces) old new stops
     by call_fault.OutOfMemory stops =
         stops_on_within 1 state after (inserts_for task (piece ∷ [])) (inserts_for task rest.pieces) old new stops
 
@@ -162,6 +165,7 @@ goes_on_insert task resource state after insert body remaining left old new same
 refused_is : (fault : CallFault) → stop_for_fault fault ≡ Refused → fault ≡ call_fault.Refused
 refused_is call_fault.Refused is = refl
 refused_is call_fault.WriteFault is = absurd (cc)
+refused_is call_fault.KeeperFault is = absurd (cc)
 refused_is call_fault.OutOfMemory is = absurd (cc)
 
 -- an insert that was refused
@@ -349,6 +353,7 @@ to_end task state mid after pieces rest old on new stop to ended = by stop ended
         → InsertsEnd task state pieces after old new stop
     by ReadFault more = stops 0 more
     by WriteFault more = stops 1 more
+    by KeeperFault more = stops 1 more
     by OutOfMemory more = stops 1 more
     by (DataFault text) (inl f) = inl (f.0, to.fault ∙ f.1, f.2, makes f.3)
     by (DataFault text) (inr f) = inr (f.0, stops 0 f.1)

@@ -35,7 +35,7 @@ use Rattle.portal_load.specs.Stop.{status_for_load, stop_for_fault}
 use Rattle.portal_load.specs.declared.stop.CallFault.{CallFault}
 use Rattle.portal_load.specs.declared.stop.CallFault.TheVariants as call_fault
 use Rattle.portal_load.specs.declared.stop.LoadStop.{LoadStop}
-use Rattle.portal_load.specs.declared.stop.LoadStop.TheVariants.{ReadFault, WriteFault, OutOfMemory, DataFault, Refused}
+use Rattle.portal_load.specs.declared.stop.LoadStop.TheVariants.{ReadFault, WriteFault, KeeperFault, OutOfMemory, DataFault, Refused}
 use Rattle.portal_status.specs.declared.status.Status.TheVariants as status
 
 -- ---- the script
@@ -151,6 +151,7 @@ loads_first task state after calls rest whole before left old new fault script o
         observed refl
         (refuses_on_within state after calls rest old new on) (λ one. refl)
     by call_fault.WriteFault on = stops on
+    by call_fault.KeeperFault on = stops on
     by call_fault.OutOfMemory on = stops on
 
 -- ---- where the inserts end it
@@ -236,6 +237,7 @@ loads_inserts own schema whole bytes rest json value state mid after old on new 
         → Loads (task_of own schema) state whole after (with_input before old) (with_input left new) (Err stop)
     by ReadFault stops = part 0 stops
     by WriteFault stops = part 1 stops
+    by KeeperFault stops = part 1 stops
     by OutOfMemory stops = part 1 stops
     by (DataFault text) (inl f) = inr (inl (f.0, to_fault f.0 f.1 f.3, f.2))
     by (DataFault text) (inr f) = inr (inr (part 0 f.1, f.0))
@@ -466,6 +468,7 @@ too_long_by end P same = (λ is. same.0 (to end is), λ p. ap status_for_load (s
     to (Ok loaded) is = absurd (cc)
     to (Err ReadFault) is = absurd (cc)
     to (Err WriteFault) is = absurd (cc)
+    to (Err KeeperFault) is = absurd (cc)
     to (Err OutOfMemory) is = absurd (cc)
     to (Err (DataFault text)) is = cc
     to (Err Refused) is = absurd (cc)

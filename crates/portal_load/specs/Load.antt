@@ -138,6 +138,7 @@ abbrev pub Loads : LoadTask → State → List ℕ → State → DeviceTrace →
 Loads task state whole after old new (Ok loaded) = LoadsAll task state whole after old new
 Loads task state whole after old new (Err stop.ReadFault) = LoadsPart 0 task state whole after old new
 Loads task state whole after old new (Err stop.WriteFault) = LoadsPart 1 task state whole after old new
+Loads task state whole after old new (Err stop.KeeperFault) = LoadsPart 1 task state whole after old new
 Loads task state whole after old new (Err stop.OutOfMemory) = LoadsPart 1 task state whole after old new
 Loads task state whole after old new (Err (stop.DataFault text)) = FindsFault text task state whole after old new
 Loads task state whole after old new (Err stop.Refused) = LoadsToRefusal task state whole after old new

@@ -46,6 +46,7 @@ StopsOn most state calls after old new =
 abbrev pub CallsEnd : State → List ScriptCall → State → StageTrace → StageTrace → CallFault → Type 0
 CallsEnd state calls after old new call_fault.Refused = RefusesOn state calls after old new
 CallsEnd state calls after old new call_fault.WriteFault = StopsOn 1 state calls after old new
+CallsEnd state calls after old new call_fault.KeeperFault = StopsOn 1 state calls after old new
 CallsEnd state calls after old new call_fault.OutOfMemory = StopsOn 1 state calls after old new
 
 -- the inserts of these pieces
@@ -63,6 +64,8 @@ abbrev pub InsertsEnd : Task → State → Pieces → State → StageTrace → S
 InsertsEnd task state pieces after old new stop.ReadFault =
     StopsOn 0 state (inserts_for task pieces.pieces) after old new
 InsertsEnd task state pieces after old new stop.WriteFault =
+    StopsOn 1 state (inserts_for task pieces.pieces) after old new
+InsertsEnd task state pieces after old new stop.KeeperFault =
     StopsOn 1 state (inserts_for task pieces.pieces) after old new
 InsertsEnd task state pieces after old new stop.OutOfMemory =
     StopsOn 1 state (inserts_for task pieces.pieces) after old new

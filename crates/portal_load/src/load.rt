@@ -26,6 +26,7 @@ use portal_base::lent::Lent;
 use portal_base::outside::{Clock, Nonces, Sink, Source};
 use portal_base::text::Text;
 use portal_core::portal::Portal;
+use portal_keeper::keeper::Keeper;
 use portal_serve::calls::{CallStop, make_call};
 use portal_serve::script::ScriptCall;
 use portal_serve::stage::Stage;
@@ -57,6 +58,7 @@ fn status_of_end(end: Result<(), LoadStop>) -> Status
         Ok(()) => Status::Done,
         Err(LoadStop::ReadFault) => Status::ReadFault,
         Err(LoadStop::WriteFault) => Status::WriteFault,
+        Err(LoadStop::KeeperFault) => Status::KeeperFault,
         Err(LoadStop::OutOfMemory) => Status::OutOfMemory,
         Err(LoadStop::DataFault(text)) => Status::DataFault(text),
         Err(LoadStop::Refused) => Status::Refused,
@@ -69,6 +71,7 @@ fn fault_of_stop(stop: CallStop) -> CallFault
 {
     match stop {
         CallStop::WriteFault => CallFault::WriteFault,
+        CallStop::KeeperFault => CallFault::KeeperFault,
         CallStop::OutOfMemory => CallFault::OutOfMemory,
     }
 }
@@ -129,9 +132,9 @@ fn read_schema(alloc: Global, bytes: &[u8]) -> Result<ReadSchema, SchemaFault>
 
 /// Plays a call of the task's caller. `size` is the length of its body's compact text. The fault is `Refused` if the
 /// reply isn't 200.
-fn play_call<O: Sink, C: Clock, N: Nonces>(
+fn play_call<P: Keeper, O: Sink, C: Clock, N: Nonces>(
     alloc: Global,
-    portal: &mut Portal,
+    portal: &mut Portal<P>,
     task: &Task<'_>,
     action: &'static str,
     body: Json,
@@ -139,14 +142,17 @@ fn play_call<O: Sink, C: Clock, N: Nonces>(
     stage: &mut Stage<'_, '_, '_, O, C, N>,
 ) -> Result<(), CallFault>
     requires { size ≡ length (json_text body) }
-    ensures made { OnOk result (MakesOn portal.old (call_of task.now.caller.now action.now body ∷ []) portal.new
+    ensures made { OnOk result (MakesOn portal.old.state (call_of task.now.caller.now action.now body ∷ []) portal.new.state
         (trace_of O.taken C.given N.given stage.old) (trace_of O.taken C.given N.given stage.new)) }
-    ensures ended { IfErr result (CallsEnd portal.old (call_of task.now.caller.now action.now body ∷ []) portal.new
+    ensures ended { IfErr result (CallsEnd portal.old.state (call_of task.now.caller.now action.now body ∷ []) portal.new.state
         (trace_of O.taken C.given N.given stage.old) (trace_of O.taken C.given N.given stage.new)) }
     ensures write_fault { result ≡ Err CallFault.WriteFault
         → Rose (O.faults stage.old.output.now) (O.faults stage.new.output.now) }
     ensures counts { O.faults stage.old.output.now ≤ O.faults stage.new.output.now }
     ensures loans { AreSameLoans stage.old stage.new }
+    ensures keeper_fault { result ≡ Err CallFault.KeeperFault
+        → Rose (P.faults portal.old.keeper) (P.faults portal.new.keeper) }
+    ensures keeper_counts { P.faults portal.old.keeper ≤ P.faults portal.new.keeper }
 {
     let call = ScriptCall {
         caller: task.caller.try_clone(alloc)?,
@@ -164,23 +170,26 @@ fn play_call<O: Sink, C: Clock, N: Nonces>(
 }
 
 /// Plays the call that makes the table.
-fn play_create<O: Sink, C: Clock, N: Nonces>(
+fn play_create<P: Keeper, O: Sink, C: Clock, N: Nonces>(
     alloc: Global,
-    portal: &mut Portal,
+    portal: &mut Portal<P>,
     task: &Task<'_>,
     schema: Json,
     stage: &mut Stage<'_, '_, '_, O, C, N>,
 ) -> Result<(), CallFault>
-    ensures made { OnOk result (MakesOn portal.old
-        (create_call task.now.caller.now task.now.resource.now schema ∷ []) portal.new
+    ensures made { OnOk result (MakesOn portal.old.state
+        (create_call task.now.caller.now task.now.resource.now schema ∷ []) portal.new.state
         (trace_of O.taken C.given N.given stage.old) (trace_of O.taken C.given N.given stage.new)) }
-    ensures ended { IfErr result (CallsEnd portal.old
-        (create_call task.now.caller.now task.now.resource.now schema ∷ []) portal.new
+    ensures ended { IfErr result (CallsEnd portal.old.state
+        (create_call task.now.caller.now task.now.resource.now schema ∷ []) portal.new.state
         (trace_of O.taken C.given N.given stage.old) (trace_of O.taken C.given N.given stage.new)) }
     ensures write_fault { result ≡ Err CallFault.WriteFault
         → Rose (O.faults stage.old.output.now) (O.faults stage.new.output.now) }
     ensures counts { O.faults stage.old.output.now ≤ O.faults stage.new.output.now }
     ensures loans { AreSameLoans stage.old stage.new }
+    ensures keeper_fault { result ≡ Err CallFault.KeeperFault
+        → Rose (P.faults portal.old.keeper) (P.faults portal.new.keeper) }
+    ensures keeper_counts { P.faults portal.old.keeper ≤ P.faults portal.new.keeper }
 {
     let body = Json::dictionary(
         alloc,
@@ -194,9 +203,9 @@ fn play_create<O: Sink, C: Clock, N: Nonces>(
 }
 
 /// Plays the next insert, and returns whether there was one. If it is refused, no further one is read.
-fn play_insert<S: Source, O: Sink, C: Clock, N: Nonces>(
+fn play_insert<P: Keeper, S: Source, O: Sink, C: Clock, N: Nonces>(
     alloc: Global,
-    portal: &mut Portal,
+    portal: &mut Portal<P>,
     task: &Task<'_>,
     inserts: &mut Inserts<S>,
     stage: &mut Stage<'_, '_, '_, O, C, N>,
@@ -207,15 +216,15 @@ fn play_insert<S: Source, O: Sink, C: Clock, N: Nonces>(
     ensures goes_on { OnOk result (inserts.new.is_spent ≡ false) }
     ensures more { result ≡ Ok true → (piece : List Json)
         × (inserts.old.remaining ≡ option_map (before piece) inserts.new.remaining)
-        × MakesOn portal.old (inserts_for task.now (piece ∷ [])) portal.new
+        × MakesOn portal.old.state (inserts_for task.now (piece ∷ [])) portal.new.state
         (trace_of O.taken C.given N.given stage.old) (trace_of O.taken C.given N.given stage.new) }
     ensures end { result ≡ Ok false → IfSome inserts.old.remaining (λ pieces. pieces ≡ no_pieces)
-        × IsAtEnd (S.to_come inserts.new.source) × (portal.new ≡ portal.old) × (stage.new ≡ stage.old) }
+        × IsAtEnd (S.to_come inserts.new.source) × (portal.new.state ≡ portal.old.state) × (stage.new ≡ stage.old) }
     ensures ended { IfErr result (λ stop. (pieces : Pieces) → inserts.old.remaining ≡ Some pieces
-        → InsertsEnd task.now portal.old pieces portal.new
+        → InsertsEnd task.now portal.old.state pieces portal.new.state
         (trace_of O.taken C.given N.given stage.old) (trace_of O.taken C.given N.given stage.new) stop) }
-    ensures refused { result ≡ Err LoadStop.Refused → StopsReading task.now portal.old inserts.old.remaining
-        portal.new inserts.new.remaining
+    ensures refused { result ≡ Err LoadStop.Refused → StopsReading task.now portal.old.state inserts.old.remaining
+        portal.new.state inserts.new.remaining
         (trace_of O.taken C.given N.given stage.old) (trace_of O.taken C.given N.given stage.new) }
     ensures received { IsGiven S.to_come inserts.old inserts.new }
     ensures read_fault { result ≡ Err LoadStop.ReadFault
@@ -228,6 +237,9 @@ fn play_insert<S: Source, O: Sink, C: Clock, N: Nonces>(
         → Rose (O.faults stage.old.output.now) (O.faults stage.new.output.now) }
     ensures counts { O.faults stage.old.output.now ≤ O.faults stage.new.output.now }
     ensures loans { AreSameLoans stage.old stage.new }
+    ensures keeper_fault { result ≡ Err LoadStop.KeeperFault
+        → Rose (P.faults portal.old.keeper) (P.faults portal.new.keeper) }
+    ensures keeper_counts { P.faults portal.old.keeper ≤ P.faults portal.new.keeper }
 {
     match inserts.next() {
         Ok(Some(Insert { body, size })) => {
@@ -240,9 +252,9 @@ fn play_insert<S: Source, O: Sink, C: Clock, N: Nonces>(
 }
 
 /// Plays all remaining inserts, up to the first that isn't granted. After a refused one no further one is read.
-fn play_inserts<S: Source, O: Sink, C: Clock, N: Nonces>(
+fn play_inserts<P: Keeper, S: Source, O: Sink, C: Clock, N: Nonces>(
     alloc: Global,
-    portal: &mut Portal,
+    portal: &mut Portal<P>,
     task: &Task<'_>,
     inserts: &mut Inserts<S>,
     stage: &mut Stage<'_, '_, '_, O, C, N>,
@@ -250,14 +262,14 @@ fn play_inserts<S: Source, O: Sink, C: Clock, N: Nonces>(
     requires resource { inserts.old.resource ≡ task.now.resource.now }
     requires goes_on { inserts.old.is_spent ≡ false }
     ensures done { OnOk result ((pieces : Pieces) → inserts.old.remaining ≡ Some pieces → (pieces.fault ≡ None)
-        × MakesOn portal.old (inserts_for task.now pieces.pieces) portal.new
+        × MakesOn portal.old.state (inserts_for task.now pieces.pieces) portal.new.state
         (trace_of O.taken C.given N.given stage.old) (trace_of O.taken C.given N.given stage.new)) }
     ensures end { OnOk result (IsAtEnd (S.to_come inserts.new.source)) }
     ensures ended { IfErr result (λ stop. (pieces : Pieces) → inserts.old.remaining ≡ Some pieces
-        → InsertsEnd task.now portal.old pieces portal.new
+        → InsertsEnd task.now portal.old.state pieces portal.new.state
         (trace_of O.taken C.given N.given stage.old) (trace_of O.taken C.given N.given stage.new) stop) }
-    ensures refused { result ≡ Err LoadStop.Refused → StopsReading task.now portal.old inserts.old.remaining
-        portal.new inserts.new.remaining
+    ensures refused { result ≡ Err LoadStop.Refused → StopsReading task.now portal.old.state inserts.old.remaining
+        portal.new.state inserts.new.remaining
         (trace_of O.taken C.given N.given stage.old) (trace_of O.taken C.given N.given stage.new) }
     ensures received { IsGiven S.to_come inserts.old inserts.new }
     ensures read_fault { result ≡ Err LoadStop.ReadFault
@@ -270,6 +282,9 @@ fn play_inserts<S: Source, O: Sink, C: Clock, N: Nonces>(
         → Rose (O.faults stage.old.output.now) (O.faults stage.new.output.now) }
     ensures counts { O.faults stage.old.output.now ≤ O.faults stage.new.output.now }
     ensures loans { AreSameLoans stage.old stage.new }
+    ensures keeper_fault { result ≡ Err LoadStop.KeeperFault
+        → Rose (P.faults portal.old.keeper) (P.faults portal.new.keeper) }
+    ensures keeper_counts { P.faults portal.old.keeper ≤ P.faults portal.new.keeper }
 {
     for _ in 0..u64::MAX {
         match play_insert(alloc, portal, task, inserts, stage) {
@@ -284,9 +299,9 @@ fn play_inserts<S: Source, O: Sink, C: Clock, N: Nonces>(
 
 /// Plays the inserts of the rows of a source, and returns the source as far as it was read. The result is put into
 /// `played`. (A contract can only name the end of a loan for a value that a call returns.)
-fn play_rows<S: Source, O: Sink, C: Clock, N: Nonces>(
+fn play_rows<P: Keeper, S: Source, O: Sink, C: Clock, N: Nonces>(
     alloc: Global,
-    portal: &mut Portal,
+    portal: &mut Portal<P>,
     task: &Task<'_>,
     schema: Schema,
     source: S,
@@ -295,13 +310,13 @@ fn play_rows<S: Source, O: Sink, C: Clock, N: Nonces>(
 ) -> S
     ensures done { OnOk played.new ((whole : List ℕ) → S.to_come source ≡ Some whole
         → ((pieces_until_fault (inserts_of task.now.resource.now schema.fields whole)).fault ≡ None)
-        × MakesOn portal.old
+        × MakesOn portal.old.state
         (inserts_for task.now (pieces_until_fault
-        (inserts_of task.now.resource.now schema.fields whole)).pieces) portal.new
+        (inserts_of task.now.resource.now schema.fields whole)).pieces) portal.new.state
         (trace_of O.taken C.given N.given stage.old) (trace_of O.taken C.given N.given stage.new)) }
     ensures ended { IfErr played.new (λ stop. (whole : List ℕ) → S.to_come source ≡ Some whole
-        → InsertsEnd task.now portal.old (pieces_until_fault
-        (inserts_of task.now.resource.now schema.fields whole)) portal.new
+        → InsertsEnd task.now portal.old.state (pieces_until_fault
+        (inserts_of task.now.resource.now schema.fields whole)) portal.new.state
         (trace_of O.taken C.given N.given stage.old) (trace_of O.taken C.given N.given stage.new) stop) }
     ensures end { OnOk played.new (IsAtEnd (S.to_come result)) }
     ensures received { (bytes : List ℕ) × Gives (S.to_come source) bytes (S.to_come result)
@@ -312,6 +327,9 @@ fn play_rows<S: Source, O: Sink, C: Clock, N: Nonces>(
         → Rose (O.faults stage.old.output.now) (O.faults stage.new.output.now) }
     ensures counts { O.faults stage.old.output.now ≤ O.faults stage.new.output.now }
     ensures loans { AreSameLoans stage.old stage.new }
+    ensures keeper_fault { played.new ≡ Err LoadStop.KeeperFault
+        → Rose (P.faults portal.old.keeper) (P.faults portal.new.keeper) }
+    ensures keeper_counts { P.faults portal.old.keeper ≤ P.faults portal.new.keeper }
 {
     match Inserts::start(alloc, schema, task.resource, source) {
         Ok(mut inserts) => {
@@ -326,9 +344,9 @@ fn play_rows<S: Source, O: Sink, C: Clock, N: Nonces>(
 }
 
 /// Loads the CSV on input by this schema.
-fn load_by<S: Source, O: Sink, C: Clock, N: Nonces>(
+fn load_by<P: Keeper, S: Source, O: Sink, C: Clock, N: Nonces>(
     alloc: Global,
-    portal: &mut Portal,
+    portal: &mut Portal<P>,
     task: &Task<'_>,
     read: ReadSchema,
     input: &mut S,
@@ -336,7 +354,7 @@ fn load_by<S: Source, O: Sink, C: Clock, N: Nonces>(
 ) -> Result<(), LoadStop>
     requires { schema_reading read.json ≡ Ok read.schema }
     ensures loads { (schema whole : List ℕ) → json_reading schema ≡ Ok read.json → S.to_come input.old ≡ Some whole
-        → Loads (load_task task.now.caller.now schema task.now.resource.now) portal.old whole portal.new
+        → Loads (load_task task.now.caller.now schema task.now.resource.now) portal.old.state whole portal.new.state
         (with_input (S.to_come input.old) (trace_of O.taken C.given N.given stage.old))
         (with_input (S.to_come input.new) (trace_of O.taken C.given N.given stage.new)) result }
     ensures read_fault { result ≡ Err LoadStop.ReadFault → Rose (S.faults input.old) (S.faults input.new) }
@@ -346,6 +364,9 @@ fn load_by<S: Source, O: Sink, C: Clock, N: Nonces>(
         → Rose (O.faults stage.old.output.now) (O.faults stage.new.output.now) }
     ensures counts { O.faults stage.old.output.now ≤ O.faults stage.new.output.now }
     ensures loans { AreSameLoans stage.old stage.new }
+    ensures keeper_fault { result ≡ Err LoadStop.KeeperFault
+        → Rose (P.faults portal.old.keeper) (P.faults portal.new.keeper) }
+    ensures keeper_counts { P.faults portal.old.keeper ≤ P.faults portal.new.keeper }
 {
     let ReadSchema { json, schema } = read;
     play_create(alloc, portal, task, json, stage)?;
@@ -369,9 +390,9 @@ fn load_by<S: Source, O: Sink, C: Clock, N: Nonces>(
 ///
 /// An insert has 500 rows, or fewer if its body would have more than 200,000 bytes. It is played as soon as no further
 /// row belongs to it. An insert with a faulty row isn't played.
-pub fn load<S: Source, O: Sink, C: Clock, N: Nonces>(
+pub fn load<S: Source, O: Sink, P: Keeper, C: Clock, N: Nonces>(
     alloc: Global,
-    portal: &mut Portal,
+    portal: &mut Portal<P>,
     caller: &Caller,
     resource: &str,
     schema: &[u8],
@@ -382,7 +403,7 @@ pub fn load<S: Source, O: Sink, C: Clock, N: Nonces>(
 ) -> Status
     // The status is that of an end of a load. Where input is observable: the calls of the script that were made, by this
     // end, what was written for them, and the state in which they leave the portal.
-    ensures loads { LoadsWith (load_task caller.now schema.now resource.now) portal.old portal.new
+    ensures loads { LoadsWith (load_task caller.now schema.now resource.now) portal.old.state portal.new.state
         (device_trace (S.to_come input.old) (O.taken output.old) (C.given clock.old) (N.given nonces.old))
         (device_trace (S.to_come input.new) (O.taken output.new) (C.given clock.new) (N.given nonces.new)) result }
     // A fault of the schema is reported before everything else, and leaves the devices as they were.
@@ -394,6 +415,9 @@ pub fn load<S: Source, O: Sink, C: Clock, N: Nonces>(
     ensures write_fault { result ≡ Status.WriteFault → Rose (O.faults output.old) (O.faults output.new) }
     ensures too_much { (whole : List ℕ) → S.to_come input.old ≡ Some whole →
         ((result ≡ Status.DataFault (codes "input too long")) ↔ GaveTooMuch whole (S.to_come input.new)) }
+    ensures keeper_fault { result ≡ Status.KeeperFault
+        → Rose (P.faults portal.old.keeper) (P.faults portal.new.keeper) }
+    ensures keeper_counts { P.faults portal.old.keeper ≤ P.faults portal.new.keeper }
 {
     let read = match read_schema(alloc, schema) {
         Ok(read) => read,

@@ -9,6 +9,8 @@ pub enum CallFault {
     Refused,
     /// Output failed.
     WriteFault,
+    /// The keeper failed.
+    KeeperFault,
     OutOfMemory,
 }
 
@@ -30,6 +32,8 @@ pub enum LoadStop {
     ReadFault,
     /// Output failed.
     WriteFault,
+    /// The keeper failed.
+    KeeperFault,
     OutOfMemory,
     /// The schema or the CSV has a fault, or input gave more than 2^40 bytes. The text says which.
     DataFault(Text),
@@ -47,6 +51,7 @@ impl From<CallFault> for LoadStop {
         match fault {
             CallFault::Refused => LoadStop::Refused,
             CallFault::WriteFault => LoadStop::WriteFault,
+            CallFault::KeeperFault => LoadStop::KeeperFault,
             CallFault::OutOfMemory => LoadStop::OutOfMemory,
         }
     }

@@ -1,70 +1,132 @@
 -- How a command ends, by what its parts did.
-use Rattle.std.proofs.Common.{◌≡◌, ◌≢◌, ℕ, List, Some, Result, Ok, Err, OnErr}
-use Rattle.std.proofs.Common.{refl, subst}
-use Rattle.std.specs.Prelude.{◌↔◌, codes}
+use Rattle.std.proofs.Common.{◌≡◌, ◌≢◌, ◌<◌, ℕ, List, ◌++◌, length, Some, None, Result, Ok, Err, OnErr, Option, inl, inr, arith}
+use Rattle.std.proofs.Common.{refl, sym, ap, subst, ◌∙◌}
+use Rattle.std.specs.Prelude.{◌↔◌, IfSome, codes}
 use Rattle.portal_base.specs.Outside.{Rose}
 use Rattle.portal_base.specs.declared.outside.Failed.{Failed}
 use Rattle.portal_core.specs.State.{State}
-use Rattle.portal_start.specs.Commands.{Plays, Serves}
-use Rattle.portal_start.specs.Start.{Beginning}
-use Rattle.portal_start.specs.Commands.{end_for_desk, status_for}
-use Rattle.portal_start.specs.declared.commands.ServeEnd.TheVariants as serve_end
-use Rattle.portal_status.specs.declared.status.Status.TheVariants.{DataFault}
-use Rattle.portal_serve.proofs.Playing.{all_from, part_from, read_from}
-use Rattle.portal_serve.specs.Desk.{DeskTrace, ServesDesk}
-use Rattle.portal_serve.specs.Run.{DeviceTrace, PlaysAll, PlaysPart, PlaysRead}
-use Rattle.portal_serve.specs.Served.{LinkTrace}
+use Rattle.portal_start.specs.Commands.{Plays, status_for, status_for_desk}
+use Rattle.portal_core.specs.PortalValue.{AreOfNoState}
+use Rattle.portal_core.specs.declared.opening.OpenFault.{OpenFault}
+use Rattle.portal_core.specs.declared.opening.OpenFault.TheVariants as opening
+use Rattle.portal_keeper.specs.Keeping.{Shows}
+use Rattle.portal_keeper.specs.declared.row.KeptRow.{KeptRow}
+use Rattle.portal_start.specs.OverStore.{FailsToOpen, StoreTrace, status_for_opening}
+use Rattle.portal_status.specs.declared.status.Status.{Status}
+use Rattle.portal_status.specs.declared.status.Status.TheVariants as status
+use Rattle.portal_serve.specs.Run.{DeviceTrace, GaveTooMuch, PlaysAll, PlaysPart, PlaysRead, input_limit}
 use Rattle.portal_serve.specs.Stopped.{begun_limit}
 use Rattle.portal_serve.specs.declared.play.PlayEnd.{PlayEnd}
 use Rattle.portal_serve.specs.declared.play.PlayEnd.TheVariants as playing
 
--- a script that was played on the portal that the run began with
-pub plays_by : (first state after : State) (old new : DeviceTrace) (end : PlayEnd) → first ≡ state
-    → (end ≡ playing.Done → (whole : List ℕ) → old.to_come ≡ Some whole → PlaysAll first whole after old new)
+-- ---- a script that was played
+
+pub plays_by : (state after : State) (old new : DeviceTrace) (end : PlayEnd)
+    → (end ≡ playing.Done → (whole : List ℕ) → old.to_come ≡ Some whole → PlaysAll state whole after old new)
     → (end ≢ playing.Done → (whole : List ℕ) → old.to_come ≡ Some whole
-    → PlaysPart (begun_limit end) first whole after old new)
-    → (end ≡ playing.ReadFault → (whole : List ℕ) → old.to_come ≡ Some whole → PlaysRead first whole after old new)
-    → Plays state old new end
-plays_by first state after old new playing.Done is all part read =
-    λ whole observed. (after, all_from _ _ _ _ _ _ is (all refl whole observed))
-plays_by first state after old new playing.ReadFault is all part read =
-    λ whole observed. (after, read_from _ _ _ _ _ _ is (read refl whole observed))
-plays_by first state after old new playing.WriteFault is all part read =
-    λ whole observed. (after, part_from _ _ _ _ _ _ _ is (part (λ e. cc) whole observed))
-plays_by first state after old new playing.TooLong is all part read =
-    λ whole observed. (after, part_from _ _ _ _ _ _ _ is (part (λ e. cc) whole observed))
-plays_by first state after old new playing.OutOfMemory is all part read =
-    λ whole observed. (after, part_from _ _ _ _ _ _ _ is (part (λ e. cc) whole observed))
+    → PlaysPart (begun_limit end) state whole after old new)
+    → (end ≡ playing.ReadFault → (whole : List ℕ) → old.to_come ≡ Some whole → PlaysRead state whole after old new)
+    → Plays state after old new end
+plays_by state after old new playing.Done all part read = all refl
+plays_by state after old new playing.ReadFault all part read = read refl
+plays_by state after old new playing.WriteFault all part read = part (λ e. absurd (cc))
+plays_by state after old new playing.KeeperFault all part read = part (λ e. absurd (cc))
+plays_by state after old new playing.TooLong all part read = part (λ e. absurd (cc))
+plays_by state after old new playing.OutOfMemory all part read = part (λ e. absurd (cc))
+
+-- The end of playing is the one whose status it is.
+pub read_by : (end : PlayEnd) → status_for end ≡ status.ReadFault → end ≡ playing.ReadFault
+read_by playing.Done is = absurd (cc)
+read_by playing.ReadFault is = refl
+read_by playing.WriteFault is = absurd (cc)
+read_by playing.KeeperFault is = absurd (cc)
+read_by playing.TooLong is = absurd (cc)
+read_by playing.OutOfMemory is = absurd (cc)
+
+pub written_by : (end : PlayEnd) → status_for end ≡ status.WriteFault → end ≡ playing.WriteFault
+written_by playing.Done is = absurd (cc)
+written_by playing.ReadFault is = absurd (cc)
+written_by playing.WriteFault is = refl
+written_by playing.KeeperFault is = absurd (cc)
+written_by playing.TooLong is = absurd (cc)
+written_by playing.OutOfMemory is = absurd (cc)
+
+pub kept_by : (end : PlayEnd) → status_for end ≡ status.KeeperFault → end ≡ playing.KeeperFault
+kept_by playing.Done is = absurd (cc)
+kept_by playing.ReadFault is = absurd (cc)
+kept_by playing.WriteFault is = absurd (cc)
+kept_by playing.KeeperFault is = refl
+kept_by playing.TooLong is = absurd (cc)
+kept_by playing.OutOfMemory is = absurd (cc)
+
+too_long_is : (end : PlayEnd) → status_for end ≡ status.DataFault (codes "input too long") → end ≡ playing.TooLong
+too_long_is playing.Done is = absurd (cc)
+too_long_is playing.ReadFault is = absurd (cc)
+too_long_is playing.WriteFault is = absurd (cc)
+too_long_is playing.KeeperFault is = absurd (cc)
+too_long_is playing.TooLong is = refl
+too_long_is playing.OutOfMemory is = absurd (cc)
 
 -- The text `input too long` is the status exactly if playing ended because input was too long.
-pub too_long_by : (end : PlayEnd) (P : Type 0) → ((end ≡ playing.TooLong) ↔ P)
-    → ((status_for end ≡ DataFault (codes "input too long")) ↔ P)
-too_long_by playing.Done P same =
-    (λ is. absurd (cc), λ p. let e : playing.Done ≡ playing.TooLong = same.1 p in absurd (cc))
-too_long_by playing.ReadFault P same =
-    (λ is. absurd (cc), λ p. let e : playing.ReadFault ≡ playing.TooLong = same.1 p in absurd (cc))
-too_long_by playing.WriteFault P same =
-    (λ is. absurd (cc), λ p. let e : playing.WriteFault ≡ playing.TooLong = same.1 p in absurd (cc))
-too_long_by playing.TooLong P same = (λ is. same.0 refl, λ p. refl)
-too_long_by playing.OutOfMemory P same =
-    (λ is. absurd (cc), λ p. let e : playing.OutOfMemory ≡ playing.TooLong = same.1 p in absurd (cc))
+pub too_long_by : (end : PlayEnd) (ended : Status) (P : Type 0) → ended ≡ status_for end
+    → ((end ≡ playing.TooLong) ↔ P) → ((ended ≡ status.DataFault (codes "input too long")) ↔ P)
+too_long_by end ended P ends same =
+    (λ is. same.0 (too_long_is end (sym ends ∙ is)), λ p. ends ∙ ap status_for (same.1 p))
 
--- a desk that was served from the portal that the run began with
-pub serves_by : {Peer : Type 0} (trace : Peer → LinkTrace) (beginning : Beginning) (links : ℕ)
-    (old new : DeskTrace Peer)
-    (first after : State) (served : Result Unit Failed) → first ≡ beginning.state
-    → ServesDesk trace beginning.digests first links old new after served
-    → Serves trace beginning links old new (end_for_desk served)
-serves_by trace beginning links old new first after (Ok done) same serves =
-    (after, subst (λ state. ServesDesk trace beginning.digests state links old new after (Ok done)) same serves)
-serves_by trace beginning links old new first after (Err failed) same serves = (
-  failed,
-  after,
-  subst (λ state. ServesDesk trace beginning.digests state links old new after (Err failed)) same serves,
+-- ---- a portal that isn't opened
+
+-- A status that is none of a source, of a sink, of a listener or of data.
+abbrev IsOfOpening : Status → Type 0
+IsOfOpening ended =
+    (ended ≢ status.ReadFault) × (ended ≢ status.WriteFault) × (ended ≢ status.ListenFault)
+    × (ended ≢ status.DataFault (codes "input too long"))
+
+pub opening_is : (store : StoreTrace) (ended : Status) → FailsToOpen store ended → IsOfOpening ended
+opening_is store ended (inl memory) = (λ is. absurd (cc), λ is. absurd (cc), λ is. absurd (cc), λ is. absurd (cc))
+opening_is store ended (inr (inl failed)) =
+    let why = failed.0 in (λ is. absurd (cc), λ is. absurd (cc), λ is. absurd (cc), λ is. absurd (cc))
+opening_is store ended (inr (inr rows)) =
+    let why = rows.0 in (λ is. absurd (cc), λ is. absurd (cc), λ is. absurd (cc), λ is. absurd (cc))
+
+pub opening_failed : (store : StoreTrace) (ended : Status) → FailsToOpen store ended → ended ≡ status.KeeperFault
+    → Rose store.faults store.faults_after
+opening_failed store ended (inl memory) is = absurd (cc)
+opening_failed store ended (inr (inl failed)) is = failed.1
+opening_failed store ended (inr (inr rows)) is = let why = rows.0 in absurd (cc)
+
+-- Why no portal was opened, by the fault.
+pub fails_to_open : (store : StoreTrace) (fault : OpenFault) (ended : Status) → ended ≡ status_for_opening fault
+    → (fault ≡ opening.Keeper → Rose store.faults store.faults_after)
+    → ((rows : List KeptRow) → fault ≡ opening.BadRows rows
+    → Shows store.rows rows × Shows store.rows_after rows × AreOfNoState rows)
+    → FailsToOpen store ended
+fails_to_open store opening.Keeper ended is failed bad = inr (inl (is, failed refl))
+fails_to_open store (opening.BadRows rows) ended is failed bad =
+    let why = bad rows refl in inr (inr (is, by store.rows why.0 why.2))
+  where
+    by : (observed : Option (List KeptRow)) → Shows observed rows → AreOfNoState rows → IfSome observed AreOfNoState
+    by None shown none = tt
+    by (Some kept) shown none = subst AreOfNoState (sym shown) none
+fails_to_open store opening.OutOfMemory ended is failed bad = inl is
+
+-- An input that isn't read isn't too long.
+pub unread_is : (ended : Status) (whole : List ℕ) (left : Option (List ℕ))
+    → ended ≢ status.DataFault (codes "input too long") → left ≡ Some whole
+    → ((ended ≡ status.DataFault (codes "input too long")) ↔ GaveTooMuch whole left)
+unread_is ended whole left other observed = (
+  λ is. absurd (other is),
+  λ gave. let same : gave.0 ≡ whole = cc in
+      absurd (omega (arith, gave.2, ap length same)),
 )
+
+-- ---- a desk that was served
 
 -- If a desk failed, its count of faults rose.
 pub fails_by : (before after : ℕ) (served : Result Unit Failed) → OnErr served (Rose before after)
-    → end_for_desk served ≡ serve_end.ListenFault → Rose before after
+    → status_for_desk served ≡ status.ListenFault → Rose before after
 fails_by before after (Ok done) rose is = absurd (cc)
 fails_by before after (Err failed) rose is = rose
+
+pub no_keeper_by : (served : Result Unit Failed) → status_for_desk served ≢ status.KeeperFault
+no_keeper_by (Ok done) = λ is. absurd (cc)
+no_keeper_by (Err failed) = λ is. absurd (cc)

@@ -2,31 +2,28 @@
 use Rattle.std.specs.Prelude.{◌≡◌, ◌⊎◌, ◌≤◌, ℕ, List, ◌++◌, length, codes, Option, Some, None, Ok}
 use Rattle.std.specs.Prelude.{Err}
 use Rattle.portal_base.specs.Outside.{Rose}
-use Rattle.portal_core.specs.Opened.{opened}
-use Rattle.portal_core.specs.State.{State}
-use Rattle.portal_core.specs.declared.portal.Opening.{Opening}
+use Rattle.portal_core.specs.declared.opening.Opening.{Opening}
 use Rattle.portal_file.specs.File.{file_of}
 use Rattle.portal_file.specs.Rules.{rule_name}
 use Rattle.portal_file.specs.declared.file.PortalFile.{PortalFile}
 use Rattle.portal_file.specs.declared.rule.FileRule.{FileRule}
-use Rattle.portal_serve.specs.Defaults.{default_state, default_digests}
+use Rattle.portal_serve.specs.Defaults.{default_opening, default_digests}
 use Rattle.portal_serve.specs.Tokens.{Digests}
 use Rattle.portal_status.specs.declared.status.Status.{Status}
 use Rattle.portal_status.specs.declared.status.Status.TheVariants as status
 use Rattle.portal_status.specs.Fetch.{FailsToFetch, FetchTrace, HoldsFile}
 
--- the state of a portal, and the digests of its users' tokens
+-- what a portal is opened with, and the digests of its users' tokens
 pub record Beginning : Type 0 where
-  pub state : State
+  pub opening : Opening
   pub digests : Digests
 
--- the portal that is opened with these
 abbrev pub beginning_with : Opening → Digests → Beginning
-beginning_with opening digests = record { state = opened opening; digests = digests }
+beginning_with opening digests = record { opening = opening; digests = digests }
 
 -- the default portal
 abbrev pub default_beginning : Beginning
-default_beginning = record { state = default_state; digests = default_digests }
+default_beginning = beginning_with default_opening default_digests
 
 -- the portal of a portal file
 abbrev pub opening_of : PortalFile → Opening

@@ -11,7 +11,7 @@ returns-in-Err-clause-loads g c = (
   Err c.stop_of_schema.result,
   c.status_of_end.ensures,
   λ whole observed. loads_not
-      (load_task c.args.caller.now c.args.schema.now c.args.resource.now) c.args.portal.now whole
+      (load_task c.args.caller.now c.args.schema.now c.args.resource.now) c.args.portal.now.state whole
       (g.S.Source.to_come c.args.input.now)
       (stage_trace (g.O.Sink.taken c.args.output.now) (g.C.Clock.given c.args.clock.now) (g.N.Nonces.given c.args.nonces.now))
       c.in-Err.fault c.stop_of_schema.result observed c.in-Err.ensures.fault c.stop_of_schema.ensures.reported
@@ -22,8 +22,8 @@ pub returns-clause-loads : goal.returns-clause-loads
 returns-clause-loads g c = (
   c.load_by.result,
   c.status_of_end-2.ensures,
-  λ whole observed. loads_at (load_task c.args.caller.now c.args.schema.now c.args.resource.now) c.args.portal.now
-      c.load_by.new.portal whole
+  λ whole observed. loads_at (load_task c.args.caller.now c.args.schema.now c.args.resource.now) c.args.portal.now.state
+      c.load_by.new.portal.state whole
       (device_trace (g.S.Source.to_come c.args.input.now) (g.O.Sink.taken c.args.output.now)
       (g.C.Clock.given c.args.clock.now) (g.N.Nonces.given c.args.nonces.now))
       (g.S.Source.to_come c.load_by.new.input)

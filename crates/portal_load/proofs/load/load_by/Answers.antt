@@ -7,15 +7,15 @@ use Rattle.portal_load.proofs.load.load_by.Goals as goal
 
 pub returns-in_err-play_create-clause-loads : goal.returns-in_err-play_create-clause-loads
 returns-in_err-play_create-clause-loads g c =
-    loads_unmade c.from_residual.result _ c.args.task.now c.args.read.json c.args.read.schema c.args.portal.now
-    c.play_create.new.portal _ _ _ (err_from_is_err_and c.from_residual.result c.from_residual.ensures.1) c.requires
+    loads_unmade c.from_residual.result _ c.args.task.now c.args.read.json c.args.read.schema c.args.portal.now.state
+    c.play_create.new.portal.state _ _ _ (err_from_is_err_and c.from_residual.result c.from_residual.ensures.1) c.requires
     c.in_err-play_create.ensures.ended
 
 pub returns-clause-loads : goal.returns-clause-loads
 returns-clause-loads g c =
     rw (← c.new.ensures.same)
-    (loads_made_at c.play_rows-source.new.played c.args.task.now c.args.read.json c.args.read.schema c.args.portal.now
-    c.play_create.new.portal c.play_rows-source.new.portal _ _ (g.S.Source.to_come c.input-1.given.0) _ _ _
+    (loads_made_at c.play_rows-source.new.played c.args.task.now c.args.read.json c.args.read.schema c.args.portal.now.state
+    c.play_create.new.portal.state c.play_rows-source.new.portal.state _ _ (g.S.Source.to_come c.input-1.given.0) _ _ _
     c.requires c.in_ok-play_create.ensures.made
     c.play_rows-source.ensures.done c.play_rows-source.ensures.end c.play_rows-source.ensures.ended
     c.play_rows-source.ensures.received

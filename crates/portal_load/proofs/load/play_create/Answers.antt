@@ -19,7 +19,7 @@ returns-in_err-text-clause-ended g c =
 pub returns-clause-made : goal.returns-clause-made
 returns-clause-made g c =
     on_create
-    (λ call. OnOk c.play_call.result (MakesOn c.args.portal.now (call ∷ []) c.play_call.new.portal
+    (λ call. OnOk c.play_call.result (MakesOn c.args.portal.now.state (call ∷ []) c.play_call.new.portal.state
     (trace_of g.O.Sink.taken g.C.Clock.given g.N.Nonces.given c.args.stage.now)
     (trace_of g.O.Sink.taken g.C.Clock.given g.N.Nonces.given c.play_call.new.stage)))
     c.args.task.now.caller.now c.args.task.now.resource.now c.args.schema c.in_ok-body.body c.in_ok-body.ensures.same
@@ -28,7 +28,7 @@ returns-clause-made g c =
 pub returns-clause-ended : goal.returns-clause-ended
 returns-clause-ended g c =
     on_create
-    (λ call. IfErr c.play_call.result (CallsEnd c.args.portal.now (call ∷ []) c.play_call.new.portal
+    (λ call. IfErr c.play_call.result (CallsEnd c.args.portal.now.state (call ∷ []) c.play_call.new.portal.state
     (trace_of g.O.Sink.taken g.C.Clock.given g.N.Nonces.given c.args.stage.now)
     (trace_of g.O.Sink.taken g.C.Clock.given g.N.Nonces.given c.play_call.new.stage)))
     c.args.task.now.caller.now c.args.task.now.resource.now c.args.schema c.in_ok-body.body c.in_ok-body.ensures.same

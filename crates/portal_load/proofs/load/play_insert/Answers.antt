@@ -10,8 +10,8 @@ pub returns-in_err-play_call-in-Ok-Some-clause-ended :
     goal.returns-in_err-play_call-in-Ok-Some-clause-ended
 returns-in_err-play_call-in-Ok-Some-clause-ended g c =
     let given = rw c.in-Ok-Some.field-0-is at c.in-Ok-Some.ensures.answers in
-    ends_at_insert c.from_residual.result _ c.args.task.now c.args.inserts.now.resource c.args.portal.now
-    c.play_call.new.portal c.in-Ok-Some.field-0-0 c.in-Ok-Some.field-0-0.body c.args.inserts.now.remaining
+    ends_at_insert c.from_residual.result _ c.args.task.now c.args.inserts.now.resource c.args.portal.now.state
+    c.play_call.new.portal.state c.in-Ok-Some.field-0-0 c.in-Ok-Some.field-0-0.body c.args.inserts.now.remaining
     c.next.new.self.remaining _ _
     (err_from_is_err_and c.from_residual.result c.from_residual.ensures.1) c.requires.resource
     refl given c.in_err-play_call-in-Ok-Some.ensures.ended
@@ -20,8 +20,8 @@ pub returns-in_err-play_call-in-Ok-Some-clause-refused :
     goal.returns-in_err-play_call-in-Ok-Some-clause-refused
 returns-in_err-play_call-in-Ok-Some-clause-refused g c =
     let given = rw c.in-Ok-Some.field-0-is at c.in-Ok-Some.ensures.answers in
-    refuses_insert c.from_residual.result _ c.args.task.now c.args.inserts.now.resource c.args.portal.now
-    c.play_call.new.portal c.in-Ok-Some.field-0-0 c.in-Ok-Some.field-0-0.body c.args.inserts.now.remaining
+    refuses_insert c.from_residual.result _ c.args.task.now c.args.inserts.now.resource c.args.portal.now.state
+    c.play_call.new.portal.state c.in-Ok-Some.field-0-0 c.in-Ok-Some.field-0-0.body c.args.inserts.now.remaining
     c.next.new.self.remaining _ _
     (err_from_is_err_and c.from_residual.result c.from_residual.ensures.1) c.requires.resource
     refl given c.in_err-play_call-in-Ok-Some.ensures.ended
@@ -30,7 +30,7 @@ pub returns-in_ok-play_call-in-Ok-Some-clause-more :
     goal.returns-in_ok-play_call-in-Ok-Some-clause-more
 returns-in_ok-play_call-in-Ok-Some-clause-more g c =
     let given = rw c.in-Ok-Some.field-0-is at c.in-Ok-Some.ensures.answers in
-    λ more. goes_on_insert c.args.task.now c.args.inserts.now.resource c.args.portal.now c.play_call.new.portal
+    λ more. goes_on_insert c.args.task.now c.args.inserts.now.resource c.args.portal.now.state c.play_call.new.portal.state
     c.in-Ok-Some.field-0-0 c.in-Ok-Some.field-0-0.body c.args.inserts.now.remaining c.next.new.self.remaining _ _
     c.requires.resource
     refl given c.in_ok-play_call-in-Ok-Some.ensures.made
@@ -40,7 +40,7 @@ returns-in-Err-clause-ended g c =
     let unspent : c.in-Err.fault ≢ Spent = λ e.
     let spent : c.args.inserts.now.is_spent ≡ true = c.in-Err.ensures.spent.0 (ap (λ (f : LoadFault). Err f) e) in
     absurd (cc) in
-    λ pieces observed. ends_answer c.args.task.now c.args.inserts.now.resource c.args.portal.now c.in-Err.fault pieces
+    λ pieces observed. ends_answer c.args.task.now c.args.inserts.now.resource c.args.portal.now.state c.in-Err.fault pieces
     c.args.inserts.now.remaining c.next.new.self.remaining _ c.stop_of_csv.result unspent observed c.in-Err.ensures.answers
     (record {
       read_fault = c.stop_of_csv.ensures.read_fault;

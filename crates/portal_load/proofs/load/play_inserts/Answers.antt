@@ -18,6 +18,7 @@ loop-init g c = record {
   loan = refl;
   counts = omega arith;
   loans = same_loans _;
+  keeps = omega arith;
 }
 
 pub loop-preserved : goal.loop-preserved
@@ -26,7 +27,7 @@ loop-preserved g c =
     record {
       resource = c.play_insert.ensures.resource ∙ c.loop.invariant.resource;
       goes_on = c.in-Ok-true.ensures.goes_on;
-      plays = plays_more c.args.task.now c.args.portal.now c.loop.portal c.play_insert.new.portal
+      plays = plays_more c.args.task.now c.args.portal.now.state c.loop.portal.state c.play_insert.new.portal.state
           c.args.inserts.now.remaining c.loop.inserts.remaining c.play_insert.new.inserts.remaining _ _ _ c.loop.invariant.plays
           (c.play_insert.ensures.more granted);
       received = counted_more _ _ _ _ _ _ c.loop.invariant.received c.play_insert.ensures.received;
@@ -35,13 +36,14 @@ loop-preserved g c =
       loan = c.play_insert.ensures.loan ∙ c.loop.invariant.loan;
       counts = omega (arith, c.loop.invariant.counts, c.play_insert.ensures.counts);
       loans = same_loans_on _ _ _ c.loop.invariant.loans c.play_insert.ensures.loans;
+      keeps = omega (arith, c.loop.invariant.keeps, c.play_insert.ensures.keeper_counts);
     }
 
 pub returns-in-Ok-false-clause-done : goal.returns-in-Ok-false-clause-done
 returns-in-Ok-false-clause-done g c =
     let end = c.play_insert.ensures.end (c.in-Ok-false.is ∙ ap (λ b. Ok b) c.in-Ok-false.field-0-test) in
     rw (end.2, end.3)
-    (plays_all c.args.task.now c.args.portal.now c.loop.portal c.args.inserts.now.remaining c.loop.inserts.remaining _ _
+    (plays_all c.args.task.now c.args.portal.now.state c.loop.portal.state c.args.inserts.now.remaining c.loop.inserts.remaining _ _
     c.loop.invariant.plays end.0)
 
 pub returns-in-Ok-false-clause-received : goal.returns-in-Ok-false-clause-received
@@ -50,14 +52,14 @@ returns-in-Ok-false-clause-received g c =
 
 pub returns-in-Err-clause-ended : goal.returns-in-Err-clause-ended
 returns-in-Err-clause-ended g c =
-    plays_end c.args.task.now c.args.portal.now c.loop.portal c.play_insert.new.portal c.args.inserts.now.remaining
+    plays_end c.args.task.now c.args.portal.now.state c.loop.portal.state c.play_insert.new.portal.state c.args.inserts.now.remaining
     c.loop.inserts.remaining _ _ _ c.in-Err.stop c.loop.invariant.plays c.in-Err.ensures.ended
 
 pub returns-in-Err-clause-refused : goal.returns-in-Err-clause-refused
 returns-in-Err-clause-refused g c =
     λ is.
     let same : c.in-Err.stop ≡ Refused = cc in
-    plays_refused c.args.task.now c.args.portal.now c.loop.portal c.play_insert.new.portal
+    plays_refused c.args.task.now c.args.portal.now.state c.loop.portal.state c.play_insert.new.portal.state
     c.args.inserts.now.remaining c.loop.inserts.remaining c.play_insert.new.inserts.remaining _ _ _
     c.loop.invariant.plays (c.play_insert.ensures.refused (c.in-Err.is ∙ ap (λ s. Err s) same))
 
@@ -67,7 +69,7 @@ returns-in-Err-clause-received g c =
 
 pub returns-clause-ended : goal.returns-clause-ended
 returns-clause-ended g c =
-    plays_stop 1 c.args.task.now c.args.portal.now c.loop.portal c.args.inserts.now.remaining c.loop.inserts.remaining _ _
+    plays_stop 1 c.args.task.now c.args.portal.now.state c.loop.portal.state c.args.inserts.now.remaining c.loop.inserts.remaining _ _
     c.loop.invariant.plays
 
 pub returns-clause-too_long : goal.returns-clause-too_long

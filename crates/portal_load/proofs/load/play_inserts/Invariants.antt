@@ -9,7 +9,7 @@ abbrev pub invariant-loop : goal.invariant-loop
 invariant-loop g l = record {
   resource : l.inserts.resource ≡ l.fn.inserts.resource;
   goes_on : l.inserts.is_spent ≡ false;
-  plays : PlaysTo l.fn.task l.fn.portal l.fn.inserts.remaining l.portal l.inserts.remaining
+  plays : PlaysTo l.fn.task l.fn.portal.state l.fn.inserts.remaining l.portal.state l.inserts.remaining
       (trace_of g.O.Sink.taken g.C.Clock.given g.N.Nonces.given l.fn.stage)
       (trace_of g.O.Sink.taken g.C.Clock.given g.N.Nonces.given l.stage);
   received : IsGiven g.S.Source.to_come l.fn.inserts l.inserts;
@@ -18,4 +18,5 @@ invariant-loop g l = record {
   loan : g.S.Source.loan l.inserts.source ≡ g.S.Source.loan l.fn.inserts.source;
   counts : g.O.Sink.faults l.fn.stage.output.now ≤ g.O.Sink.faults l.stage.output.now;
   loans : AreSameLoans l.fn.stage l.stage;
+  keeps : g.P.Keeper.faults l.fn.portal.keeper ≤ g.P.Keeper.faults l.portal.keeper;
 }

@@ -16,7 +16,7 @@ returns-in-Ok-clause-received g c =
 
 pub returns-in-Err-clause-ended : goal.returns-in-Err-clause-ended
 returns-in-Err-clause-ended g c =
-    λ whole is. ends_start c.args.task.now c.args.task.now.resource.now c.args.schema.fields c.args.portal.now
+    λ whole is. ends_start c.args.task.now c.args.task.now.resource.now c.args.schema.fields c.args.portal.now.state
     c.in-Err.fault whole _ _ c.stop_of_csv.result is c.in-Err.ensures.refused
     (record {
       read_fault = c.stop_of_csv.ensures.read_fault;

@@ -1,12 +1,69 @@
 -- The script was played on the portal that was opened. If none was opened, nothing was played.
-use Rattle.portal_core.specs.Opened.{opened}
-use Rattle.portal_serve.proofs.Playing.{plays_nothing}
-use Rattle.portal_start.proofs.Beginning.{plays_by}
+use Rattle.std.proofs.Common.{inl, inr, refl, subst, sym, ◌∙◌}
+use Rattle.portal_start.proofs.Beginning.{kept_by, opening_failed, opening_is, plays_by, read_by, too_long_by, unread_is}
+use Rattle.portal_start.proofs.Beginning.{written_by}
+use Rattle.portal_base.specs.Outside.{Rose}
+use Rattle.portal_serve.proofs.Working.{Rose-before}
+use Rattle.portal_start.specs.OverStore.{store_trace}
 use Rattle.portal_start.proofs.commands.play_script.Goals as goal
 
 pub returns-in-Ok-clause-plays : goal.returns-in-Ok-clause-plays
-returns-in-Ok-clause-plays g c =
-    plays_by _ _ _ _ _ c.play.result c.in-Ok.ensures c.play.ensures.done c.play.ensures.cut c.play.ensures.unended
+returns-in-Ok-clause-plays g c = inl (record {
+  state = c.in-Ok.portal.state;
+  begins = c.in-Ok.ensures.opened;
+  after = c.play-end.new.portal.state;
+  valid = c.end_with.ensures.valid;
+  leaves = c.end_with.ensures.rows;
+  does = (
+    c.play-end.result,
+    c.end_with.ensures.status ∙ c.status_of_end.ensures,
+    plays_by _ _ _ _ c.play-end.result c.play-end.ensures.done c.play-end.ensures.cut c.play-end.ensures.unended,
+  );
+})
+
+pub returns-in-Ok-clause-read_fault : goal.returns-in-Ok-clause-read_fault
+returns-in-Ok-clause-read_fault g c =
+    λ is. c.play-end.ensures.read_fault (read_by _ (sym (c.end_with.ensures.status ∙ c.status_of_end.ensures) ∙ is))
+
+pub returns-in-Ok-clause-write_fault : goal.returns-in-Ok-clause-write_fault
+returns-in-Ok-clause-write_fault g c =
+    λ is. c.play-end.ensures.write_fault
+    (written_by _ (sym (c.end_with.ensures.status ∙ c.status_of_end.ensures) ∙ is))
+
+pub returns-in-Ok-clause-keeper_fault : goal.returns-in-Ok-clause-keeper_fault
+returns-in-Ok-clause-keeper_fault g c =
+    λ is. subst (λ keeper. Rose (g.P.Keeper.faults c.args.keeper) (g.P.Keeper.faults keeper))
+    (sym c.end_with.ensures.keeper)
+    (Rose-before _ _ _ c.in-Ok.ensures.counts
+    (c.play-end.ensures.keeper_fault (kept_by _ (sym (c.end_with.ensures.status ∙ c.status_of_end.ensures) ∙ is))))
+
+pub returns-in-Ok-clause-too_much : goal.returns-in-Ok-clause-too_much
+returns-in-Ok-clause-too_much g c = λ whole observed.
+    too_long_by _ _ _ (c.end_with.ensures.status ∙ c.status_of_end.ensures)
+    (c.play-end.ensures.too_long whole observed)
 
 pub returns-in-Err-clause-plays : goal.returns-in-Err-clause-plays
-returns-in-Err-clause-plays g c = λ whole observed. (opened c.args.start.now.opening, plays_nothing _ _ _ _ observed)
+returns-in-Err-clause-plays g c = inr (c.in-Err.ensures.fails, refl)
+
+pub returns-in-Err-clause-read_fault : goal.returns-in-Err-clause-read_fault
+returns-in-Err-clause-read_fault g c =
+    λ is. absurd ((opening_is
+    (store_trace (g.P.Keeper.rows c.args.keeper) (g.P.Keeper.faults c.args.keeper)
+    (g.P.Keeper.rows c.in-Err.ended.keeper) (g.P.Keeper.faults c.in-Err.ended.keeper)) c.in-Err.ended.status c.in-Err.ensures.fails).0 is)
+
+pub returns-in-Err-clause-write_fault : goal.returns-in-Err-clause-write_fault
+returns-in-Err-clause-write_fault g c =
+    λ is. absurd ((opening_is
+    (store_trace (g.P.Keeper.rows c.args.keeper) (g.P.Keeper.faults c.args.keeper)
+    (g.P.Keeper.rows c.in-Err.ended.keeper) (g.P.Keeper.faults c.in-Err.ended.keeper)) c.in-Err.ended.status c.in-Err.ensures.fails).1 is)
+
+pub returns-in-Err-clause-keeper_fault : goal.returns-in-Err-clause-keeper_fault
+returns-in-Err-clause-keeper_fault g c = opening_failed
+    (store_trace (g.P.Keeper.rows c.args.keeper) (g.P.Keeper.faults c.args.keeper)
+    (g.P.Keeper.rows c.in-Err.ended.keeper) (g.P.Keeper.faults c.in-Err.ended.keeper)) c.in-Err.ended.status c.in-Err.ensures.fails
+
+pub returns-in-Err-clause-too_much : goal.returns-in-Err-clause-too_much
+returns-in-Err-clause-too_much g c = λ whole observed.
+    unread_is _ whole _ (opening_is
+    (store_trace (g.P.Keeper.rows c.args.keeper) (g.P.Keeper.faults c.args.keeper)
+    (g.P.Keeper.rows c.in-Err.ended.keeper) (g.P.Keeper.faults c.in-Err.ended.keeper)) c.in-Err.ended.status c.in-Err.ensures.fails).3 observed
