@@ -13,6 +13,7 @@ use portal_base::moment::Moment;
 use portal_base::seq::Seq;
 use portal_base::text::Text;
 use portal_core::portal::{Opening, Portal};
+use portal_keeper::memory::MemoryKeeper;
 use std::alloc::{AllocError, Global};
 use std::io::{self, ErrorKind};
 
@@ -75,7 +76,7 @@ fn opening_at(alloc: Global, created: Moment) -> Result<Opening, AllocError> {
 }
 
 /// A portal with these people and no dataset.
-pub fn opened(alloc: Global) -> io::Result<Portal> {
+pub fn opened(alloc: Global) -> io::Result<Portal<MemoryKeeper>> {
     let Some(created) = Moment::from_seconds(0) else {
         return Err(invalid());
     };
@@ -83,7 +84,8 @@ pub fn opened(alloc: Global) -> io::Result<Portal> {
     if !is_sound(&opening) {
         return Err(invalid());
     }
-    match Portal::open(alloc, &opening) {
+    let keeper = MemoryKeeper::new(alloc, Seq::new(alloc), Seq::new(alloc));
+    match Portal::open(alloc, keeper, &opening) {
         Ok(portal) => Ok(portal),
         Err(_fault) => Err(io::Error::from(ErrorKind::OutOfMemory)),
     }

@@ -100,6 +100,7 @@ fn push_refusal(text: &mut Buffer, refusal: &Refusal) {
             text.push("in use: ");
             text.push(key.as_str());
         }
+        Refusal::KeeperFault => text.push("store failed"),
         Refusal::OutOfMemory => text.push("out of memory"),
     }
 }

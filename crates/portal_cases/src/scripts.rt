@@ -1,7 +1,7 @@
 //! Scripts and their transcripts: each file `NAME.script` is played, and `NAME.transcript` has what is expected: the
 //! lines that are written, and after them `status N` where the run ends with another status than 0. So a further case
-//! is two files. `out_of_memory.reply` has what is written for a call for which there is no memory, to which no script
-//! comes.
+//! is two files. `store_failed.reply` and `out_of_memory.reply` have what is written for a call that the store doesn't keep
+//! and for one for which there is no memory, to which no script comes.
 use action_api::reply::reply_text;
 use cases::{Buffer, Location, Tally};
 use portal_base::counted::{CountNonces, ScriptClock};
@@ -22,6 +22,7 @@ fn status_of(end: PlayEnd) -> u8 {
         PlayEnd::Done => 0,
         PlayEnd::ReadFault => 3,
         PlayEnd::WriteFault => 4,
+        PlayEnd::KeeperFault => 5,
         PlayEnd::OutOfMemory => 6,
         PlayEnd::TooLong => 9,
     }
@@ -106,15 +107,26 @@ fn check_script(rt: &HostRuntime, tally: &mut Tally, name: &str) -> io::Result<(
     compare_with(rt, tally, name, ".transcript", found.bytes()?)
 }
 
-/// What is written for a call for which there is no memory.
-fn out_of_memory(alloc: Global) -> Result<Buffer, AllocError> {
-    let reply = Ok(Reply::Refused(Refusal::OutOfMemory));
+/// What is written for a call that is refused like this.
+fn refusal_line(alloc: Global, refusal: Refusal) -> Result<Buffer, AllocError> {
+    let reply = Ok(Reply::Refused(refusal));
     let (status, text) = reply_text(alloc, Some("package_show"), &reply)?;
     let mut written = Buffer::of_value(alloc, &status);
     written.push(" ");
     written.push_bytes(text.as_slice());
     written.push("\n");
     Ok(written)
+}
+
+/// Compares what is written for a call that is refused like this with the reply of that name.
+fn check_refusal(
+    rt: &HostRuntime,
+    tally: &mut Tally,
+    name: &str,
+    refusal: Refusal,
+) -> io::Result<()> {
+    let found = refusal_line(rt.alloc(), refusal)?;
+    compare_with(rt, tally, name, ".reply", found.bytes()?)
 }
 
 /// Adds what comes before the ending in the file's name, where it has that ending.
@@ -141,11 +153,11 @@ pub fn names_with(rt: &HostRuntime, ending: &str) -> io::Result<Vec<String>> {
     Ok(names)
 }
 
-/// Plays all scripts of the folder.
+/// Plays all scripts of the folder, and writes the refusals to which none comes.
 pub fn check_scripts(rt: &HostRuntime, tally: &mut Tally) -> io::Result<()> {
     for name in names_with(rt, ".script")?.iter() {
         check_script(rt, tally, name.as_str())?;
     }
-    let found = out_of_memory(rt.alloc())?;
-    compare_with(rt, tally, "out_of_memory", ".reply", found.bytes()?)
+    check_refusal(rt, tally, "store_failed", Refusal::KeeperFault)?;
+    check_refusal(rt, tally, "out_of_memory", Refusal::OutOfMemory)
 }

@@ -10,6 +10,7 @@ use portal_calls::action::Action;
 use portal_calls::call::{Call, Request};
 use portal_core::event::{Event, Reply};
 use portal_core::portal::Portal;
+use portal_keeper::memory::MemoryKeeper;
 use std::alloc::Global;
 use std::io;
 
@@ -55,7 +56,7 @@ fn request_of(alloc: Global, line: Line<'_>) -> Option<Request> {
 /// A portal, and what draws the moments and numbers of the calls on it.
 #[derive(Drop)]
 pub struct Session {
-    portal: Portal,
+    portal: Portal<MemoryKeeper>,
     clock: ScriptClock,
     nonces: CountNonces,
 }

@@ -11,7 +11,9 @@ use Rattle.portal_load.specs.declared.stop.LoadStop.{LoadStop}
 use Rattle.portal_load.specs.declared.stop.LoadStop.TheVariants as stop
 use Rattle.portal_load.specs.Load.{LoadTask, LoadsWith, load_task}
 use Rattle.portal_load.specs.SchemaFile.{LoadsBy, LoadsFrom}
-use Rattle.portal_start.specs.Start.{Beginning, Begins, BeginsAnd, FailsToBegin}
+use Rattle.portal_core.specs.declared.opening.Opening.{Opening}
+use Rattle.portal_start.specs.OverStore.{BeginsOver, FailsToOpen, StoreTrace, WorksOver}
+use Rattle.portal_start.specs.Start.{Beginning, Begins, FailsToBegin}
 use Rattle.portal_status.specs.Fetch.{FailsToFetch, FetchTrace, fetch_trace}
 use Rattle.portal_status.specs.declared.status.Status.{Status}
 use Rattle.portal_status.specs.declared.status.Status.TheVariants.{Words, ListenFault}
@@ -36,25 +38,43 @@ fetches_not_on held first before after location status le (inr (reported, inl ro
     inr (reported, inl (rose_from first before after le rose))
 fetches_not_on held first before after location status le (inr (reported, inr none)) = inr (reported, inr none)
 
-loads_on : (held : Holdings) (first before after : ℕ) (options : LoadOptions) (state : State) (old new : DeviceTrace)
-    (status : Status) → first ≤ before → LoadsFrom (fetch_trace held before after) options state old new status
-    → LoadsFrom (fetch_trace held first after) options state old new status
-loads_on held first before after options state old new status le (inl none) =
-    inl (fetches_not_on held first before after options.schema status le none.0, none.1)
-loads_on held first before after options state old new status le (inr loads) = inr loads
+loads_on : (held : Holdings) (first before after : ℕ) (options : LoadOptions) (state left : State) (old new : DeviceTrace)
+    (status : Status) → first ≤ before → LoadsFrom (fetch_trace held before after) options state left old new status
+    → LoadsFrom (fetch_trace held first after) options state left old new status
+loads_on held first before after options state left old new status le (inl none) =
+    inl (fetches_not_on held first before after options.schema status le none.0, none.1, none.2)
+loads_on held first before after options state left old new status le (inr loads) = inr loads
+
+works_on : (held : Holdings) (first before after : ℕ) (options : LoadOptions) (opening : Opening) (store : StoreTrace)
+    (old new : DeviceTrace) (status : Status) → first ≤ before
+    → WorksOver opening store status
+    (λ state left. LoadsFrom (fetch_trace held before after) options state left old new status) (new ≡ old)
+    → WorksOver opening store status
+    (λ state left. LoadsFrom (fetch_trace held first after) options state left old new status) (new ≡ old)
+works_on held first before after options opening store old new status le (inl opens) = inl (record {
+  state = opens.state;
+  begins = opens.begins;
+  after = opens.after;
+  valid = opens.valid;
+  leaves = opens.leaves;
+  does = loads_on held first before after options opens.state opens.after old new status le opens.does;
+})
+works_on held first before after options opening store old new status le (inr fails) = inr fails
 
 -- A load of the portal that was begun with.
 pub loads_begun : (held now : Holdings) (first before after : ℕ) (options : LoadOptions) (beginning : Beginning)
-    (old new : DeviceTrace) (status : Status) → now ≡ held → first ≤ before
+    (store : StoreTrace) (old new : DeviceTrace) (status : Status) → now ≡ held → first ≤ before
     → Begins (fetch_trace held first before) options.portal beginning
-    → LoadsFrom (fetch_trace now before after) options beginning.state old new status
-    → BeginsAnd (fetch_trace held first after) options.portal status
-    (λ b. LoadsFrom (fetch_trace held first after) options b.state old new status) (new ≡ old)
-loads_begun held now first before after options beginning old new status same le begins loads = inl (
+    → WorksOver beginning.opening store status
+    (λ state left. LoadsFrom (fetch_trace now before after) options state left old new status) (new ≡ old)
+    → BeginsOver (fetch_trace held first after) options.portal store status
+    (λ b state left. LoadsFrom (fetch_trace held first after) options state left old new status) (new ≡ old)
+loads_begun held now first before after options beginning store old new status same le begins loads = inl (
   beginning,
   begins_on held first before after options.portal beginning begins,
-  loads_on held first before after options beginning.state old new status le
-      (subst (λ (h : Holdings). LoadsFrom (fetch_trace h before after) options beginning.state old new status) same loads),
+  works_on held first before after options beginning.opening store old new status le
+      (subst (λ (h : Holdings). WorksOver beginning.opening store status
+      (λ state left. LoadsFrom (fetch_trace h before after) options state left old new status) (new ≡ old)) same loads),
 )
 
 -- ---- the statuses of a run that loads
@@ -67,6 +87,7 @@ end_is : (end : Result Unit LoadStop) → IsOfLoad (status_for_load end)
 end_is (Ok loaded) = (λ is. absurd (cc), λ is. absurd (cc))
 end_is (Err stop.ReadFault) = (λ is. absurd (cc), λ is. absurd (cc))
 end_is (Err stop.WriteFault) = (λ is. absurd (cc), λ is. absurd (cc))
+end_is (Err stop.KeeperFault) = (λ is. absurd (cc), λ is. absurd (cc))
 end_is (Err stop.OutOfMemory) = (λ is. absurd (cc), λ is. absurd (cc))
 end_is (Err (stop.DataFault text)) = (λ is. absurd (cc), λ is. absurd (cc))
 end_is (Err stop.Refused) = (λ is. absurd (cc), λ is. absurd (cc))
@@ -75,10 +96,10 @@ with_is : (task : LoadTask) (state after : State) (old new : DeviceTrace) (statu
     → LoadsWith task state after old new status → IsOfLoad status
 with_is task state after old new status (end, ends, loads) = subst IsOfLoad (sym ends) (end_is end)
 
-loads_is : (options : LoadOptions) (state : State) (old new : DeviceTrace) (status : Status) (schema : List ℕ)
-    → LoadsBy options state old new status schema → IsOfLoad status
-loads_is options state old new status schema (reports, loads) =
-    with_is (load_task (Named options.caller) schema options.resource) state loads.0 old new status loads.1
+loads_is : (options : LoadOptions) (state after : State) (old new : DeviceTrace) (status : Status) (schema : List ℕ)
+    → LoadsBy options state after old new status schema → IsOfLoad status
+loads_is options state after old new status schema (reports, loads) =
+    with_is (load_task (Named options.caller) schema options.resource) state after old new status loads
 
 fetch_is : (trace : FetchTrace) (location : List ℕ) (status : Status) → FailsToFetch trace location status
     → IsOfLoad status
@@ -94,26 +115,33 @@ begin_is trace (Some location) status (inr (bytes, held, within, inl memory)) =
 begin_is trace (Some location) status (inr (bytes, held, within, inr (why, is_so, named))) =
     (λ is. absurd (cc), λ is. absurd (cc))
 
-load_is : (trace : FetchTrace) (options : LoadOptions) (old new : DeviceTrace) (status : Status)
-    → BeginsAnd trace options.portal status (λ beginning. LoadsFrom trace options beginning.state old new status)
-    (new ≡ old)
-    → IsOfLoad status
-load_is trace options old new status (inl (beginning, begins, inl (fails, same))) =
-    fetch_is trace options.schema status fails
-load_is trace options old new status (inl (beginning, begins, inr (bytes, held, within, loads))) =
-    loads_is options beginning.state old new status bytes loads
-load_is trace options old new status (inr (none, same)) = begin_is trace options.portal status none
+opening_is : (store : StoreTrace) (status : Status) → FailsToOpen store status → IsOfLoad status
+opening_is store status (inl memory) = (λ is. absurd (cc), λ is. absurd (cc))
+opening_is store status (inr (inl (failed, rose))) = (λ is. absurd (cc), λ is. absurd (cc))
+opening_is store status (inr (inr (rows, none))) = (λ is. absurd (cc), λ is. absurd (cc))
+
+-- what a run of `load` did
+abbrev LoadsBegun : FetchTrace → LoadOptions → StoreTrace → DeviceTrace → DeviceTrace → Status → Type 0
+LoadsBegun trace options store old new status =
+    BeginsOver trace options.portal store status
+    (λ beginning state after. LoadsFrom trace options state after old new status) (new ≡ old)
+
+load_is : (trace : FetchTrace) (options : LoadOptions) (store : StoreTrace) (old new : DeviceTrace) (status : Status)
+    → LoadsBegun trace options store old new status → IsOfLoad status
+load_is trace options store old new status (inl (beginning, begins, inl opens)) = by opens.does
+  where
+    by : LoadsFrom trace options opens.state opens.after old new status → IsOfLoad status
+    by (inl (fails, same, kept)) = fetch_is trace options.schema status fails
+    by (inr (bytes, held, within, loads)) = loads_is options opens.state opens.after old new status bytes loads
+load_is trace options store old new status (inl (beginning, begins, inr (fails, same))) = opening_is store status fails
+load_is trace options store old new status (inr (none, same)) = begin_is trace options.portal status none
 
 -- The words name a command.
-pub load_no_words : (trace : FetchTrace) (options : LoadOptions) (old new : DeviceTrace) (status : Status)
-    → BeginsAnd trace options.portal status (λ beginning. LoadsFrom trace options beginning.state old new status)
-    (new ≡ old)
-    → status ≢ Words
-load_no_words trace options old new status loads = (load_is trace options old new status loads).0
+pub load_no_words : (trace : FetchTrace) (options : LoadOptions) (store : StoreTrace) (old new : DeviceTrace)
+    (status : Status) → LoadsBegun trace options store old new status → status ≢ Words
+load_no_words trace options store old new status loads = (load_is trace options store old new status loads).0
 
 -- A load uses no listener.
-pub load_no_listener : (trace : FetchTrace) (options : LoadOptions) (old new : DeviceTrace) (status : Status)
-    → BeginsAnd trace options.portal status (λ beginning. LoadsFrom trace options beginning.state old new status)
-    (new ≡ old)
-    → status ≢ ListenFault
-load_no_listener trace options old new status loads = (load_is trace options old new status loads).1
+pub load_no_listener : (trace : FetchTrace) (options : LoadOptions) (store : StoreTrace) (old new : DeviceTrace)
+    (status : Status) → LoadsBegun trace options store old new status → status ≢ ListenFault
+load_no_listener trace options store old new status loads = (load_is trace options store old new status loads).1

@@ -1,6 +1,6 @@
 -- What a run does, by the command of its words and by its status.
 use Rattle.std.specs.Prelude.{◌≡◌, ◌⊎◌, ℕ, List, [], ◌∷◌, Option, Some, None}
-use Rattle.portal_start.specs.Start.{BeginsAnd}
+use Rattle.portal_start.specs.OverStore.{BeginsOver, StoreTrace}
 use Rattle.portal_status.specs.Fetch.{FetchTrace}
 use Rattle.portal_status.specs.declared.status.Status.{Status}
 use Rattle.portal_status.specs.declared.status.Status.TheVariants.{Words, OutOfMemory}
@@ -29,19 +29,19 @@ abbrev pub run_trace : {Peer : Type 0} → DeviceTrace → DeskTrace Peer → Ru
 run_trace script desk = record { script = script; desk = desk }
 
 -- What a run did, by the command of its words. If they name none, the status says so, or memory ran out.
-abbrev pub Runs : {Peer : Type 0} → (Peer → LinkTrace) → Option Command → FetchTrace → RunTrace Peer → RunTrace Peer
-    → Status
-    → Type 0
-Runs trace None fetch_trace old new status = (status ≡ Words) ⊎ (status ≡ OutOfMemory)
-Runs trace (Some (Play options)) fetch_trace old new status =
-    BeginsAnd fetch_trace options.portal status (λ beginning. PlaysWith beginning.state old.script new.script status)
+abbrev pub Runs : {Peer : Type 0} → (Peer → LinkTrace) → Option Command → FetchTrace → StoreTrace → RunTrace Peer
+    → RunTrace Peer → Status → Type 0
+Runs trace None fetch_trace store old new status = (status ≡ Words) ⊎ (status ≡ OutOfMemory)
+Runs trace (Some (Play options)) fetch_trace store old new status =
+    BeginsOver fetch_trace options.portal store status
+    (λ beginning state after. PlaysWith state after old.script new.script status) (new.script ≡ old.script)
+Runs trace (Some (Load options)) fetch_trace store old new status =
+    BeginsOver fetch_trace options.portal store status
+    (λ beginning state after. LoadsFrom fetch_trace options state after old.script new.script status)
     (new.script ≡ old.script)
-Runs trace (Some (Load options)) fetch_trace old new status =
-    BeginsAnd fetch_trace options.portal status
-    (λ beginning. LoadsFrom fetch_trace options beginning.state old.script new.script status) (new.script ≡ old.script)
-Runs trace (Some (Serve options)) fetch_trace old new status =
-    BeginsAnd fetch_trace options.portal status
-    (λ beginning. ServesWith trace beginning options.links old.desk new.desk status)
+Runs trace (Some (Serve options)) fetch_trace store old new status =
+    BeginsOver fetch_trace options.portal store status
+    (λ beginning state after. ServesWith trace beginning.digests state after options.links old.desk new.desk status)
     (new.desk ≡ old.desk)
 
 -- the location of the portal file, if the words name one

@@ -1,6 +1,6 @@
 //! The portal's program: `portal play` plays the script on standard input and writes its transcript to standard output,
 //! `portal load` loads the CSV on standard input, and `portal serve` serves HTTP on this machine. On every status but 0
-//! it writes a line on standard error.
+//! it writes a line on standard error. What the portal keeps is in the file that `PORTAL_STORE` names, or in memory.
 #![tactic(auto)]
 
 ghost use Rattle.std.specs.Prelude.{◌≡◌, ◌≢◌, [], ◌∷◌, false, map, string_bytes, All, Ok};
@@ -22,6 +22,7 @@ pub use portal_devices::nonces::ChaChaNonces;
 pub use portal_load::load::load;
 pub use portal_status::status::Status;
 use portal_status::status::report;
+use portal_store::run_store::store_for;
 use portal_words::first_word::is_timed;
 use portal_words::{Command, WordsFault};
 use run::run;
@@ -43,7 +44,8 @@ fn one_desk<L: Listener + Drop, C: Drop, N: Drop>(
     Ok(desks)
 }
 
-/// Runs the words over the host's devices, with this clock and these numbers for scripts, and this desk for links.
+/// Runs the words over the host's devices and the store that the environment names, with this clock and these numbers for
+/// scripts, and this desk for links.
 fn run_over<E: Sink, C: Clock + Drop, N: Nonces + Drop>(
     rt: &HostRuntime,
     words: &[String],
@@ -59,23 +61,29 @@ fn run_over<E: Sink, C: Clock + Drop, N: Nonces + Drop>(
     ensures silent { result ≡ Status.Done → faults.new ≡ faults.old }
 {
     let alloc = rt.alloc();
+    let store = match store_for(rt, words) {
+        Ok(store) => store,
+        Err(status) => return report(faults, status),
+    };
     let Ok(mut desks) = one_desk(alloc, desk) else {
         return report(faults, Status::OutOfMemory);
     };
     let Ok(mut fetchers) = Vec::from_array(alloc, [HostFetcher::new(rt)]) else {
         return report(faults, Status::OutOfMemory);
     };
-    run(
+    let ended = run(
         alloc,
         words,
         &mut StdSource::new(rt.reader()),
         &mut StdSink::new(io::writer(rt)),
         faults,
+        store,
         &mut fetchers,
         &mut desks,
         clock,
         nonces,
-    )
+    );
+    ended.status
 }
 
 /// The status if the host gives no random numbers. Words that name no command take precedence.

@@ -7,6 +7,8 @@ const READ_FAULT: &str = "portal: input failed\n";
 
 const WRITE_FAULT: &str = "portal: output failed\n";
 
+const KEEPER_FAULT: &str = "portal: store failed\n";
+
 /// Words, the calls at which devices fail, and the end of the run: its status, and the counts of bytes of the
 /// transcript and of the line that were written.
 #[derive(Clone, Copy)]
@@ -143,6 +145,32 @@ fn each_failing_write_ends_a_run_with_4(rt: HostRuntime) -> Result<(), Fail> {
         expect(rt.alloc(), case)?;
     }
     Ok(())
+}
+
+// The keeper's calls are one that gives the rows, one that puts those of the opening, and one for the script's change. The
+// store has the rows of the calls before the one that fails: the second call puts two.
+#[test]
+fn each_failing_call_of_the_keeper_ends_a_run_with_5(rt: HostRuntime) -> Result<(), Fail> {
+    for (keep, kept) in [(1, 0), (2, 0), (3, 2)] {
+        let case = refused("play", Ends { keep, ..NEVER }, 5, KEEPER_FAULT);
+        let mut outcome = ran(rt.alloc(), case.words, case.ends)?;
+        assert!(rt;
+            outcome.row_count(rt.alloc()) == Some(kept),
+            "after call {keep}"
+        );
+        expect(rt.alloc(), case)?;
+    }
+    Ok(())
+}
+
+#[test]
+fn rows_of_no_state_end_a_run_with_12(rt: HostRuntime) -> Result<(), Fail> {
+    let ends = Ends {
+        row: Some(("x", "{}")),
+        ..NEVER
+    };
+    let case = refused("play", ends, 12, "portal: stored rows are no portal's\n");
+    expect(rt.alloc(), case)
 }
 
 #[test]

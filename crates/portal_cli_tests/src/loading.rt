@@ -6,6 +6,7 @@ use portal_base::memory::{MemorySink, MemorySource};
 use portal_base::seq::Seq;
 use portal_base::text::Text;
 use portal_core::portal::Portal;
+use portal_keeper::memory::MemoryKeeper;
 use portal_load::load::load;
 use portal_serve::defaults::default_portal;
 use portal_serve::play::play;
@@ -164,7 +165,7 @@ fn sink(alloc: Global) -> Result<MemorySink, AllocError> {
 /// Plays the script that makes the dataset.
 fn make_dataset(
     alloc: Global,
-    portal: &mut Portal,
+    portal: &mut Portal<MemoryKeeper>,
     clock: &mut ScriptClock,
     nonces: &mut CountNonces,
 ) -> Result<(), AllocError> {
@@ -177,7 +178,7 @@ fn make_dataset(
 /// A load of the CSV into the resource of the dataset.
 fn load_csv(
     alloc: Global,
-    portal: &mut Portal,
+    portal: &mut Portal<MemoryKeeper>,
     mut input: MemorySource,
     clock: &mut ScriptClock,
     nonces: &mut CountNonces,

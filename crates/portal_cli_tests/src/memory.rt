@@ -1,13 +1,18 @@
 //! Commands over devices in memory. Each device passes one byte at a time, and fails at a given call.
-ghost use Rattle.std.specs.Prelude.{◌≡◌, false, IfOk};
+ghost use Rattle.std.specs.Prelude.{◌≡◌, false, IfOk, IsTrue};
+ghost use Rattle.portal_keeper.specs.Rows.{are_distinct};
 
 use portal_base::counted::{CountNonces, ScriptClock};
 use portal_base::memory::{MemoryFetcher, MemoryLink, MemoryListener, MemorySink, MemorySource};
 use portal_base::outside::{Desk, Failed, Sink, Source};
 use portal_base::seq::Seq;
 use portal_base::text::Text;
+use portal_keeper::keeper::Keeper;
+use portal_keeper::memory::MemoryKeeper;
+use portal_keeper::row::{KeptRow, RowKind};
 use portal_load::schema_file::load_csv;
 use portal_start::commands::{play_from, serve_from};
+use portal_start::over_store::{Ended, end_with, open_portal};
 use portal_start::start::start_of;
 use portal_status::status::{Status, report};
 use portal_words::{Command, LoadOptions, WordsFault};
@@ -68,7 +73,7 @@ impl<O: Sink> Sink for Narrow<O> {
 }
 
 /// The numbers of the calls at which devices fail, from 1, or 0 if a device doesn't fail; the count of bytes that
-/// output takes; and the file at `p.toml`.
+/// output takes; the file at `p.toml`; and the key and the body of the row of a dataset that the store has, if it has one.
 #[derive(Clone, Copy)]
 pub struct Ends {
     pub read: usize,
@@ -77,7 +82,9 @@ pub struct Ends {
     pub line: usize,
     pub fetch: usize,
     pub accept: usize,
+    pub keep: usize,
     pub file: &'static str,
+    pub row: Option<(&'static str, &'static str)>,
 }
 
 /// No device fails.
@@ -88,7 +95,9 @@ pub const NEVER: Ends = Ends {
     line: 0,
     fetch: 0,
     accept: 0,
+    keep: 0,
     file: PORTAL,
+    row: None,
 };
 
 /// A desk in memory.
@@ -173,11 +182,36 @@ fn devices_with(alloc: Global, ends: Ends) -> Result<Devices, AllocError>
     })
 }
 
+/// The rows of the store, of which there is one at most.
+fn rows(
+    alloc: Global,
+    row: Option<(&'static str, &'static str)>,
+) -> Result<Seq<KeptRow>, AllocError>
+    ensures { IfOk result (λ rows. IsTrue (are_distinct rows)) }
+{
+    let Some((key, body)) = row else {
+        return Ok(Seq::new(alloc));
+    };
+    let row = KeptRow {
+        kind: RowKind::Set,
+        key: Text::from_static(key),
+        body: Text::from_static(body),
+    };
+    Ok(Seq::from(Vec::from_array(alloc, [row])?))
+}
+
+fn keeper(alloc: Global, ends: Ends) -> Result<MemoryKeeper, AllocError> {
+    let failing = failing(alloc, ends.keep)?;
+    let rows = rows(alloc, ends.row)?;
+    Ok(MemoryKeeper::new(alloc, rows, failing))
+}
+
 /// The end of a run.
 #[derive(Drop)]
 pub struct Outcome {
     code: u8,
     devices: Devices,
+    keeper: MemoryKeeper,
 }
 
 impl Outcome {
@@ -195,6 +229,14 @@ impl Outcome {
         self.devices.faults.inner.taken()
     }
 
+    /// The count of the rows that the store has, if its next call doesn't fail.
+    pub fn row_count(&mut self, alloc: Global) -> Option<usize> {
+        match self.keeper.load(alloc) {
+            Ok(rows) => Some(rows.len()),
+            Err(_fault) => None,
+        }
+    }
+
     /// The links that were taken back.
     pub fn links(&self) -> &[MemoryLink] {
         self.devices.desk.listener.taken_back()
@@ -202,24 +244,40 @@ impl Outcome {
 }
 
 /// Loads the CSV on input into a table of the portal that the options name.
-fn load_from(alloc: Global, options: LoadOptions, devices: &mut Devices) -> Status {
-    match start_of(alloc, &mut devices.fetcher, &options.portal) {
-        Ok(start) => load_csv(
-            alloc,
-            &start.opening,
-            options,
-            &mut devices.input,
-            &mut devices.output,
-            &mut devices.fetcher,
-            &mut ScriptClock::new(),
-            &mut CountNonces::new(),
-        ),
-        Err(status) => status,
-    }
+fn load_from(
+    alloc: Global,
+    options: LoadOptions,
+    keeper: MemoryKeeper,
+    devices: &mut Devices,
+) -> Ended<MemoryKeeper> {
+    let start = match start_of(alloc, &mut devices.fetcher, &options.portal) {
+        Ok(start) => start,
+        Err(status) => return Ended { status, keeper },
+    };
+    let mut portal = match open_portal(alloc, keeper, &start.opening) {
+        Ok(portal) => portal,
+        Err(ended) => return ended,
+    };
+    let status = load_csv(
+        alloc,
+        &mut portal,
+        options,
+        &mut devices.input,
+        &mut devices.output,
+        &mut devices.fetcher,
+        &mut ScriptClock::new(),
+        &mut CountNonces::new(),
+    );
+    end_with(portal, status)
 }
 
 /// Carries out the command of the words, as the program does.
-fn carry_out(alloc: Global, words: &[String], devices: &mut Devices) -> Status
+fn carry_out(
+    alloc: Global,
+    words: &[String],
+    keeper: MemoryKeeper,
+    devices: &mut Devices,
+) -> Ended<MemoryKeeper>
     requires { devices.old.desk.listener.is_out ≡ false }
 {
     match Command::read(alloc, words) {
@@ -228,28 +286,40 @@ fn carry_out(alloc: Global, words: &[String], devices: &mut Devices) -> Status
             &options,
             &mut devices.input,
             &mut devices.output,
+            keeper,
             &mut devices.fetcher,
             &mut ScriptClock::new(),
             &mut CountNonces::new(),
         ),
-        Ok(Command::Load(options)) => load_from(alloc, options, devices),
+        Ok(Command::Load(options)) => load_from(alloc, options, keeper, devices),
         Ok(Command::Serve(options)) => serve_from(
             alloc,
             &options,
+            keeper,
             &mut devices.fetcher,
             &mut devices.desk,
         ),
-        Err(WordsFault::BadWords) => Status::Words,
-        Err(WordsFault::OutOfMemory) => Status::OutOfMemory,
+        Err(WordsFault::BadWords) => Ended {
+            status: Status::Words,
+            keeper,
+        },
+        Err(WordsFault::OutOfMemory) => Ended {
+            status: Status::OutOfMemory,
+            keeper,
+        },
     }
 }
 
 /// The end of the command of these words over such devices.
 fn ran_words(alloc: Global, words: &[String], ends: Ends) -> Result<Outcome, AllocError> {
     let mut devices = devices_with(alloc, ends)?;
-    let status = carry_out(alloc, words, &mut devices);
+    let Ended { status, keeper } = carry_out(alloc, words, keeper(alloc, ends)?, &mut devices);
     let code = report(&mut devices.faults, status).code();
-    Ok(Outcome { code, devices })
+    Ok(Outcome {
+        code,
+        devices,
+        keeper,
+    })
 }
 
 /// The words of a line, between spaces.

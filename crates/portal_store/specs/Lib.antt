@@ -1,3 +1,4 @@
 pub mod Location
 pub mod Opening
+pub mod RunStore
 pub mod Stores

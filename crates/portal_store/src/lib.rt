@@ -5,4 +5,5 @@
 pub mod fault;
 pub mod location;
 pub mod opening;
+pub mod run_store;
 pub mod store;
