@@ -62,8 +62,8 @@ impl<K: Keeper> Portal<K> {
     /// opening, and no dataset, and the keeper gets its rows. Else the portal has the state whose rows they are, with the
     /// users of the opening. A fault comes with the keeper.
     ///
-    /// `BadRows` comes with the rows, exactly if they are those of no state. `Keeper` comes only where the keeper's count of
-    /// faults rose.
+    /// `BadRows` comes with the rows, only if they are those of no state; over such rows no portal is opened. `Keeper` comes
+    /// only where the keeper's count of faults rose.
     pub fn open(alloc: Global, keeper: K, opening: &Opening) -> Result<Portal<K>, (OpenFault, K)>
         requires { IsTrue (is_opening opening.now) }
         ensures opened { IfOk result
