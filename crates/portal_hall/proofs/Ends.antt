@@ -20,6 +20,7 @@ use Rattle.portal_hall.specs.declared.board.Stage.TheVariants.{Resting, Acting}
 use Rattle.portal_hall.specs.Turns.{Apart, tickets_of, Slot, Me, tickets_out, StageFits, Fits, IsReplayed}
 use Rattle.portal_hall.specs.Turns.{SlotFits, Kept}
 use Rattle.portal_hall.specs.Turns.{lengthened, passed, checked, own_after, moved}
+use Rattle.portal_hall.specs.Turns.{words_of, served_index, length_index}
 use Rattle.portal_hall.proofs.Sums.{sum-set, at_most}
 use Rattle.portal_hall.proofs.Prefixes.{begins_self, begins_trans}
 use Rattle.portal_hall.proofs.Keeps.{resting_apart, is_below, each_set, apart_set, stage_else, stage_passed}
@@ -93,13 +94,13 @@ module _ {M E C R : Type 0} (core : M → C) (faults : M → ℕ) (works : C →
   Out views = tickets_out views
 
   pub checks : (slots id : ℕ) (me : Me M E) → 0 < me.0.room
-      → Allows Rule slots id me 1 (λ n. n) (checked (step slots 1 0 0 none) me)
+      → Allows Rule slots id me served_index (λ n. n) (checked (step slots served_index 0 0 none) me)
   checks slots id me room s r _ at _ =
       let f = r.each id me.0 at in (
         me.0,
         keeps,
         tt,
-        unmoved core faults works opening seats s r 1 id me.1 me.0 at,
+        unmoved core faults works opening seats s r served_index id me.1 me.0 at,
         (
           refl,
           f.left,
@@ -132,7 +133,8 @@ module _ {M E C R : Type 0} (core : M → C) (faults : M → ℕ) (works : C →
       → me.0.stage ≡ Acting t → me.1 ≡ (0, Some held) ∷ [] → 0 < me.0.room
       → k ≤ 1 → held.history.items ≡ me.0.seen ++ more → length more ≡ k → length held.history.items < 2 ^ 64
       → me.0.mark ≤ faults held.machine
-      → Allows Rule slots id me 2 (λ n. (n + k) % 2 ^ 64) (lengthened core faults works (step slots 2 k 0 none) me)
+      → Allows Rule slots id me length_index (λ n. (n + k) % 2 ^ 64)
+      (lengthened core faults works (step slots length_index k 0 none) me)
   lengthens slots id me t held k more acts hand room one grown grown_by short mark s r _ at _ =
       let a = acting_at s r id me.0 t at acts in
       let f = r.each id me.0 at in
@@ -156,8 +158,8 @@ module _ {M E C R : Type 0} (core : M → C) (faults : M → ℕ) (works : C →
           log = log;
           top = faults held.machine;
           turn = r.turn;
-          words = ap (λ (ws : List ℕ). set ws 2 ((slice_index ws 2 + k) % 2 ^ 64)) r.words
-              ∙ (λ i. (r.served + out i) % 2 ^ 64 ∷ r.served % 2 ^ 64 ∷ head i ∷ []);
+          words = ap (λ (ws : List ℕ). set ws length_index ((slice_index ws length_index + k) % 2 ^ 64)) r.words
+              ∙ (λ i. words_of ((r.served + out i) % 2 ^ 64) (r.served % 2 ^ 64) (head i));
           each = subst (λ (n : ℕ). (j : ℕ) (u : V) → get_elem? views' j ≡ some u
               → Fits r.served n log (faults held.machine) r.turn opening seats j u) out
               (each_set (Fits r.served (Out s.views) log (faults held.machine) r.turn opening seats) s.views id w
@@ -211,7 +213,7 @@ module _ {M E C R : Type 0} (core : M → C) (faults : M → ℕ) (works : C →
       → me.1 ≡ (0, Some held) ∷ [] → 0 < me.0.room
       → held.history.items ≡ me.0.seen → me.0.mark ≤ faults held.machine
       → IfSome me.0.opening (λ o. IsReplayed core faults works o held)
-      → Allows Rule slots id me 1 (λ n. (n + 1) % 2 ^ 64) (passed (step slots 1 1 0 none) me)
+      → Allows Rule slots id me served_index (λ n. (n + 1) % 2 ^ 64) (passed (step slots served_index 1 0 none) me)
   passes slots id me t held acts hand room seen mark replayed s r _ at _ =
       let a = acting_at s r id me.0 t at acts in
       let f = r.each id me.0 at in
@@ -226,13 +228,13 @@ module _ {M E C R : Type 0} (core : M → C) (faults : M → ℕ) (works : C →
       = omega arith in
       let out = (subst (SlotFits core faults works r.served r.log r.top opening s.views s.homes) a.2 r.slot).0 in
       let acts_now : me.0.stage ≡ Acting r.served = acts ∙ ap Acting a.0 in
-      let rule : Rule (table.stepped s 1 ((slice_index s.words 1 + 1) % 2 ^ 64) id me.1 w gives) = record {
+      let rule : Rule (table.stepped s served_index ((slice_index s.words served_index + 1) % 2 ^ 64) id me.1 w gives) = record {
         served = r.served + 1;
         log = r.log;
         top = r.top;
         turn = none;
-        words = ap (λ (ws : List ℕ). set ws 1 ((slice_index ws 1 + 1) % 2 ^ 64)) r.words
-            ∙ (λ i. sum i % 2 ^ 64 ∷ next i ∷ length r.log ∷ []);
+        words = ap (λ (ws : List ℕ). set ws served_index ((slice_index ws served_index + 1) % 2 ^ 64)) r.words
+            ∙ (λ i. words_of (sum i % 2 ^ 64) (next i) (length r.log));
         each = each_set (Fits (r.served + 1) (Out views') r.log r.top none opening seats) s.views id w
             record {
               seen = f.seen;
@@ -284,18 +286,19 @@ module _ {M E C R : Type 0} (core : M → C) (faults : M → ℕ) (works : C →
       → me ≡ (v, (0, Some held) ∷ []) → v.stage ≡ Acting t
       → 0 < v.room → k ≤ 1 → held.history.items ≡ v.seen ++ more → length more ≡ k
       → length held.history.items < 2 ^ 64 → v.mark ≤ faults held.machine
-      → Allows Rule slots id me 2 (λ n. (n + k) % 2 ^ 64) (lengthened core faults works (step slots 2 k 0 none) me)
+      → Allows Rule slots id me length_index (λ n. (n + k) % 2 ^ 64)
+      (lengthened core faults works (step slots length_index k 0 none) me)
   lengthens_as slots id me v t held k more is acts room one grown grown_by short mark =
-      subst (λ (m : Me M E). Allows Rule slots id m 2 (λ n. (n + k) % 2 ^ 64)
-      (lengthened core faults works (step slots 2 k 0 none) m)) (sym is)
+      subst (λ (m : Me M E). Allows Rule slots id m length_index (λ n. (n + k) % 2 ^ 64)
+      (lengthened core faults works (step slots length_index k 0 none) m)) (sym is)
       (lengthens slots id (v, (0, Some held) ∷ []) t held k more acts refl room one grown grown_by short mark)
 
   pub passes_as : (slots id : ℕ) (me : Me M E) (v : View M E) (t : ℕ) (held : HeldMachine M E) (k : ℕ)
       → me ≡ (moved faults k v held, (0, Some held) ∷ []) → v.stage ≡ Acting t
       → 0 < v.room → v.opening ≡ Some opening → IsReplayed core faults works opening held
-      → Allows Rule slots id me 1 (λ n. (n + 1) % 2 ^ 64) (passed (step slots 1 1 0 none) me)
+      → Allows Rule slots id me served_index (λ n. (n + 1) % 2 ^ 64) (passed (step slots served_index 1 0 none) me)
   passes_as slots id me v t held k is acts room named replayed =
-      subst (λ (m : Me M E). Allows Rule slots id m 1 (λ n. (n + 1) % 2 ^ 64) (passed (step slots 1 1 0 none) m))
-      (sym is)
+      subst (λ (m : Me M E). Allows Rule slots id m served_index (λ n. (n + 1) % 2 ^ 64)
+      (passed (step slots served_index 1 0 none) m)) (sym is)
       (passes slots id (moved faults k v held, (0, Some held) ∷ []) t held acts refl room refl (omega arith)
       (subst (λ (o : Option M). IfSome o (λ m. IsReplayed core faults works m held)) (sym named) replayed))

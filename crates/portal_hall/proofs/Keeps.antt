@@ -19,7 +19,7 @@ use Rattle.portal_hall.specs.declared.board.Stage.{Stage}
 use Rattle.portal_hall.specs.declared.board.Stage.TheVariants.{Resting, Waiting, Acting}
 use Rattle.portal_hall.specs.Turns.{HasTicket, Apart, tickets_of, Slot, Me, tickets_out, StageFits, Fits}
 use Rattle.portal_hall.specs.Turns.{IsReplayed, SlotFits, Kept, HasTurn}
-use Rattle.portal_hall.specs.Turns.{looked, drew}
+use Rattle.portal_hall.specs.Turns.{looked, drew, words_of, next_index, served_index}
 use Rattle.portal_hall.proofs.Sums.{sum-set, at_most, sum-below}
 use Rattle.portal_hall.proofs.Prefixes.{begins_self, begins_trans, begins_length}
 use Rattle.portal_hall.proofs.Alone.{sees_all}
@@ -164,7 +164,7 @@ module _ {M E C R : Type 0} (core : M → C) (faults : M → ℕ) (works : C →
   same_sum f vs id v w at e = let h = sum-set f vs id v w at in omega arith
 
   pub draws : (slots id : ℕ) (me : Me M E) → me.0.stage ≡ Resting → 0 < me.0.room
-      → Allows Rule slots id me 0 (λ n. (n + 1) % 2 ^ 64) (drew (step slots 0 1 0 none) me)
+      → Allows Rule slots id me next_index (λ n. (n + 1) % 2 ^ 64) (drew (step slots next_index 1 0 none) me)
   draws slots id me rest room s r _ at _ =
       let out : ℕ = Out s.views in
       let t : ℕ = r.served + out in
@@ -185,8 +185,8 @@ module _ {M E C R : Type 0} (core : M → C) (faults : M → ℕ) (works : C →
           log = r.log;
           top = r.top;
           turn = r.turn;
-          words = ap (λ (ws : List ℕ). set ws 0 ((slice_index ws 0 + 1) % 2 ^ 64)) r.words
-              ∙ ap (λ (h : ℕ). h ∷ r.served % 2 ^ 64 ∷ length r.log ∷ []) head;
+          words = ap (λ (ws : List ℕ). set ws next_index ((slice_index ws next_index + 1) % 2 ^ 64)) r.words
+              ∙ ap (λ (h : ℕ). words_of h (r.served % 2 ^ 64) (length r.log)) head;
           each = each_set (Fits r.served out' r.log r.top r.turn opening seats) s.views id w
               record {
                 seen = f.seen;
@@ -217,7 +217,7 @@ module _ {M E C R : Type 0} (core : M → C) (faults : M → ℕ) (works : C →
           slot = slot_stays r.served r.log r.top s.views s.homes r.turn id me.0 w at
               (resting_not me.0.stage r.served rest) r.slot;
         },
-        (t, ap (λ (ws : List ℕ). slice_index ws 0) r.words, refl),
+        (t, ap (λ (ws : List ℕ). slice_index ws next_index) r.words, refl),
       )
 
   -- where the ticket that is served is a waiting seat's, the slot is at home
@@ -239,7 +239,7 @@ module _ {M E C R : Type 0} (core : M → C) (faults : M → ℕ) (works : C →
   takes_turn : (slots id : ℕ) (me : Me M E) (s : St) (r : Rule s) → get_elem? s.views id ≡ some me.0
       → me.0.stage ≡ Waiting r.served → 0 < me.0.room
       → (w : V) × (a : table.Act (Slot M E)) × table.Valid s.homes me.1 a
-      × Rule (table.stepped s 1 (slice_index s.words 1) id me.1 w a)
+      × Rule (table.stepped s served_index (slice_index s.words served_index) id me.1 w a)
       × (me.1 ≡ [] → HasTurn core faults works me r.served (w, table.carried_after me.1 a))
   takes_turn slots id me s r at waits room =
       let home = at_home s r r.turn r.slot id me.0 at waits in
@@ -262,8 +262,8 @@ module _ {M E C R : Type 0} (core : M → C) (faults : M → ℕ) (works : C →
           log = r.log;
           top = faults held.machine;
           turn = some id;
-          words = ap (λ (ws : List ℕ). set ws 1 (slice_index ws 1)) r.words
-              ∙ ap (λ (n : ℕ). (r.served + n) % 2 ^ 64 ∷ r.served % 2 ^ 64 ∷ length r.log ∷ []) (sym same);
+          words = ap (λ (ws : List ℕ). set ws served_index (slice_index ws served_index)) r.words
+              ∙ ap (λ (n : ℕ). words_of ((r.served + n) % 2 ^ 64) (r.served % 2 ^ 64) (length r.log)) (sym same);
           each = each_set (Fits r.served (Out views') r.log (faults held.machine) (some id) opening seats) s.views id w
               record {
                 seen = subst (λ (l : List E). Begins l r.log) (sym home.1.2) (begins_self r.log);
@@ -320,15 +320,16 @@ module _ {M E C R : Type 0} (core : M → C) (faults : M → ℕ) (works : C →
       (λ k. (sym (set-get_or s.words i 0) k, sym (set_again s.views id v at) k)) r
 
   pub looks : (slots id : ℕ) (me : Me M E) (t : ℕ) → me.0.stage ≡ Waiting t → 0 < me.0.room → me.1 ≡ []
-      → Allows Rule slots id me 1 (λ n. n) (looked core faults works (step slots 1 0 0 none) me)
+      → Allows Rule slots id me served_index (λ n. n) (looked core faults works (step slots served_index 0 0 none) me)
   looks slots id me t waits room empty s r _ at _ =
-      let found : slice_index s.words 1 ≡ r.served % 2 ^ 64 = ap (λ (ws : List ℕ). slice_index ws 1) r.words in
+      let found : slice_index s.words served_index ≡ r.served % 2 ^ 64 =
+      ap (λ (ws : List ℕ). slice_index ws served_index) r.words in
       let few = few_out s r in
       let fits : StageFits r.served (Out s.views) r.log r.top r.turn id me.0 (Waiting t)
       = subst (StageFits r.served (Out s.views) r.log r.top r.turn id me.0) waits (r.each id me.0 at).stage in
       let low : r.served ≤ t = fits.0 in
       let high : t < r.served + Out s.views = fits.1 in
-      dite (ℕ_discrete (slice_index s.words 1) (t % 2 ^ 64))
+      dite (ℕ_discrete (slice_index s.words served_index) (t % 2 ^ 64))
       (λ hit.
       let now : r.served ≡ t = one_turn r.served t (2 ^ 64) low (omega arith) (sym found ∙ hit) in
       let turn = takes_turn slots id me s r at (waits ∙ ap Waiting (sym now)) room in (
@@ -347,7 +348,7 @@ module _ {M E C R : Type 0} (core : M → C) (faults : M → ℕ) (works : C →
         me.0,
         keeps,
         tt,
-        unmoved s r 1 id me.1 me.0 at,
+        unmoved s r served_index id me.1 me.0 at,
         λ u is. (
           (λ hit. absurd (miss (hit ∙ ap (λ (n : ℕ). n % 2 ^ 64) (waits_for u t me.0.stage is waits)))),
           (λ _. refl),

@@ -18,7 +18,7 @@ use Rattle.portal_hall.specs.declared.board.HeldMachine.{HeldMachine}
 use Rattle.portal_hall.specs.declared.board.View.{View}
 use Rattle.portal_hall.specs.declared.board.Stage.TheVariants.{Resting}
 use Rattle.portal_hall.specs.Turns.{tickets_of, Slot, tickets_out, StageFits, Fits, IsReplayed, SlotFits, Kept}
-use Rattle.portal_hall.specs.Turns.{longer, joined, empty_view, starting, kept_of, given_of}
+use Rattle.portal_hall.specs.Turns.{longer, joined, empty_view, starting, kept_of, given_of, words_of}
 use Rattle.portal_hall.proofs.Sums.{sum-set}
 use Rattle.portal_hall.proofs.Prefixes.{begins_self, begins_nil, begins_length, begins_shorter}
 use Rattle.portal_hall.proofs.Keeps.{resting_apart, apart_back, each_set, apart_set, resting_not, same_sum}
@@ -71,7 +71,7 @@ module _ {M E C R : Type 0} (core : M → C) (faults : M → ℕ) (works : C →
 
   pub opens : (held : HeldMachine M E) (ws : List ℕ) (slots : List (Slot M E)) → held.machine ≡ opening
       → held.history.items ≡ [] → 0 < seats → seats ≤ 64
-      → ws ≡ 0 ∷ 0 ∷ 0 ∷ [] → slots ≡ Some held ∷ [] → Rule (table.opening ws slots (starting faults opening seats))
+      → ws ≡ words_of 0 0 0 → slots ≡ Some held ∷ [] → Rule (table.opening ws slots (starting faults opening seats))
   opens held ws slots machine empty some_seats few words_are slots_are =
       let v : V = starting faults opening seats in record {
         served = 0;
@@ -147,7 +147,8 @@ module _ {M E C R : Type 0} (core : M → C) (faults : M → ℕ) (works : C →
         log = r.log;
         top = r.top;
         turn = r.turn;
-        words = r.words ∙ ap (λ (n : ℕ). (r.served + n) % 2 ^ 64 ∷ r.served % 2 ^ 64 ∷ length r.log ∷ []) (sym same);
+        words = r.words
+            ∙ ap (λ (n : ℕ). words_of ((r.served + n) % 2 ^ 64) (r.served % 2 ^ 64) (length r.log)) (sym same);
         each = λ j x b. subst (λ (n : ℕ). Fits r.served n r.log r.top r.turn opening seats j x) (sym same)
             (⊎_elim (λ (h : get_elem? views' j ≡ some x). old j x h)
             (λ (e : u ≡ x). subst (Fits r.served (Out s.views) r.log r.top r.turn opening seats j) e (new j))
@@ -198,7 +199,8 @@ module _ {M E C R : Type 0} (core : M → C) (faults : M → ℕ) (works : C →
         log = r.log;
         top = r.top;
         turn = r.turn;
-        words = r.words ∙ ap (λ (n : ℕ). (r.served + n) % 2 ^ 64 ∷ r.served % 2 ^ 64 ∷ length r.log ∷ []) (sym same);
+        words = r.words
+            ∙ ap (λ (n : ℕ). words_of ((r.served + n) % 2 ^ 64) (r.served % 2 ^ 64) (length r.log)) (sym same);
         each = subst (λ (n : ℕ). (j : ℕ) (x : V) → get_elem? views'' j ≡ some x
             → Fits r.served n r.log r.top r.turn opening seats j x) (sym same)
             (each_set (Fits r.served (Out s.views) r.log r.top r.turn opening seats) views' other o

@@ -1,8 +1,8 @@
 -- The rule of the hall's table, and the effect of each step on it.
--- Word 0 is the next ticket to be drawn, word 1 the ticket whose turn it is, both modulo 2^64, and word 2 the length
--- of the history. The slot has the machine and the history. While a seat has the turn, that seat holds them.
+-- Three words are used: the next ticket to be drawn, the ticket whose turn it is, both modulo 2^64, and the length of the
+-- history. The slot has the machine and the history. While a seat has the turn, that seat holds them.
 use Rattle.std.specs.Prelude.{◌≡◌, ◌≢◌, ℕ, ◌+◌, ◌-◌, ◌%◌, ◌^◌, ◌<◌, ◌≤◌, max, nat_lt, if◌then◌else◌}
-use Rattle.std.specs.Prelude.{List, [], ◌∷◌, ◌++◌, length, sum_by, Option, Some, None, IfSome}
+use Rattle.std.specs.Prelude.{List, [], ◌∷◌, ◌++◌, length, replicate, sum_by, Option, Some, None, IfSome}
 use mathlib.Core.Option.{none, some}
 use mathlib.Core.Option as maybe
 use lib.ListN.{get_elem?}
@@ -34,6 +34,21 @@ Slot M E = Option (HeldMachine M E)
 
 abbrev pub Me : Type 0 → Type 0 → Type 0
 Me M E = table.Me (Slot M E) (View M E)
+
+-- the indexes of the words that are used
+abbrev pub next_index : ℕ
+next_index = 8
+
+abbrev pub served_index : ℕ
+served_index = 24
+
+abbrev pub length_index : ℕ
+length_index = 40
+
+-- The words of the table. The others are unused and 0, so that the used ones are on cache lines of their own.
+abbrev pub words_of : ℕ → ℕ → ℕ → List ℕ
+words_of next served events =
+    replicate 8 0 ++ next ∷ replicate 15 0 ++ served ∷ replicate 15 0 ++ events ∷ replicate 7 0
 
 -- the count of tickets that are drawn and not yet served
 abbrev pub tickets_out : {M E : Type 0} → List (View M E) → ℕ
@@ -90,7 +105,7 @@ module _ {M E C R : Type 0} (core : M → C) (faults : M → ℕ) (step : C → 
     pub log : List E
     pub top : ℕ
     pub turn : maybe.Option ℕ
-    pub words : s.words ≡ (served + tickets_out s.views) % 2 ^ 64 ∷ served % 2 ^ 64 ∷ length log ∷ []
+    pub words : s.words ≡ words_of ((served + tickets_out s.views) % 2 ^ 64) (served % 2 ^ 64) (length log)
     pub each : (j : ℕ) (v : View M E) → get_elem? s.views j ≡ some v
         → Fits served (tickets_out s.views) log top turn opening seats j v
     pub apart : (j k : ℕ) (v w : View M E) → j ≢ k → get_elem? s.views j ≡ some v → get_elem? s.views k ≡ some w

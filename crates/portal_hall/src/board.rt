@@ -8,6 +8,18 @@ use std::collections::LinkedList;
 use std::marker::{Brand, PhantomData};
 use std::snapshot::Snapshot;
 
+/// The count of the table's words. Three are used, each on cache lines of its own, since different threads write them.
+pub(crate) const WORDS: usize = 48;
+
+/// The word of the next ticket to be drawn.
+pub(crate) const NEXT: usize = 8;
+
+/// The word of the ticket whose turn it is.
+pub(crate) const SERVED: usize = 24;
+
+/// The word of the length of the history.
+pub(crate) const LENGTH: usize = 40;
+
 /// The content of the slot: a machine, and the events that it accepted, in order.
 #[derive(Drop)]
 pub struct HeldMachine<M, E> {

@@ -2,7 +2,7 @@
 ghost use Rattle.std.specs.Prelude.{◌≡◌};
 
 use crate::acted::Acted;
-use crate::board::{Board, Check, HeldMachine, JoinSeats};
+use crate::board::{Board, Check, HeldMachine, JoinSeats, SERVED, WORDS};
 use crate::gates::Gates;
 use crate::machine::Machine;
 use crate::parts::{machine_of, split_room};
@@ -19,7 +19,7 @@ use std::sync::Wait;
 pub struct Hall<M: Machine> {
     pub(crate) table: Board<M, M::Event>,
     pub(crate) gates: Gates,
-    ghost sized: { (table.shared.table_id.words ≡ 3) × (table.shared.table_id.slots ≡ 1) },
+    ghost sized: { (table.shared.table_id.words ≡ 48) × (table.shared.table_id.slots ≡ 1) },
 }
 
 impl<M: Machine> Hall<M> {
@@ -48,7 +48,7 @@ impl<M: Machine> Hall<M> {
             slots.destroy_empty();
             return Err(machine_of(refused.value));
         }
-        match Table::new(alloc, &[0, 0, 0], slots, &about) {
+        match Table::new(alloc, &[0; WORDS], slots, &about) {
             Ok((table, seat)) => {
                 let gates = Gates::new();
                 Ok((Hall { table, gates }, Pass { seat, room: seats }))
@@ -118,7 +118,7 @@ impl<M: Machine> Hall<M> {
         self.table
             .shared
             .join_seat::<JoinSeats>(&mut pass.seat, seat);
-        self.table.shared.load::<Check>(&mut pass.seat, 1);
+        self.table.shared.load::<Check>(&mut pass.seat, SERVED);
         pass.room += room;
     }
 

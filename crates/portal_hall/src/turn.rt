@@ -1,19 +1,10 @@
 //! One turn: a ticket is drawn, the turn is waited for, the machine is taken out of the slot and put back, and the
 //! turn is passed on.
-use crate::board::{Draw, HallSeat, HeldMachine, Lengthen, Look, PassOn};
+use crate::board::{Draw, HallSeat, HeldMachine, LENGTH, Lengthen, Look, NEXT, PassOn, SERVED};
 use crate::gates::Patience;
 use crate::hall::Hall;
 use crate::machine::Machine;
 use std::sync::Wait;
-
-/// The word of the next ticket to be drawn.
-const NEXT: usize = 0;
-
-/// The word of the ticket whose turn it is.
-const SERVED: usize = 1;
-
-/// The word of the length of the history.
-const LENGTH: usize = 2;
 
 impl<M: Machine> Hall<M> {
     ghost use Rattle.std.specs.Prelude.{◌≡◌, ℕ, ◌+◌, ◌%◌, ◌^◌, ◌<◌, ◌≤◌, length, [], ◌∷◌, None, Some};
