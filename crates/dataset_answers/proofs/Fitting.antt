@@ -137,21 +137,21 @@ edits-there people caller name sysadmin exists may = by (org_in people name) ref
 -- whoever may create a dataset may edit it
 created-own : (view : CallView) → may_create view ≡ true
     → dataset_errors view.people view.call.request.body None ≡ []
-    → may_edit_in view.people view.call.caller (created_dataset view.call) ≡ true
+    → may_edit_in view.people view.caller (created_dataset view.call) ≡ true
 created-own view may none =
     let body = view.call.request.body in
     let given = new_organization body true (dataset-no_errors view.people body None none).no_body_errors in
-    edits-there view.people view.call.caller (built_dataset body None true).owner_org
-    (is_sysadmin_in view.people view.call.caller) (created-sound view none).org
-    (ap (λ (o : Option (List ℕ)). is_sysadmin_in view.people view.call.caller
-    || can_create_in view.people view.call.caller (option_and_then (org_in view.people) o)) (sym given) ∙ may)
+    edits-there view.people view.caller (built_dataset body None true).owner_org
+    (is_sysadmin_in view.people view.caller) (created-sound view none).org
+    (ap (λ (o : Option (List ℕ)). is_sysadmin_in view.people view.caller
+    || can_create_in view.people view.caller (option_and_then (org_in view.people) o)) (sym given) ∙ may)
 
 -- ---- a dataset that replaces one in the view
 
 -- a dataset in the view that the caller may edit
 pub record IsOwn (view : CallView) (dataset : Package) : Type 0 where
   pub is_present : Contains view.datasets dataset
-  pub may : may_edit_in view.people view.call.caller dataset ≡ true
+  pub may : may_edit_in view.people view.caller dataset ≡ true
 
 -- what no change of a dataset changes, and what stays sound
 record IsLike (old new : Package) : Type 0 where
@@ -231,7 +231,7 @@ pub editable-own : (key : List ℕ) (view : CallView) (dataset : Package) → ed
     → IsOwn view dataset
 editable-own key view dataset is =
     let authorized =
-    authorized_thing-ok (may_edit_in view.people view.call.caller) EditDataset (dataset_at key view) dataset is in
+    authorized_thing-ok (may_edit_in view.people view.caller) EditDataset (dataset_at key view) dataset is in
     record { is_present = at-is_present key view dataset authorized.1; may = authorized.0 }
 
 -- a resource at its position in a dataset among these
@@ -274,7 +274,7 @@ pub record IsOwnLocated (view : CallView) (located : Located) : Type 0 where
 pub editable-located : (view : CallView) (located : Located) → editable_resource_at view ≡ Ok located
     → IsOwnLocated view located
 editable-located view located is =
-    let authorized = authorized_thing-ok (λ (p : Located). may_edit_in view.people view.call.caller p.dataset)
+    let authorized = authorized_thing-ok (λ (p : Located). may_edit_in view.people view.caller p.dataset)
     EditDataset (resource_at (codes "id") view) located is in
     let found = at-located view located authorized.1 in
     record { own = record { is_present = found.is_present; may = authorized.0 }; there = found.there }
@@ -328,9 +328,9 @@ purge_fit view summaries =
     AcceptsOnly-answer_if_found (IsFitDataset view summaries) (purgeable_dataset view) _
     (λ dataset purgeable. AcceptsOnly-answer_if_valid (IsFitDataset view summaries) view.quota [] _
     (λ none. let found =
-    authorized_thing-ok (λ (d : Package). is_sysadmin_in view.people view.call.caller && not (is_harvested d)) PurgeDataset
+    authorized_thing-ok (λ (d : Package). is_sysadmin_in view.people view.caller && not (is_harvested d)) PurgeDataset
     (dataset_at (codes "id") view) dataset purgeable in
-    let rights = and_parts (is_sysadmin_in view.people view.call.caller) (not (is_harvested dataset)) found.0 in
+    let rights = and_parts (is_sysadmin_in view.people view.caller) (not (is_harvested dataset)) found.0 in
     record {
       old = dataset;
       is_present = at-is_present (codes "id") view dataset found.1;

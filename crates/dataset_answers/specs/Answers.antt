@@ -68,8 +68,8 @@ can_create_in people caller (Some org) = (rights_for (caller_role people caller 
 
 abbrev pub may_create : CallView → Bool
 may_create view =
-    is_sysadmin_in view.people view.call.caller
-    || can_create_in view.people view.call.caller (organization_given view.people view.call.request.body)
+    is_sysadmin_in view.people view.caller
+    || can_create_in view.people view.caller (organization_given view.people view.call.request.body)
 
 -- no resource of a new dataset has a table
 abbrev pub answer_to_package_create : CallView → Answer DatasetChange
@@ -108,7 +108,7 @@ answer_to_package_delete view =
 -- a sysadmin may purge what isn't harvested
 abbrev pub purgeable_dataset : CallView → Result Package Denial
 purgeable_dataset view =
-    authorized_thing (λ dataset. is_sysadmin_in view.people view.call.caller && not (is_harvested dataset)) PurgeDataset
+    authorized_thing (λ dataset. is_sysadmin_in view.people view.caller && not (is_harvested dataset)) PurgeDataset
     (dataset_at (codes "id") view)
 
 abbrev pub answer_to_dataset_purge : CallView → Answer DatasetChange

@@ -15,7 +15,7 @@ use Rattle.dataset_answers.specs.declared.change.DatasetChange.TheVariants.{Crea
 -- a new dataset is sound, and the caller may edit it: the caller is a sysadmin, or an editor of its organization
 pub record IsCreation (view : CallView) (dataset : Package) : Type 0 where
   pub sound : IsSound view.people dataset
-  pub own : may_edit_in view.people view.call.caller dataset ≡ true
+  pub own : may_edit_in view.people view.caller dataset ≡ true
 
 -- Each number of a resource of the old dataset is one of the new dataset.
 abbrev pub KeepsResources : Package → Package → Type 0
@@ -26,7 +26,7 @@ KeepsResources old new = (number : ℕ) → is_among old.resources number ≡ tr
 pub record IsReplacement (view : CallView) (summaries : List TableSummary) (dataset : Package) : Type 0 where
   pub old : Package
   pub is_present : Contains view.datasets old
-  pub own : may_edit_in view.people view.call.caller old ≡ true
+  pub own : may_edit_in view.people view.caller old ≡ true
   pub id : old.id ≡ dataset.id
   pub name : old.name ≡ dataset.name
   pub origin : origin_of old ≡ origin_of dataset
@@ -39,7 +39,7 @@ pub record IsRemoval (view : CallView) (sought : List ℕ) : Type 0 where
   pub is_present : Contains view.datasets old
   pub id : old.id ≡ sought
   pub not_harvested : is_harvested old ≡ false
-  pub sysadmin : is_sysadmin_in view.people view.call.caller ≡ true
+  pub sysadmin : is_sysadmin_in view.people view.caller ≡ true
 
 -- a change that can be made, given the caller's view, and that the caller has the right to make
 abbrev pub IsFitDataset : CallView → List TableSummary → DatasetChange → Type 0

@@ -26,7 +26,7 @@ dataset_at key view = thing_at key view.call.request.body kind.Dataset (dataset_
 -- the same, if the caller may edit the dataset
 abbrev pub editable_dataset_at : List ℕ → CallView → Result Package Denial
 editable_dataset_at key view =
-    authorized_thing (λ dataset. may_edit_in view.people view.call.caller dataset) EditDataset (dataset_at key view)
+    authorized_thing (λ dataset. may_edit_in view.people view.caller dataset) EditDataset (dataset_at key view)
 
 -- The key that names the dataset of an update: `name` if `id` is absent and `name` is present, and else `id`.
 abbrev pub naming_key : Json → List ℕ
@@ -38,5 +38,5 @@ naming_key body =
 -- the resource that the key `id` names, if the caller may edit its dataset
 abbrev pub editable_resource_at : CallView → Result Located Denial
 editable_resource_at view =
-    authorized_thing (λ located. may_edit_in view.people view.call.caller located.dataset) EditDataset
+    authorized_thing (λ located. may_edit_in view.people view.caller located.dataset) EditDataset
     (resource_at (codes "id") view)

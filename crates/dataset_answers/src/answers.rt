@@ -109,7 +109,7 @@ fn package_list(alloc: Global, context: &CallContext<'_>) -> Result<Answer<Datas
     let limit = read_count(alloc, &mut faults, &context.call.request.body, "limit")?;
     let offset = read_count(alloc, &mut faults, &context.call.request.body, "offset")?;
     validate(faults)?;
-    let names = context.public_names(alloc)?;
+    let names = context.viewer.public_names(alloc)?;
     let page = page_of(limit, offset, names.as_slice());
     Ok(Answer::Shown(Json::List(names_json(alloc, page)?)))
 }
@@ -150,17 +150,17 @@ fn if_valid<T: Drop>(quota: Quota, errors: KeyErrors, value: T) -> Result<T, Sto
 fn may_create(context: &CallContext<'_>) -> bool
     ensures { result ≡ may_create (context_view context.now) }
 {
-    context.is_sysadmin() || can_create_here(context)
+    context.viewer.is_sysadmin() || can_create_here(context)
 }
 
 /// Whether the caller is an editor in the organization that the body gives, or in any, if that one doesn't exist.
 fn can_create_here(context: &CallContext<'_>) -> bool
-    ensures { result ≡ can_create_in (context_view context.now).people context.now.call.now.caller
+    ensures { result ≡ can_create_in (context_view context.now).people context.now.viewer.caller
         (organization_given (context_view context.now).people context.now.call.now.request.body) }
 {
     match organization_given(context) {
-        Some(org) => rights_of(context.role(&org.name)).edit,
-        None => context.edits_somewhere(),
+        Some(org) => rights_of(context.viewer.role(&org.name)).edit,
+        None => context.viewer.edits_somewhere(),
     }
 }
 

@@ -68,7 +68,7 @@ pub fn organization_given<'a>(context: &CallContext<'a>) -> Option<&'a Org>
         ≡ organization_given (context_view context.now).people context.now.call.now.request.body }
 {
     match text_given(&context.call.request.body, "owner_org") {
-        Some(name) => context.org(name),
+        Some(name) => context.viewer.org(name),
         None => None,
     }
 }
@@ -80,7 +80,7 @@ fn organization_error(context: &CallContext<'_>) -> Option<Text>
     let Some(name) = text_given(&context.call.request.body, "owner_org") else {
         return None;
     };
-    if context.org(name).is_some() {
+    if context.viewer.org(name).is_some() {
         None
     } else {
         Some(Text::from_static("Organization does not exist"))

@@ -18,7 +18,7 @@ use visibility::table_lookup::TableLookup;
 fn title_of_organization<'a>(context: &CallContext<'a>, name: &Text) -> &'a str
     ensures { result.now ≡ organization_title (context_view context.now).people name.now }
 {
-    match context.org(name) {
+    match context.viewer.org(name) {
         Some(org) => org.title.as_str(),
         None => "",
     }

@@ -28,7 +28,7 @@ pub fn dataset_at<'a>(
     ensures { Finds result (λ dataset. dataset.now) (dataset_at key.now (context_view context.now)) }
 {
     match required_text(&context.call.request.body, key) {
-        Ok(name) => match context.dataset(name.as_str()) {
+        Ok(name) => match context.viewer.dataset(name.as_str()) {
             Some(dataset) => Ok(dataset),
             None => Err(Stop::Refused(Denial::NotFound(Kind::Dataset))),
         },
@@ -45,7 +45,7 @@ pub fn editable_dataset_at<'a>(
     ensures { Finds result (λ dataset. dataset.now) (editable_dataset_at key.now (context_view context.now)) }
 {
     let dataset = dataset_at(alloc, context, key)?;
-    authorize(context.may_edit(dataset), Right::EditDataset)?;
+    authorize(context.viewer.may_edit(dataset), Right::EditDataset)?;
     Ok(dataset)
 }
 
@@ -55,7 +55,7 @@ pub fn purgeable_dataset<'a>(alloc: Global, context: &CallContext<'a>) -> Result
 {
     let dataset = dataset_at(alloc, context, "id")?;
     authorize(
-        context.is_sysadmin() && !is_harvested(dataset),
+        context.viewer.is_sysadmin() && !is_harvested(dataset),
         Right::PurgeDataset,
     )?;
     Ok(dataset)
@@ -81,6 +81,6 @@ pub fn editable_resource_at<'a>(
     ensures within { IfOk result (λ located. located.position < length located.dataset.now.resources) }
 {
     let located = resource_at(alloc, context, "id")?;
-    authorize(context.may_edit(located.dataset), Right::EditDataset)?;
+    authorize(context.viewer.may_edit(located.dataset), Right::EditDataset)?;
     Ok(located)
 }

@@ -111,7 +111,7 @@ error-now (Err m) = refl
 -- If the method can't be read, the answer has its error, and the records' error.
 pub method-refused : (view : CallView) (placed : Located) (beside : List ResourceTable) (t : ResourceTable)
     (how : OrError Method) (message : List ℕ) (recs : Result (Bor (List Json)) (List ℕ)) (read : OrError (List Json))
-    (denial : Denial) → may_edit_in view.people view.call.caller placed.dataset ≡ true → how ≡ Err message
+    (denial : Denial) → may_edit_in view.people view.caller placed.dataset ≡ true → how ≡ Err message
     → result_map_both (λ (r : Bor (List Json)). r.now) (λ (m : List ℕ). m) recs ≡ read
     → Some denial ≡ denial_of (error_if (codes "body") (quota_error view.quota)
     (error_if (codes "records") (error_of recs) (error_if (codes "method") (Some message) [])))

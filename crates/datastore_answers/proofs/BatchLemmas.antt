@@ -29,18 +29,18 @@ use Rattle.datastore_answers.proofs.TableLemmas.{table_found}
 
 -- A batch that was prepared on the table found at an address was prepared at that address.
 pub batch-at : (result : Result BatchValue TableFault) (address : Address) (method : Method) (records : List Json)
-    (u : ResourceTable) (stored : Stored) → found (at_address address) stored.tables ≡ Some u
+    (u : ResourceTable) (ts : List ResourceTable) → found (at_address address) ts ≡ Some u
     → IfOk result (λ b. b.schema ≡ u.table.schema) → IfOk result (λ b. IsAscending row_cmp b.work.changed)
     → IfOk result (λ b. IsAscending row_cmp u.table.rows)
     → IfOk result (λ b. put_records method records u.table ≡ Ok (worked_on u.table.rows b.work))
-    → IfOk result (λ b. IsReady b u.table) → IfOk result (λ b. IsBatchAt address method records b stored)
-batch-at (Ok b) address method records u stored exists schema changed rows made ready = record {
+    → IfOk result (λ b. IsReady b u.table) → IfOk result (λ b. IsBatchAt address method records b ts)
+batch-at (Ok b) address method records u ts exists schema changed rows made ready = record {
   put = record { table = u; exists = exists; ready = ready; made = made };
   schema = schema;
   changed = changed;
   rows = rows;
 }
-batch-at (Err f) address method records u stored exists schema changed rows made ready = tt
+batch-at (Err f) address method records u ts exists schema changed rows made ready = tt
 
 -- A table that is found among its dataset's tables is found at its address.
 pub some-found : (address : Address) (ts : List ResourceTable)
@@ -106,7 +106,7 @@ refused-among address ts method records why (inr is) = inr (own-refused address 
 -- The same for the table at an address, if preparing the batch left the tables unchanged.
 pub result-there : (before after : Stored) (address : Address) (method : Method) (records : List Json)
     (batch : BatchValue) (u : ResourceTable) → tables_of after ≡ tables_of before → AreLinked (tables_of before)
-    → IsBatchAt address method records batch after → Some u ≡ found (at_address address) after.tables
+    → IsBatchAt address method records batch after.tables → Some u ≡ found (at_address address) after.tables
     → Some (without_room u) ≡ table_at address.number (tables_in address.dataset (tables_of after))
     → put_at (tables_in address.dataset (tables_of before)) address.number method records
     ≡ (links_checked (tables_in u.address.dataset (tables_of after)) u (alone batch.work)

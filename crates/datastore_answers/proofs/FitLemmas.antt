@@ -96,7 +96,7 @@ info_only P view tables =
     on-such P (codes "id") view tables (λ placed beside t. Shown (info_dictionary t)) (λ placed t named there. tt)
 
 abbrev own-of : (view : CallView) (tables : List ResourceTable) (placed : Located) (t : ResourceTable)
-    → Contains view.datasets placed.dataset → may_edit_in view.people view.call.caller placed.dataset ≡ true
+    → Contains view.datasets placed.dataset → may_edit_in view.people view.caller placed.dataset ≡ true
     → table_at placed.resource.number (tables_beside placed tables) ≡ Some t
     → IsOwn view tables (address_of placed)
 own-of view tables placed t is_present may there = record {
@@ -113,7 +113,7 @@ pub upsert_fit : (view : CallView) (tables : List ResourceTable)
 upsert_fit view tables =
     on-such (IsFitTable view tables) (codes "resource_id") view tables (upsert_answer view)
     (λ placed t named there. AcceptsOnly-answer_if_authorized (IsFitTable view tables)
-    (may_edit_in view.people view.call.caller placed.dataset) EditDataset _
+    (may_edit_in view.people view.caller placed.dataset) EditDataset _
     (λ may. AcceptsOnly-answer_if_valid (IsFitTable view tables) view.quota
     (put_errors (tables_beside placed tables) t (read_method t.table.schema.key view.call.request.body)
     (read_records view.call.request.body)) _
@@ -132,7 +132,7 @@ pub delete_fit : (view : CallView) (tables : List ResourceTable)
 delete_fit view tables =
     on-such (IsFitTable view tables) (codes "resource_id") view tables (delete_answer view)
     (λ placed t named there. AcceptsOnly-answer_if_authorized (IsFitTable view tables)
-    (may_edit_in view.people view.call.caller placed.dataset) EditDataset _
+    (may_edit_in view.people view.caller placed.dataset) EditDataset _
     (λ may. AcceptsOnly-answer_if_valid (IsFitTable view tables) view.quota
     (remove_errors (tables_beside placed tables) placed.resource.number) _
     (λ none. record {
@@ -167,7 +167,7 @@ pub delete_rows_fit : (view : CallView) (tables : List ResourceTable) (found : O
 delete_rows_fit view tables found =
     on-such (IsFitTable view tables) (codes "resource_id") view tables (delete_rows_answer view found)
     (λ placed t named there. AcceptsOnly-answer_if_authorized (IsFitTable view tables)
-    (may_edit_in view.people view.call.caller placed.dataset) EditDataset _
+    (may_edit_in view.people view.caller placed.dataset) EditDataset _
     (λ may. AcceptsOnly-answer_if_valid (IsFitTable view tables) view.quota
     (delete_rows_errors (tables_beside placed tables) placed.resource.number t found) _
     (λ none. keeps_references view tables placed t
@@ -201,7 +201,7 @@ create_answer_for-such P quota beside make (Ok t) records only =
 new-fit : (view : CallView) (tables : List ResourceTable) (placed : Located) (t : ResourceTable)
     → Contains view.datasets placed.dataset
     → slice_get placed.dataset.resources placed.position ≡ Some placed.resource
-    → may_edit_in view.people view.call.caller placed.dataset ≡ true
+    → may_edit_in view.people view.caller placed.dataset ≡ true
     → table_at placed.resource.number (tables_beside placed tables) ≡ None
     → IsEmptyTable placed (tables_beside placed tables) t → (read : OrError (List Json))
     → put_errors (tables_beside placed tables) t (Ok method.Insert) read ≡ []
@@ -245,7 +245,7 @@ create_fit view tables = by (resource_at (codes "resource_id") view) refl
         → table_at placed.resource.number (tables_beside placed tables) ≡ there
         → AcceptsOnly (IsFitTable view tables) (create_answer view placed (tables_beside placed tables) there)
     by_table placed named None none =
-        AcceptsOnly-answer_if_authorized (IsFitTable view tables) (may_edit_in view.people view.call.caller placed.dataset)
+        AcceptsOnly-answer_if_authorized (IsFitTable view tables) (may_edit_in view.people view.caller placed.dataset)
         EditDataset _
         (λ may. create_answer_for-such (IsFitTable view tables) view.quota (tables_beside placed tables)
         (accepted_create_or_fill placed None)
@@ -258,7 +258,7 @@ create_fit view tables = by (resource_at (codes "resource_id") view) refl
         (new-empty_table placed (tables_beside placed tables) view.call.request.body t described)
         (read_records view.call.request.body) clear))
     by_table placed named (Some there) exists =
-        AcceptsOnly-answer_if_authorized (IsFitTable view tables) (may_edit_in view.people view.call.caller placed.dataset)
+        AcceptsOnly-answer_if_authorized (IsFitTable view tables) (may_edit_in view.people view.caller placed.dataset)
         EditDataset _
         (λ may. create_answer_for-such (IsFitTable view tables) view.quota (tables_beside placed tables)
         (accepted_create_or_fill placed (Some there))

@@ -53,15 +53,15 @@ keeps_references-without_room keys dataset number (t ∷ ts) =
 
 -- A removal that was prepared on the table found at an address was prepared at that address.
 pub removal-at : (result : Result RemovalValue TableFault) (address : Address) (ids : List ℕ) (u : ResourceTable)
-    (stored : Stored) → found (at_address address) stored.tables ≡ Some u → IfOk result (λ r. r.ids ≡ ids)
+    (ts : List ResourceTable) → found (at_address address) ts ≡ Some u → IfOk result (λ r. r.ids ≡ ids)
     → IfOk result (λ r. r.keys ≡ removed_keys u.table.schema.key ids u.table.rows)
-    → IfOk result (λ r. delete_checked ids u.table ≡ Ok tt) → IfOk result (λ r. IsRemovalAt address ids r stored)
-removal-at (Ok r) address ids u stored exists same keys keeps_references = record {
+    → IfOk result (λ r. delete_checked ids u.table ≡ Ok tt) → IfOk result (λ r. IsRemovalAt address ids r ts)
+removal-at (Ok r) address ids u ts exists same keys keeps_references = record {
   delete_rows = record { table = u; exists = exists; keeps_references = keeps_references };
   rows = same;
   keys = keys;
 }
-removal-at (Err f) address ids u stored exists same keys keeps_references = tt
+removal-at (Err f) address ids u ts exists same keys keeps_references = tt
 
 -- What the table itself refuses is refused among the dataset's tables too.
 pub delete_rows-refused : (address : Address) (ts : List ResourceTable) (ids : List ℕ) (why : TableFault)
@@ -83,7 +83,7 @@ delete_rows-refused address ts ids why (inr is) =
 
 -- If the table itself allows a deletion, its result depends on the references of the dataset's other tables.
 pub delete_rows-there : (before after : Stored) (address : Address) (ids : List ℕ) (removal : RemovalValue)
-    → tables_of after ≡ tables_of before → IsRemovalAt address ids removal after
+    → tables_of after ≡ tables_of before → IsRemovalAt address ids removal after.tables
     → delete_at (tables_in address.dataset (tables_of before)) address.number ids
     ≡ tables_restrict removal.keys address.number (tables_in address.dataset after.tables)
 delete_rows-there before after address ids removal same at =

@@ -35,7 +35,7 @@ use Rattle.datastore_answers.specs.declared.resource_table.ResourceTable.{Resour
 -- the answer if the caller may edit the resource's dataset, and else a refusal
 abbrev pub authorize_edit : CallView → Located → Answer TableChange → Answer TableChange
 authorize_edit view placed answer =
-    answer_if_authorized (may_edit_in view.people view.call.caller placed.dataset) EditDataset answer
+    answer_if_authorized (may_edit_in view.people view.caller placed.dataset) EditDataset answer
 
 -- the value, or this one in place of an error
 abbrev pub value_or : {A : Type 0} → A → OrError A → A

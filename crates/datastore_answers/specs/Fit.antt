@@ -27,7 +27,7 @@ pub record IsOwn (view : CallView) (tables : List ResourceTable) (address : Addr
   pub placed : Located
   pub is_present : Contains view.datasets placed.dataset
   pub here : address ≡ address_of placed
-  pub own : may_edit_in view.people view.call.caller placed.dataset ≡ true
+  pub own : may_edit_in view.people view.caller placed.dataset ≡ true
   pub table : ResourceTable
   pub exists : table_at placed.resource.number (tables_beside placed tables) ≡ Some table
 
@@ -37,7 +37,7 @@ pub record IsOwnResource (view : CallView) (address : Address) : Type 0 where
   pub is_present : Contains view.datasets placed.dataset
   pub named : slice_get placed.dataset.resources placed.position ≡ Some placed.resource
   pub here : address ≡ address_of placed
-  pub own : may_edit_in view.people view.call.caller placed.dataset ≡ true
+  pub own : may_edit_in view.people view.caller placed.dataset ≡ true
 
 -- A new table, with records in it, of a resource without a table. Its schema is the one that its own descriptor reads
 -- as. Its foreign keys reference tables of the dataset, and each reference of its rows finds its row there.

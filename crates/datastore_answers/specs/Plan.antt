@@ -31,30 +31,31 @@ change_of (plan.DeleteRows address removal) = change.DeleteRows address removal.
 
 -- The batch is the result of the records on the table at the address, and the table has memory ready for it.
 pub record IsPutReady (address : Address) (method : Method) (records : List Json) (batch : BatchValue)
-    (stored : Stored) : Type 0 where
+    (tables : List ResourceTable) : Type 0 where
   pub table : ResourceTable
-  pub exists : found (at_address address) stored.tables ≡ Some table
+  pub exists : found (at_address address) tables ≡ Some table
   pub ready : IsReady batch table.table
   pub made : put_records method records table.table ≡ Ok (worked_on table.table.rows batch.work)
 
 -- A batch that was prepared on the table at the address, without a check of references to other tables. It has the
 -- table's schema, and its rows ascend.
 pub record IsBatchAt (address : Address) (method : Method) (records : List Json) (batch : BatchValue)
-    (stored : Stored) : Type 0 where
-  pub put : IsPutReady address method records batch stored
+    (tables : List ResourceTable) : Type 0 where
+  pub put : IsPutReady address method records batch tables
   pub schema : batch.schema ≡ put.table.table.schema
   pub changed : IsAscending row_cmp batch.work.changed
   pub rows : IsAscending row_cmp put.table.table.rows
 
 -- The rows can be deleted from the table at the address, as far as its references to itself say.
-pub record IsRemovalReady (address : Address) (ids : List ℕ) (stored : Stored) : Type 0 where
+pub record IsRemovalReady (address : Address) (ids : List ℕ) (tables : List ResourceTable) : Type 0 where
   pub table : ResourceTable
-  pub exists : found (at_address address) stored.tables ≡ Some table
+  pub exists : found (at_address address) tables ≡ Some table
   pub keeps_references : delete_checked ids table.table ≡ Ok tt
 
 -- A removal that was prepared on the table at the address, without a check of references from other tables.
-pub record IsRemovalAt (address : Address) (ids : List ℕ) (removal : RemovalValue) (stored : Stored) : Type 0 where
-  pub delete_rows : IsRemovalReady address ids stored
+pub record IsRemovalAt (address : Address) (ids : List ℕ) (removal : RemovalValue) (tables : List ResourceTable)
+    : Type 0 where
+  pub delete_rows : IsRemovalReady address ids tables
   pub rows : removal.ids ≡ ids
   pub keys : removal.keys ≡ removed_keys delete_rows.table.table.schema.key ids delete_rows.table.table.rows
 
@@ -62,8 +63,9 @@ pub record IsRemovalAt (address : Address) (ids : List ℕ) (removal : RemovalVa
 abbrev pub IsPlanned : TablePlan → Stored → Type 0
 IsPlanned (plan.Create t) stored = ⊤
 IsPlanned (plan.Remove address) stored = ⊤
-IsPlanned (plan.Put address method records batch) stored = IsPutReady address method records.value batch stored
-IsPlanned (plan.DeleteRows address removal) stored = IsRemovalReady address removal.ids stored
+IsPlanned (plan.Put address method records batch) stored =
+    IsPutReady address method records.value batch stored.tables
+IsPlanned (plan.DeleteRows address removal) stored = IsRemovalReady address removal.ids stored.tables
 
 -- The plan can be made without allocation.
 pub record IsReadyPlan (p : TablePlan) (stored : Stored) : Type 0 where

@@ -20,7 +20,7 @@ ghost use Rattle.datastore_answers.specs.Answers.{answer_to_datastore_delete, ac
 ghost use Rattle.datastore_answers.specs.Answers.{authorize_edit};
 ghost use Rattle.datastore_answers.specs.Answers.{answer_to_datastore_delete_rows, accepted_remove, upsert_answer_for};
 ghost use Rattle.datastore_answers.specs.Changed as change;
-ghost use Rattle.datastore_answers.specs.Linked.{AreLinked, put_at};
+ghost use Rattle.datastore_answers.specs.Linked.{put_at};
 ghost use Rattle.datastore_answers.specs.Plan.{IsRemovalReady, IsPlanned, IsPutReady, change_of};
 ghost use Rattle.datastore_answers.specs.Plan.{PlansAnswer, PlansTableAnswer};
 ghost use Rattle.datastore_answers.specs.Restrict.{delete_at};
@@ -56,7 +56,6 @@ pub fn answer(
     tables: &mut Tables,
     action: TableAction,
 ) -> Result<TableAnswer<TablePlan>, AllocError>
-    requires linked { AreLinked (tables_of tables.old) }
     ensures same { tables_of tables.new ≡ tables_of tables.old }
     ensures answer { IfOk result (λ answer. map_table_answer change_of answer
         ≡ answer_to_action action (context_view context.now)
@@ -73,7 +72,6 @@ fn answer_to_action(
     tables: &mut Tables,
     action: TableAction,
 ) -> Result<TableAnswer<TablePlan>, Stop>
-    requires linked { AreLinked (tables_of tables.old) }
     ensures same { tables_of tables.new ≡ tables_of tables.old }
     ensures answer { PlansTableAnswer result (answer_to_action action (context_view context.now)
         (tables_seen (context_view context.now).datasets (tables_of tables.old))) }
@@ -141,7 +139,6 @@ fn datastore_create(
     context: &CallContext<'_>,
     tables: &mut Tables,
 ) -> Result<TableAnswer<TablePlan>, Stop>
-    requires linked { AreLinked (tables_of tables.old) }
     ensures same { tables_of tables.new ≡ tables_of tables.old }
     ensures answer { PlansTableAnswer result (answer_to_datastore_create (context_view context.now)
         (tables_seen (context_view context.now).datasets (tables_of tables.old))) }
@@ -166,14 +163,13 @@ fn prepare_batch(
     requires exists { IsSome (table_at placed.now.resource.now.number
         (tables_in placed.now.dataset.now.id (tables_of tables.old))) }
     requires maps { IsTrue (list_all is_map records.now) }
-    requires linked { AreLinked (tables_of tables.old) }
     ensures same { tables_of tables.new ≡ tables_of tables.old }
     ensures valid { Gives result (λ batch. None) Some
         (denial_of (error_if (codes "body") (quota_error quota) (error_if (codes "records")
         (put_error (put_at (tables_in placed.now.dataset.now.id (tables_of tables.old))
         placed.now.resource.now.number method records.now)) []))) }
     ensures ready { IfOk result (λ batch.
-        IsPutReady (address_of (located_now placed.now)) method records.now batch tables.new) }
+        IsPutReady (address_of (located_now placed.now)) method records.now batch tables.new.tables) }
 {
     match tables.batch(&placed.dataset.id, placed.resource.number, method, records) {
         Ok(batch) => {
@@ -202,7 +198,6 @@ pub(crate) fn answer_put(
     requires exists { IsSome (table_at placed.now.resource.now.number
         (tables_in placed.now.dataset.now.id (tables_of tables.old))) }
     requires maps { IsTrue (list_all is_map records.now) }
-    requires linked { AreLinked (tables_of tables.old) }
     ensures same { tables_of tables.new ≡ tables_of tables.old }
     ensures answer { PlansAnswer result (answer_if_valid quota (error_if (codes "records")
         (put_error (put_at (tables_in placed.now.dataset.now.id (tables_of tables.old))
@@ -230,7 +225,6 @@ fn answer_authorized_upsert(
     requires exists { IsSome (table_at placed.now.resource.now.number
         (tables_in placed.now.dataset.now.id (tables_of tables.old))) }
     requires maps { IsTrue (list_all is_map records.now) }
-    requires linked { AreLinked (tables_of tables.old) }
     ensures same { tables_of tables.new ≡ tables_of tables.old }
     ensures answer { PlansAnswer result (answer_if_valid quota (error_if (codes "records")
         (put_error (put_at (tables_in placed.now.dataset.now.id (tables_of tables.old))
@@ -270,7 +264,6 @@ fn answer_upsert(
 ) -> Result<Answer<TablePlan>, Stop>
     requires exists { IsSome (table_at placed.now.resource.now.number
         (tables_in placed.now.dataset.now.id (tables_of tables.old))) }
-    requires linked { AreLinked (tables_of tables.old) }
     ensures same { tables_of tables.new ≡ tables_of tables.old }
     ensures answer { (t : ResourceTable) →
         table_at placed.now.resource.now.number (tables_in placed.now.dataset.now.id (tables_of tables.old)) ≡ Some t
@@ -279,7 +272,7 @@ fn answer_upsert(
         method (read_records context.now.call.now.request.body)) }
     ensures ready { IfOk result (λ answer. AcceptsOnly (λ plan. IsPlanned plan tables.new) answer) }
 {
-    authorize(context.may_edit(placed.dataset), Right::EditDataset)?;
+    authorize(context.viewer.may_edit(placed.dataset), Right::EditDataset)?;
     let quota = context.quota;
     let none = Seq::new(alloc);
     let records = read_records(alloc, &none, &context.call.request.body)?;
@@ -302,7 +295,6 @@ fn datastore_upsert(
     context: &CallContext<'_>,
     tables: &mut Tables,
 ) -> Result<TableAnswer<TablePlan>, Stop>
-    requires linked { AreLinked (tables_of tables.old) }
     ensures same { tables_of tables.new ≡ tables_of tables.old }
     ensures answer { PlansTableAnswer result (answer_to_datastore_upsert (context_view context.now)
         (tables_seen (context_view context.now).datasets (tables_of tables.old))) }
@@ -392,7 +384,7 @@ fn answer_delete(
         placed.now.resource.now.number) (accepted_remove (located_now placed.now)))) }
     ensures ready { IfOk result (λ answer. AcceptsOnly (λ plan. IsPlanned plan tables.now) answer) }
 {
-    authorize(context.may_edit(placed.dataset), Right::EditDataset)?;
+    authorize(context.viewer.may_edit(placed.dataset), Right::EditDataset)?;
     validate_change(context.quota, remove_errors(alloc, placed, tables)?)?;
     Ok(accept_remove(alloc, placed)?)
 }
@@ -450,7 +442,7 @@ fn prepare_removal(
         placed.now.resource.now.number ids.now)) []))) }
     ensures ids { IfOk result (λ removal. removal.ids ≡ ids.now) }
     ensures ready { IfOk result (λ removal.
-        IsRemovalReady (address_of (located_now placed.now)) removal.ids tables.new) }
+        IsRemovalReady (address_of (located_now placed.now)) removal.ids tables.new.tables) }
 {
     match tables.removal(&placed.dataset.id, placed.resource.number, ids) {
         Ok(removal) => {
@@ -506,7 +498,7 @@ fn answer_delete_rows(
         (tables_in placed.now.dataset.now.id (tables_of tables.old)) t) }
     ensures ready { IfOk result (λ answer. AcceptsOnly (λ plan. IsPlanned plan tables.new) answer) }
 {
-    authorize(context.may_edit(placed.dataset), Right::EditDataset)?;
+    authorize(context.viewer.may_edit(placed.dataset), Right::EditDataset)?;
     match found {
         Ok(ids) => answer_authorized_delete_rows(alloc, context.quota, placed, tables, &ids),
         Err(message) => { Err(Stop::Refused(refuse_at(alloc, context.quota, "filters", message)?)) }

@@ -1,6 +1,6 @@
 //! Batches of records, prepared on the table of a resource among the tables of its dataset.
 ghost use Rattle.std.specs.Prelude.{◌≡◌, ◌⊎◌, ◌<◌, [], Ok, Err, IfOk, IfErr, OnOk, IsSome, IsTrue, Some, None, length};
-ghost use Rattle.std.specs.Prelude.{option_copied, option_map, slice_get};
+ghost use Rattle.std.specs.Prelude.{map, option_copied, option_map, slice_get};
 ghost use Rattle.std.specs.List.{list_all};
 ghost use Rattle.table_schema.specs.Values.{is_map};
 ghost use Rattle.portal_base.specs.Ordered.{IsAscending, found};
@@ -11,13 +11,13 @@ ghost use Rattle.datastore_table.specs.declared.fault.TableFault.TheVariants.{Ou
 ghost use Rattle.datastore_answers.specs.Changed.{put_into};
 ghost use Rattle.datastore_answers.specs.Linked.{AreLinked, alone, link_checked, links_checked, put_among, put_at};
 ghost use Rattle.datastore_answers.specs.Linked.{put_own, target_of};
-ghost use Rattle.datastore_answers.specs.Order.{at_address};
+ghost use Rattle.datastore_answers.specs.Order.{at_address, table_cmp};
 ghost use Rattle.datastore_answers.specs.Plan.{IsBatchAt, IsPutReady};
 ghost use Rattle.datastore_answers.specs.Tables.{without_room, table_at, tables_in, tables_of};
 ghost use Rattle.datastore_answers.specs.Errors.{put_error};
 
 use crate::resource_table::ResourceTable;
-use crate::table_index::find_index;
+use crate::table_index::{find_index, find_table};
 use crate::tables::Tables;
 use datastore_table::{Batch, Method, TableFault, check_foreign};
 use portal_base::json_value::Json;
@@ -61,12 +61,11 @@ impl Tables {
     ) -> Result<Batch, TableFault>
         requires exists { IsSome (table_at number (tables_in dataset.now (tables_of self.old))) }
         requires maps { IsTrue (list_all is_map records.now) }
-        requires linked { AreLinked (tables_of self.old) }
         ensures same { tables_of self.new ≡ tables_of self.old }
         ensures taken { IfOk result (λ _. put_error
             (put_at (tables_in dataset.now (tables_of self.old)) number method records.now) ≡ None) }
         ensures ready { IfOk result (λ batch. IsPutReady (record { dataset = dataset.now; number = number })
-            method records.now batch self.new) }
+            method records.now batch self.new.tables) }
         ensures fault { IfErr result (λ fault. (fault ≡ OutOfMemory)
             ⊎ (put_at (tables_in dataset.now (tables_of self.old)) number method records.now ≡ Err fault)) }
     {
@@ -117,7 +116,8 @@ impl Tables {
         requires maps { IsTrue (list_all is_map records.now) }
         ensures same { tables_of self.new ≡ tables_of self.old }
         ensures batch { IfOk result (λ batch. IsBatchAt (record { dataset = dataset.now; number = number })
-            method records.now batch self.new) }
+            method records.now batch self.new.tables) }
+        ensures linked { AreLinked (tables_of self.old) }
         ensures fault { IfErr result (λ fault. (fault ≡ OutOfMemory) ⊎ (put_own method records.now
             (found (at_address (record { dataset = dataset.now; number = number })) self.old.tables) ≡ Err fault)) }
     {
@@ -164,20 +164,25 @@ impl Tables {
         let Ok(number) = u32::try_from(index) else {
             return Err(TableFault::OutOfMemory);
         };
-        match self.target(table, index) {
+        match target(self.tables.as_slice(), table, index) {
             Some(target) => check_foreign(batch, number, &target.table),
             None => Ok(()),
         }
     }
+}
 
-    /// The table that the foreign key with this index references, if there is one.
-    pub(crate) fn target(&self, table: &ResourceTable, index: usize) -> Option<&ResourceTable>
-        ensures { option_map without_room (option_copied result)
-            ≡ target_of (tables_in table.now.address.dataset (tables_of self.now)) table.now index }
-    {
-        match table.targets.as_slice().get(index) {
-            Some(number) => self.get(&table.address.dataset, *number),
-            None => None,
-        }
+/// The table that the foreign key with this index references, if there is one.
+pub(crate) fn target<'a>(
+    tables: &'a [ResourceTable],
+    table: &ResourceTable,
+    index: usize,
+) -> Option<&'a ResourceTable>
+    requires { IsAscending table_cmp tables.now }
+    ensures { option_map without_room (option_copied result)
+        ≡ target_of (tables_in table.now.address.dataset (map without_room tables.now)) table.now index }
+{
+    match table.targets.as_slice().get(index) {
+        Some(number) => find_table(tables, &table.address.dataset, *number),
+        None => None,
     }
 }

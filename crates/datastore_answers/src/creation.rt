@@ -13,7 +13,7 @@ ghost use Rattle.datastore_answers.specs.Answers.{create_answer, accepted_fill, 
 ghost use Rattle.datastore_answers.specs.Changed.{put_into};
 ghost use Rattle.datastore_answers.specs.Described.{described_table};
 ghost use Rattle.datastore_answers.specs.Dictionary.{create_dictionary};
-ghost use Rattle.datastore_answers.specs.Linked.{AreLinked, put_among};
+ghost use Rattle.datastore_answers.specs.Linked.{put_among};
 ghost use Rattle.datastore_answers.specs.Plan.{IsPlanned, PlansAnswer};
 ghost use Rattle.datastore_answers.specs.Tables.{Stored, without_room, table_at, tables_in, tables_of};
 ghost use Rattle.datastore_answers.specs.Errors.{put_error, error_of};
@@ -156,7 +156,6 @@ fn answer_existing_table(
     requires exists { IsSome (table_at placed.now.resource.now.number
         (tables_in placed.now.dataset.now.id (tables_of tables.old))) }
     requires maps { IfOk records (λ records. IsTrue (list_all is_map records.now)) }
-    requires linked { AreLinked (tables_of tables.old) }
     ensures same { tables_of tables.new ≡ tables_of tables.old }
     ensures answer { (t : ResourceTable) →
         table_at placed.now.resource.now.number (tables_in placed.now.dataset.now.id (tables_of tables.old)) ≡ Some t
@@ -181,7 +180,6 @@ fn answer_authorized_create(
     records: Result<&Seq<Json>, Text>,
 ) -> Result<Answer<TablePlan>, Stop>
     requires maps { IfOk records (λ records. IsTrue (list_all is_map records.now)) }
-    requires linked { AreLinked (tables_of tables.old) }
     ensures same { tables_of tables.new ≡ tables_of tables.old }
     ensures answer { PlansAnswer result (authorized_create_answer context.now.quota (located_now placed.now)
         (tables_in placed.now.dataset.now.id (tables_of tables.old)) context.now.call.now.request.body
@@ -211,14 +209,13 @@ pub(crate) fn answer_create(
     placed: &LocatedResource<'_>,
     tables: &mut Tables,
 ) -> Result<Answer<TablePlan>, Stop>
-    requires linked { AreLinked (tables_of tables.old) }
     ensures same { tables_of tables.new ≡ tables_of tables.old }
     ensures answer { PlansAnswer result (create_answer (context_view context.now) (located_now placed.now)
         (tables_in placed.now.dataset.now.id (tables_of tables.old))
         (table_at placed.now.resource.now.number (tables_in placed.now.dataset.now.id (tables_of tables.old)))) }
     ensures ready { IfOk result (λ answer. AcceptsOnly (λ plan. IsPlanned plan tables.new) answer) }
 {
-    authorize(context.may_edit(placed.dataset), Right::EditDataset)?;
+    authorize(context.viewer.may_edit(placed.dataset), Right::EditDataset)?;
     let none = Seq::new(alloc);
     let records = read_records(alloc, &none, &context.call.request.body)?;
     answer_authorized_create(alloc, context, placed, tables, records)

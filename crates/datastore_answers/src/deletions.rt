@@ -136,7 +136,7 @@ impl Tables {
             (delete_at (tables_in dataset.now (tables_of self.old)) number ids.now) ≡ None) }
         ensures ids { IfOk result (λ removal. removal.ids ≡ ids.now) }
         ensures ready { IfOk result (λ removal. IsRemovalReady (record { dataset = dataset.now; number = number })
-            removal.ids self.new) }
+            removal.ids self.new.tables) }
         ensures fault { IfErr result (λ fault. (fault ≡ OutOfMemory)
             ⊎ (delete_at (tables_in dataset.now (tables_of self.old)) number ids.now ≡ Err fault)) }
     {
@@ -157,7 +157,7 @@ impl Tables {
             (found (at_address (record { dataset = dataset.now; number = number })) self.old.tables) }
         ensures same { tables_of self.new ≡ tables_of self.old }
         ensures removal { IfOk result (λ removal. IsRemovalAt (record { dataset = dataset.now; number = number })
-            ids.now removal self.new) }
+            ids.now removal self.new.tables) }
         ensures fault { IfErr result (λ fault. (fault ≡ OutOfMemory) ⊎ (delete_own ids.now
             (found (at_address (record { dataset = dataset.now; number = number })) self.old.tables) ≡ Err fault)) }
     {

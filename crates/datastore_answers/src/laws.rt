@@ -44,8 +44,9 @@ pub fn a_reading_accepts_nothing()
 {}
 
 /// A fit change keeps the tables consistent: they stay in order, the rows of each meet its schema, each foreign key
-/// references a table whose key it names, and each reference finds its row. So consistent tables meet what the
-/// answers require. If the resources of a dataset that are kept break no reference, their tables stay consistent too.
+/// references a table whose key it names, and each reference finds its row. So such a change of consistent tables
+/// meets what `Tables` requires. If the resources of a dataset that are kept break no reference, their tables stay
+/// consistent too.
 pub fn changes_keep_references()
     ensures kept { (view : CallView) (tables : List ResourceTable) (change : TableChange) → AreConsistent tables →
         IsFitTable view tables change → AreConsistent (changed_tables change tables) }

@@ -15,8 +15,10 @@ ghost use Rattle.datastore_answers.specs.Order.{table_cmp};
 ghost use Rattle.datastore_answers.specs.Restored.{are_related, are_restorable};
 ghost use Rattle.datastore_answers.specs.Tables.{without_room, table_at, tables_in, tables_of};
 
+use crate::batches::target;
 use crate::resolution::fits;
 use crate::resource_table::ResourceTable;
+use crate::table_index::find_table;
 use crate::tables::Tables;
 use datastore_table::keeps_references;
 use portal_base::seq::Seq;
@@ -35,126 +37,149 @@ impl Tables {
             All (λ (t : ResourceTable). IsDescribed t.table.schema) tables → AreConsistent (tables_of made)) }
     {
         let tables = in_order(tables)?;
-        let made = Tables { tables };
-        if made.are_related() { Some(made) } else { None }
-    }
-
-    // Whether the tables relate to each other as consistent tables do.
-    fn are_related(&self) -> bool
-        ensures related { result ≡ are_related (tables_of self.now) }
-        ensures valid { IsTrue result →
-            All (λ (t : ResourceTable). IsTable t.table.schema t.table.rows t.table.next_id) (tables_of self.now) }
-    {
-        let tables = self.tables.as_slice();
-        are_resolved(tables) && self.keep_references(tables)
-    }
-
-    // Whether each foreign key of these tables to another table references one that it fits, and each reference of
-    // their rows to another table finds its row.
-    fn keep_references(&self, tables: &[ResourceTable]) -> bool
-        ensures kept { result ≡
-            (list_all (λ t. links_found (tables_in t.address.dataset (tables_of self.now)) t 0 t.table.schema.foreign)
-            tables.now
-            && list_all (λ t. is_linked (tables_in t.address.dataset (tables_of self.now)) t) tables.now) }
-        ensures valid { IsTrue result →
-            All (λ (t : ResourceTable). IsTable t.table.schema t.table.rows t.table.next_id) tables.now }
-    {
-        self.are_found(tables) && self.are_linked(tables)
-    }
-
-    // ---- the tables that foreign keys reference
-
-    // Whether each foreign key of these tables to another table references one that it fits.
-    fn are_found(&self, tables: &[ResourceTable]) -> bool
-        ensures { result ≡ list_all
-            (λ t. links_found (tables_in t.address.dataset (tables_of self.now)) t 0 t.table.schema.foreign)
-            tables.now }
-    {
-        tables.iter().all(|table| self.is_found(table))
-    }
-
-    fn is_found(&self, table: &ResourceTable) -> bool
-        ensures { result ≡ links_found (tables_in table.now.address.dataset (tables_of self.now)) table.now 0
-            table.now.table.schema.foreign }
-    {
-        for (index, foreign) in table.table.schema().foreign().as_slice().iter().enumerate() {
-            if !self.is_found_at(table, index, foreign) {
-                return false;
-            }
-        }
-        true
-    }
-
-    // Whether this holds of the foreign key with this index, counted from 0.
-    fn is_found_at(&self, table: &ResourceTable, index: usize, foreign: &Foreign) -> bool
-        ensures { result ≡ (is_self foreign.now || is_another
-            (tables_in table.now.address.dataset (tables_of self.now)) table.now foreign.now
-            (slice_get table.now.targets index)) }
-    {
-        if foreign.resource.is_empty() {
-            return true;
-        }
-        match table.targets.as_slice().get(index) {
-            Some(number) => {
-                *number != table.address.number && self.is_fitted(table, foreign, *number)
-            }
-            None => false,
+        if are_related(tables.as_slice()) {
+            Some(Tables { tables })
+        } else {
+            None
         }
     }
+}
 
-    // Whether the foreign key fits the table of the dataset's resource with this number.
-    fn is_fitted(&self, table: &ResourceTable, foreign: &Foreign, number: u32) -> bool
-        ensures { result ≡ is_fitted table.now foreign.now
-            (table_at number (tables_in table.now.address.dataset (tables_of self.now))) }
-    {
-        match self.get(&table.address.dataset, number) {
-            Some(target) => fits(table.table.schema(), foreign, target.table.schema()),
-            None => false,
+// ---- relations of tables in order
+
+// Whether the tables relate to each other as consistent tables do.
+fn are_related(all: &[ResourceTable]) -> bool
+    requires { IsAscending table_cmp all.now }
+    ensures related { result ≡ are_related (map without_room all.now) }
+    ensures valid { IsTrue result →
+        All (λ (t : ResourceTable). IsTable t.table.schema t.table.rows t.table.next_id) (map without_room all.now) }
+{
+    are_resolved(all) && keep_references(all, all)
+}
+
+// Whether each foreign key of these tables to another table references one that it fits, and each reference of their
+// rows to another table finds its row.
+fn keep_references(all: &[ResourceTable], tables: &[ResourceTable]) -> bool
+    requires { IsAscending table_cmp all.now }
+    ensures kept { result ≡
+        (list_all (λ t. links_found (tables_in t.address.dataset (map without_room all.now)) t 0 t.table.schema.foreign)
+        tables.now
+        && list_all (λ t. is_linked (tables_in t.address.dataset (map without_room all.now)) t) tables.now) }
+    ensures valid { IsTrue result →
+        All (λ (t : ResourceTable). IsTable t.table.schema t.table.rows t.table.next_id) tables.now }
+{
+    are_found(all, tables) && are_linked(all, tables)
+}
+
+// ---- the tables that foreign keys reference
+
+// Whether each foreign key of these tables to another table references one that it fits.
+fn are_found(all: &[ResourceTable], tables: &[ResourceTable]) -> bool
+    requires { IsAscending table_cmp all.now }
+    ensures { result ≡ list_all
+        (λ t. links_found (tables_in t.address.dataset (map without_room all.now)) t 0 t.table.schema.foreign)
+        tables.now }
+{
+    tables.iter().all(|table| is_found(all, table))
+}
+
+fn is_found(all: &[ResourceTable], table: &ResourceTable) -> bool
+    requires { IsAscending table_cmp all.now }
+    ensures { result ≡ links_found (tables_in table.now.address.dataset (map without_room all.now)) table.now 0
+        table.now.table.schema.foreign }
+{
+    for (index, foreign) in table.table.schema().foreign().as_slice().iter().enumerate() {
+        if !is_found_at(all, table, index, foreign) {
+            return false;
         }
     }
+    true
+}
 
-    // ---- the rows that rows reference
-
-    // Whether each reference of these tables' rows to another table finds its row.
-    fn are_linked(&self, tables: &[ResourceTable]) -> bool
-        ensures linked { result
-            ≡ list_all (λ t. is_linked (tables_in t.address.dataset (tables_of self.now)) t) tables.now }
-        ensures valid { IsTrue result →
-            All (λ (t : ResourceTable). IsTable t.table.schema t.table.rows t.table.next_id) tables.now }
-    {
-        for table in tables {
-            table.table.rows_meet_schema();
-            if !self.is_linked(table) {
-                return false;
-            }
-        }
-        true
+// Whether this holds of the foreign key with this index, counted from 0.
+fn is_found_at(
+    all: &[ResourceTable],
+    table: &ResourceTable,
+    index: usize,
+    foreign: &Foreign,
+) -> bool
+    requires { IsAscending table_cmp all.now }
+    ensures { result ≡ (is_self foreign.now || is_another
+        (tables_in table.now.address.dataset (map without_room all.now)) table.now foreign.now
+        (slice_get table.now.targets index)) }
+{
+    if foreign.resource.is_empty() {
+        return true;
     }
-
-    fn is_linked(&self, table: &ResourceTable) -> bool
-        ensures { result ≡ is_linked (tables_in table.now.address.dataset (tables_of self.now)) table.now }
-    {
-        for (index, foreign) in table.table.schema().foreign().as_slice().iter().enumerate() {
-            if !self.is_linked_at(table, index, foreign) {
-                return false;
-            }
+    match table.targets.as_slice().get(index) {
+        Some(number) => {
+            *number != table.address.number && is_fitted(all, table, foreign, *number)
         }
-        true
+        None => false,
     }
+}
 
-    // Whether this holds by the foreign key with this index, counted from 0.
-    fn is_linked_at(&self, table: &ResourceTable, index: usize, foreign: &Foreign) -> bool
-        ensures { result ≡ (is_self foreign.now || holds_in
-            (target_of (tables_in table.now.address.dataset (tables_of self.now)) table.now index) foreign.now
-            table.now.table.rows) }
-    {
-        if foreign.resource.is_empty() {
-            return true;
+// Whether the foreign key fits the table of the dataset's resource with this number.
+fn is_fitted(all: &[ResourceTable], table: &ResourceTable, foreign: &Foreign, number: u32) -> bool
+    requires { IsAscending table_cmp all.now }
+    ensures { result ≡ is_fitted table.now foreign.now
+        (table_at number (tables_in table.now.address.dataset (map without_room all.now))) }
+{
+    match find_table(all, &table.address.dataset, number) {
+        Some(target) => fits(table.table.schema(), foreign, target.table.schema()),
+        None => false,
+    }
+}
+
+// ---- the rows that rows reference
+
+// Whether each reference of these tables' rows to another table finds its row.
+fn are_linked(all: &[ResourceTable], tables: &[ResourceTable]) -> bool
+    requires { IsAscending table_cmp all.now }
+    ensures linked { result
+        ≡ list_all (λ t. is_linked (tables_in t.address.dataset (map without_room all.now)) t) tables.now }
+    ensures valid { IsTrue result →
+        All (λ (t : ResourceTable). IsTable t.table.schema t.table.rows t.table.next_id) tables.now }
+{
+    for table in tables {
+        table.table.rows_meet_schema();
+        if !is_linked(all, table) {
+            return false;
         }
-        match self.target(table, index) {
-            Some(target) => keeps_references(&table.table, foreign, &target.table),
-            None => true,
+    }
+    true
+}
+
+fn is_linked(all: &[ResourceTable], table: &ResourceTable) -> bool
+    requires { IsAscending table_cmp all.now }
+    ensures { result ≡ is_linked (tables_in table.now.address.dataset (map without_room all.now)) table.now }
+{
+    for (index, foreign) in table.table.schema().foreign().as_slice().iter().enumerate() {
+        if !is_linked_at(all, table, index, foreign) {
+            return false;
         }
+    }
+    true
+}
+
+// Whether this holds by the foreign key with this index, counted from 0.
+fn is_linked_at(
+    all: &[ResourceTable],
+    table: &ResourceTable,
+    index: usize,
+    foreign: &Foreign,
+) -> bool
+    requires { IsAscending table_cmp all.now }
+    ensures { result ≡ (is_self foreign.now || holds_in
+        (target_of (tables_in table.now.address.dataset (map without_room all.now)) table.now index) foreign.now
+        table.now.table.rows) }
+{
+    if foreign.resource.is_empty() {
+        return true;
+    }
+    match target(all, table, index) {
+        Some(target) => keeps_references(&table.table, foreign, &target.table),
+        None => true,
     }
 }
 

@@ -1,11 +1,12 @@
 //! Binary searches for tables by address.
-ghost use Rattle.std.specs.Prelude.{◌≡◌, ◌<◌, ◌≤◌, None, MatchOption, IfSome, length, slice_get};
+ghost use Rattle.std.specs.Prelude.{◌≡◌, ◌<◌, ◌≤◌, None, MatchOption, IfSome, length, map, slice_get};
+ghost use Rattle.std.specs.Prelude.{option_copied, option_map};
 ghost use Rattle.std.specs.List.{prefix_len};
 ghost use Rattle.std.specs.Cmp.Lexicographic.{slice_cmp};
 ghost use Rattle.std.specs.Ordering.{is_le, is_lt, nat_cmp};
 ghost use Rattle.portal_base.specs.Ordered.{IsAscending, found};
 ghost use Rattle.datastore_answers.specs.Order.{at_address, table_cmp};
-ghost use Rattle.datastore_answers.specs.Tables.{tables_in};
+ghost use Rattle.datastore_answers.specs.Tables.{table_at, tables_in, without_room};
 
 use crate::resource_table::ResourceTable;
 use portal_base::text::Text;
@@ -67,5 +68,24 @@ pub(crate) fn find_index(tables: &[ResourceTable], dataset: &Text, number: u32) 
         Some(index)
     } else {
         None
+    }
+}
+
+/// The table at this address, if there is one.
+#[tactic(auto, using(crate::proofs::TableLemmas::table_found))]
+pub(crate) fn find_table<'a>(
+    tables: &'a [ResourceTable],
+    dataset: &Text,
+    number: u32,
+) -> Option<&'a ResourceTable>
+    requires { IsAscending table_cmp tables.now }
+    ensures table { option_map without_room (option_copied result)
+        ≡ table_at number (tables_in dataset.now (map without_room tables.now)) }
+    ensures found { option_copied result
+        ≡ found (at_address (record { dataset = dataset.now; number = number })) tables.now }
+{
+    match find_index(tables, dataset, number) {
+        Some(index) => Some(&tables[index]),
+        None => None,
     }
 }

@@ -65,7 +65,7 @@ found-exists people name org is =
 own-administered : (view : CallView) (org : Org) → administered_organization view ≡ Ok org → IsAdministered view org.name
 own-administered view org is =
     let own =
-    authorized_thing-ok (λ (o : Org). administers view.people view.call.caller o.name) AdministerOrganization
+    authorized_thing-ok (λ (o : Org). administers view.people view.caller o.name) AdministerOrganization
     (organization_named view) org is in
     let named = thing_at-ok (codes "id") view.call.request.body Organization (org_in view.people) org own.1 in
     record { exists = found-exists view.people named.name org named.looked; administered = own.0 }
@@ -136,7 +136,7 @@ former-member-exists people org body none =
 
 creation-fit : (view : CallView) → AcceptsOnly (IsFitOrg view) (answer_to_organization_create view)
 creation-fit view =
-    AcceptsOnly-answer_if_authorized (IsFitOrg view) (is_sysadmin_in view.people view.call.caller) CreateOrganization _
+    AcceptsOnly-answer_if_authorized (IsFitOrg view) (is_sysadmin_in view.people view.caller) CreateOrganization _
     (λ sysadmin. AcceptsOnly-answer_if_valid (IsFitOrg view) view.quota (creation_errors view.call.request.body) _
     (λ none. record { named = creation-named view.call.request.body none; sysadmin = sysadmin }))
 

@@ -41,7 +41,7 @@ use Rattle.organization_answers.specs.Bodies.{member_errors, former_member_error
 abbrev pub answer_to_organization_create : CallView → Answer OrgChange
 answer_to_organization_create view =
     let org = created_org view.call.request.body view.call.moment in
-    answer_if_authorized (is_sysadmin_in view.people view.call.caller) CreateOrganization
+    answer_if_authorized (is_sysadmin_in view.people view.caller) CreateOrganization
     (answer_if_valid view.quota (creation_errors view.call.request.body)
     (Accepted (organization_dictionary view.datasets org) (Create org)))
 
@@ -52,7 +52,7 @@ organization_named view = thing_at (codes "id") view.call.request.body Organizat
 -- the same, if the caller administers the organization
 abbrev pub administered_organization : CallView → Result Org Denial
 administered_organization view =
-    authorized_thing (λ org. administers view.people view.call.caller org.name) AdministerOrganization
+    authorized_thing (λ org. administers view.people view.caller org.name) AdministerOrganization
     (organization_named view)
 
 abbrev pub answer_to_organization_patch : CallView → Answer OrgChange
@@ -117,7 +117,7 @@ capacity_or_admin false role = role
 
 abbrev pub capacity : CallView → List ℕ → Option Role
 capacity view org =
-    capacity_or_admin (is_sysadmin_in view.people view.call.caller) (caller_role view.people view.call.caller org)
+    capacity_or_admin (is_sysadmin_in view.people view.caller) (caller_role view.people view.caller org)
 
 -- an organization with the caller's capacity in it, if there is one
 abbrev pub capacity_item : CallView → Org → Option Json

@@ -11,12 +11,12 @@ use Rattle.visibility.specs.View.{administers, has_datasets}
 -- a new organization's name isn't empty, and the caller is a sysadmin
 pub record IsFitCreation (view : CallView) (org : Org) : Type 0 where
   pub named : org.name ≢ []
-  pub sysadmin : is_sysadmin_in view.people view.call.caller ≡ true
+  pub sysadmin : is_sysadmin_in view.people view.caller ≡ true
 
 -- the organization with that name exists, and the caller administers it
 pub record IsAdministered (view : CallView) (org : List ℕ) : Type 0 where
   pub exists : is_some (org_in view.people org) ≡ true
-  pub administered : administers view.people view.call.caller org ≡ true
+  pub administered : administers view.people view.caller org ≡ true
 
 -- the caller administers the organization, and no dataset in the view belongs to it
 pub record IsFitRemoval (view : CallView) (org : List ℕ) : Type 0 where

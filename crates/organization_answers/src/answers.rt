@@ -4,11 +4,8 @@
 //! the call and of the caller's view. A refusal stops it.
 ghost use Rattle.std.specs.Prelude.{◌≡◌, IfOk, IsTrue, false, unwrap_or};
 ghost use Rattle.std.specs.Option.{option_flatten};
-ghost use Rattle.std.specs.List.{list_all};
-ghost use Rattle.packages.specs.Shelf.{datasets_of};
 ghost use Rattle.portal_calls.specs.Stop.{Answers, Finds};
 ghost use Rattle.visibility.specs.View.{administers};
-ghost use Rattle.visibility.specs.Visibility.{is_public_if_harvested};
 ghost use Rattle.visibility.specs.CallView.{context_view};
 ghost use Rattle.organization_answers.specs.Answers.{answer_to_action};
 ghost use Rattle.organization_answers.specs.Answers.{answer_to_organization_create, answer_to_organization_patch};
@@ -42,7 +39,6 @@ pub fn answer(
     context: &CallContext<'_>,
     action: OrganizationAction,
 ) -> Result<Answer<OrgChange>, AllocError>
-    requires open { IsTrue (list_all is_public_if_harvested (datasets_of context.now.shelf.now)) }
     ensures { IfOk result (λ answer. answer ≡ answer_to_action action (context_view context.now)) }
 {
     answer_or_refusal(answer_to_action(alloc, context, action))
@@ -54,7 +50,6 @@ fn answer_to_action(
     context: &CallContext<'_>,
     action: OrganizationAction,
 ) -> Result<Answer<OrgChange>, Stop>
-    requires { IsTrue (list_all is_public_if_harvested (datasets_of context.now.shelf.now)) }
     ensures { Answers result (answer_to_action action (context_view context.now)) }
 {
     match action {
@@ -75,7 +70,7 @@ fn answer_to_action(
 fn organization_create(alloc: Global, context: &CallContext<'_>) -> Result<Answer<OrgChange>, Stop>
     ensures { Answers result (answer_to_organization_create (context_view context.now)) }
 {
-    authorize(context.is_sysadmin(), Right::CreateOrganization)?;
+    authorize(context.viewer.is_sysadmin(), Right::CreateOrganization)?;
     let (faults, org) = read_creation(alloc, &context.call.request.body, context.call.moment)?;
     validate_change(context.quota, faults)?;
     let shown = organization_json(alloc, context, &org)?;
@@ -89,7 +84,7 @@ fn organization_named<'a>(alloc: Global, context: &CallContext<'a>) -> Result<&'
     ensures { Finds result (λ org. org.now) (organization_named (context_view context.now)) }
 {
     match required_text(&context.call.request.body, "id") {
-        Ok(name) => match context.org(name) {
+        Ok(name) => match context.viewer.org(name) {
             Some(org) => Ok(org),
             None => Err(Stop::Refused(Denial::NotFound(Kind::Organization))),
         },
@@ -101,11 +96,11 @@ fn organization_named<'a>(alloc: Global, context: &CallContext<'a>) -> Result<&'
 fn administered_organization<'a>(alloc: Global, context: &CallContext<'a>) -> Result<&'a Org, Stop>
     ensures found { Finds result (λ org. org.now) (administered_organization (context_view context.now)) }
     ensures own { IfOk result (λ org.
-        IsTrue (administers (context_view context.now).people context.now.call.now.caller org.now.name)) }
+        IsTrue (administers (context_view context.now).people context.now.viewer.caller org.now.name)) }
 {
     let org = organization_named(alloc, context)?;
     authorize(
-        context.administers(&org.name),
+        context.viewer.administers(&org.name),
         Right::AdministerOrganization,
     )?;
     Ok(org)
@@ -126,7 +121,6 @@ fn organization_patch(alloc: Global, context: &CallContext<'_>) -> Result<Answer
 
 /// The answer to an `organization_delete`.
 fn organization_delete(alloc: Global, context: &CallContext<'_>) -> Result<Answer<OrgChange>, Stop>
-    requires { IsTrue (list_all is_public_if_harvested (datasets_of context.now.shelf.now)) }
     ensures { Answers result (answer_to_organization_delete (context_view context.now)) }
 {
     let org = administered_organization(alloc, context)?;

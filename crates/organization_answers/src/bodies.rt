@@ -5,14 +5,11 @@ ghost use Rattle.portal_base.specs.KeyErrors.{error_if, text_error};
 ghost use Rattle.portal_calls.specs.Answer.{required_text};
 ghost use Rattle.visibility.specs.CallView.{context_view};
 ghost use Rattle.visibility.specs.View.{administers};
-ghost use Rattle.packages.specs.Shelf.{datasets_of};
 ghost use Rattle.packages.specs.Texts.{name_error};
 ghost use Rattle.organization_answers.specs.Bodies.{role_named, role_error, user_error, member_error};
 ghost use Rattle.organization_answers.specs.Bodies.{text_or_none, creation_errors, created_org, patch_errors};
 ghost use Rattle.organization_answers.specs.Bodies.{patched_org, member_errors, former_member_errors, user_given};
 ghost use Rattle.organization_answers.specs.Bodies.{role_given, removal_errors};
-ghost use Rattle.std.specs.List.{list_all};
-ghost use Rattle.visibility.specs.Visibility.{is_public_if_harvested};
 
 use org_roles::entry::Org;
 use org_roles::role::Role;
@@ -117,12 +114,11 @@ pub fn removal_errors(
     context: &CallContext<'_>,
     org: &Text,
 ) -> Result<KeyErrors, AllocError>
-    requires own { IsTrue (administers (context_view context.now).people context.now.call.now.caller org.now) }
-    requires harvested { IsTrue (list_all is_public_if_harvested (datasets_of context.now.shelf.now)) }
+    requires { IsTrue (administers (context_view context.now).people context.now.viewer.caller org.now) }
     ensures { IfOk result (λ faults. faults ≡ removal_errors org.now (context_view context.now).datasets) }
 {
     let mut faults = KeyErrors::new(alloc);
-    if context.has_datasets(org) {
+    if context.viewer.has_datasets(org) {
         let message = Text::from_static("Organization has datasets or harvest sources");
         faults.add_error(Text::from_static("id"), message)?;
     }
@@ -172,7 +168,7 @@ fn read_role(alloc: Global, faults: &mut KeyErrors, body: &Json) -> Result<Role,
 fn user_error(context: &CallContext<'_>, user: &Text) -> Option<Text>
     ensures { result ≡ user_error (context_view context.now).people user.now }
 {
-    if context.has_user(user) {
+    if context.viewer.has_user(user) {
         None
     } else {
         Some(Text::from_static("User does not exist"))
@@ -181,13 +177,13 @@ fn user_error(context: &CallContext<'_>, user: &Text) -> Option<Text>
 
 /// The error of a user whose role in an organization is to be dropped: the user doesn't exist, or has no role there.
 fn member_error(context: &CallContext<'_>, org: &Text, user: &Text) -> Option<Text>
-    requires { IsTrue (administers (context_view context.now).people context.now.call.now.caller org.now) }
+    requires { IsTrue (administers (context_view context.now).people context.now.viewer.caller org.now) }
     ensures { result ≡ member_error (context_view context.now).people org.now user.now }
 {
-    if !context.has_user(user) {
+    if !context.viewer.has_user(user) {
         return Some(Text::from_static("User does not exist"));
     }
-    if context.role_of_member(org, user).is_some() {
+    if context.viewer.role_of_member(org, user).is_some() {
         None
     } else {
         Some(Text::from_static("User has no role here"))
@@ -242,7 +238,7 @@ pub fn read_former_member(
     context: &CallContext<'_>,
     org: &Text,
 ) -> Result<(KeyErrors, Text), AllocError>
-    requires { IsTrue (administers (context_view context.now).people context.now.call.now.caller org.now) }
+    requires { IsTrue (administers (context_view context.now).people context.now.viewer.caller org.now) }
     ensures errors { IfOk result (λ read.
         read.0 ≡ former_member_errors (context_view context.now).people org.now context.now.call.now.request.body) }
     ensures user { IfOk result (λ read. read.1 ≡ user_given context.now.call.now.request.body) }

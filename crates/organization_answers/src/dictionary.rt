@@ -34,7 +34,7 @@ pub fn organization_json(
 ) -> Result<Json, AllocError>
     ensures { IfOk result (λ json. json ≡ organization_dictionary (context_view context.now).datasets org.now) }
 {
-    counted_json(alloc, org, context.public_count(&org.name))
+    counted_json(alloc, org, context.viewer.public_count(&org.name))
 }
 
 /// The dictionary of an organization with this count of public datasets.

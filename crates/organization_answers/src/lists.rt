@@ -26,11 +26,11 @@ pub fn members_json(
     context: &CallContext<'_>,
     org: &Text,
 ) -> Result<Seq<Json>, AllocError>
-    requires { IsTrue (administers (context_view context.now).people context.now.call.now.caller org.now) }
+    requires { IsTrue (administers (context_view context.now).people context.now.viewer.caller org.now) }
     ensures { IfOk result (λ list. list
         ≡ map member_entry (filter (λ m. bytes_eq m.org org.now) (context_view context.now).people.roles)) }
 {
-    member_entries_json(alloc, context.people.memberships(), org)
+    member_entries_json(alloc, context.viewer.memberships(), org)
 }
 
 /// The entries of those memberships that are in the organization.
@@ -56,9 +56,9 @@ pub fn organizations_json(alloc: Global, context: &CallContext<'_>) -> Result<Se
     ensures { IfOk result (λ list. list
         ≡ map (organization_item true (context_view context.now).datasets) (context_view context.now).people.orgs) }
 {
-    let counts = context.public_counts(alloc)?;
+    let counts = context.viewer.public_counts(alloc)?;
     let mut list = Vec::new(alloc);
-    for org in context.people.orgs() {
+    for org in context.viewer.orgs() {
         let count = count_at(&counts, &org.name);
         list.push(counted_json(alloc, org, count)?)?;
     }
@@ -71,7 +71,7 @@ pub fn names_json(alloc: Global, context: &CallContext<'_>) -> Result<Seq<Json>,
         ≡ map (organization_item false (context_view context.now).datasets) (context_view context.now).people.orgs) }
 {
     let mut list = Vec::new(alloc);
-    for org in context.people.orgs() {
+    for org in context.viewer.orgs() {
         list.push(Json::Text(org.name.try_clone(alloc)?))?;
     }
     Ok(Seq::from(list))
@@ -81,10 +81,10 @@ pub fn names_json(alloc: Global, context: &CallContext<'_>) -> Result<Seq<Json>,
 fn capacity(context: &CallContext<'_>, org: &Text) -> Option<Role>
     ensures { result ≡ capacity (context_view context.now) org.now }
 {
-    if context.is_sysadmin() {
+    if context.viewer.is_sysadmin() {
         Some(Role::Admin)
     } else {
-        context.role(org)
+        context.viewer.role(org)
     }
 }
 
@@ -108,7 +108,7 @@ pub fn capacities_json(alloc: Global, context: &CallContext<'_>) -> Result<Seq<J
         ≡ filter_map (capacity_item (context_view context.now)) (context_view context.now).people.orgs) }
 {
     let mut list = Vec::new(alloc);
-    for org in context.people.orgs() {
+    for org in context.viewer.orgs() {
         let item = capacity_item(alloc, context, org)?;
         push_some(&mut list, item)?;
     }
@@ -130,7 +130,7 @@ fn push_some(list: &mut Vec<Json>, item: Option<Json>) -> Result<(), AllocError>
 pub fn users_json(alloc: Global, context: &CallContext<'_>) -> Result<Seq<Json>, AllocError>
     ensures { IfOk result (λ list. list ≡ map (λ user. json.Text user.name) (context_view context.now).people.users) }
 {
-    user_names_json(alloc, context.people.users())
+    user_names_json(alloc, context.viewer.users())
 }
 
 fn user_names_json(alloc: Global, users: &[User]) -> Result<Seq<Json>, AllocError>

@@ -8,7 +8,7 @@ use portal_base::text::Text;
 use std::alloc::Global;
 use std::io;
 use visibility::class::{Class, class_of};
-use visibility::permissions::{may_edit, role_of_caller, sees};
+use visibility::permissions::{Standing, may_edit, sees};
 
 /// A dataset of `city` that the user `maker` made.
 fn fresh(alloc: Global, moment: Moment) -> Package {
@@ -95,7 +95,7 @@ pub fn role(alloc: Global, case: &Case, answer: &mut Buffer) -> io::Result<()> {
     let org = Text::from_str(alloc, org)?;
     let caller = caller_of(alloc, name)?;
     let people = people_of(alloc)?;
-    answer.push(match role_of_caller(&people, &caller, &org) {
+    answer.push(match Standing::of(&people, &caller).role(&org) {
         None => "none",
         Some(Role::Member) => "member",
         Some(Role::Editor) => "editor",

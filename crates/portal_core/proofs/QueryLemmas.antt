@@ -30,7 +30,7 @@ found-seen view tables filters positioned found =
 -- To a caller that may not edit the dataset, the answer is the same whatever rows the filters select.
 unauthorized : (view : CallView) (tables : List ResourceTable) (positioned : Located) (one other : OrError (List ℕ))
     → Ok positioned ≡ resource_at (codes "resource_id") view
-    → may_edit_in view.people view.call.caller positioned.dataset ≡ false
+    → may_edit_in view.people view.caller positioned.dataset ≡ false
     → answer_to_datastore_delete_rows view tables one ≡ answer_to_datastore_delete_rows view tables other
 unauthorized view tables positioned one other found may =
     rw (← found) (same (table_at positioned.resource.number (tables_beside positioned tables)))
@@ -44,15 +44,15 @@ unauthorized view tables positioned one other found may =
 -- The rows need to be found only for a caller that may edit the dataset.
 pub delete-filtered : (view : CallView) (tables : List ResourceTable) (filters : List (List ℕ × Json))
     (positioned : Located) (rows : OrError (List ℕ)) → Ok positioned ≡ resource_at (codes "resource_id") view
-    → (may_edit_in view.people view.call.caller positioned.dataset ≡ true
+    → (may_edit_in view.people view.caller positioned.dataset ≡ true
     → rows ≡ rows_in_table filters (table_at positioned.resource.number (tables_beside positioned tables)))
     → answer_to_datastore_delete_rows view (tables_seen view.datasets tables) rows
     ≡ answer_to_datastore_delete_rows view (tables_seen view.datasets tables)
     (find_rows_of_resource view (tables_seen view.datasets tables) filters)
 delete-filtered view tables filters positioned rows found are =
-    by (may_edit_in view.people view.call.caller positioned.dataset) refl
+    by (may_edit_in view.people view.caller positioned.dataset) refl
   where
-    by : (b : Bool) → may_edit_in view.people view.call.caller positioned.dataset ≡ b
+    by : (b : Bool) → may_edit_in view.people view.caller positioned.dataset ≡ b
         → answer_to_datastore_delete_rows view (tables_seen view.datasets tables) rows
         ≡ answer_to_datastore_delete_rows view (tables_seen view.datasets tables)
         (find_rows_of_resource view (tables_seen view.datasets tables) filters)

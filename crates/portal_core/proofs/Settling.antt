@@ -18,12 +18,13 @@ use Rattle.portal_calls.specs.declared.event.Reply.TheVariants as reply
 use Rattle.portal_calls.proofs.Refusing.{quiet-refusal, refusal_kept, refusal_there}
 use Rattle.portal_hall.specs.History.{replay}
 use Rattle.packages.specs.Shelf.{IsValidShelf}
+use Rattle.datastore_answers.specs.Linked.{AreLinked}
 use Rattle.portal_core.specs.Answer.{answer_to, planned_answer}
 use Rattle.portal_core.specs.Change.{Change}
 use Rattle.portal_core.specs.Changed.{AreUnused, IsUnused, applied, changed, is_in_use, with_planned}
 use Rattle.portal_core.specs.Fit.{IsFit}
 use Rattle.portal_core.specs.Known.{is_known, known_call}
-use Rattle.portal_core.specs.Parts.{IsConsistent, state_of}
+use Rattle.portal_core.specs.Parts.{IsConsistent, planned_in, state_of}
 use Rattle.portal_core.specs.Planned.{PlannedChange, change_of, claims_of}
 use Rattle.portal_core.specs.State.{State}
 use Rattle.portal_core.specs.Step.{answer_in, call_step, known_step, outcome_of, outcome_unless_in_use, planned_outcome}
@@ -32,6 +33,7 @@ use Rattle.portal_core.specs.Valid.{IsValid}
 use Rattle.portal_core.specs.View.{view_of}
 use Rattle.portal_core.specs.declared.change.Claim.{Claim}
 use Rattle.portal_core.specs.declared.parts.Parts.{Parts}
+use Rattle.portal_core.specs.declared.parts.PreparedChange.{PreparedChange}
 use Rattle.portal_core.proofs.Answering.{answer_fit}
 use Rattle.portal_core.proofs.ChangeEntries.{applied-planned}
 use Rattle.portal_core.proofs.Keeping.{changed_valid, charged_valid, fit_in_valid}
@@ -210,6 +212,16 @@ applied_consistent planned call old new consistent fit unused is shelved = recor
   valid = subst IsValid (sym is) (with_planned_valid planned call (state_of old) consistent.valid fit unused);
   shelved = shelved;
 }
+
+-- After a prepared change that is fit, the references between tables hold.
+pub linked_after : (planned : PlannedChange) (change : PreparedChange) (call : Call) (old new : Parts)
+    → IsConsistent old → IsFit call (state_of old) planned → AreUnused (state_of old) (claims_of planned)
+    → state_of new ≡ state_of old → planned_in change ≡ planned
+    → AreLinked (changed (planned_in change) (state_of new)).tables
+linked_after planned change call old new consistent fit unused same is =
+    subst (λ (s : State). AreLinked (changed (planned_in change) s).tables) (sym same)
+    (subst (λ (p : PlannedChange). AreLinked (changed p (state_of old)).tables) (sym is)
+    (changed_valid planned call (state_of old) consistent.valid fit unused).tables.linked)
 
 -- ---- steps
 

@@ -45,6 +45,7 @@ quota_of call quota_used = quota_if (nat_le (accepted_bytes_of call.caller quota
 -- the call with its caller's view and quota
 abbrev pub call_view_of : Call → State → CallView
 call_view_of call view = record {
+  caller = call.caller;
   call = call;
   quota = quota_of call view.quota_used;
   people = view.people;

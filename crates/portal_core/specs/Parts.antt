@@ -11,6 +11,7 @@ use Rattle.portal_core.specs.Changed.{changed, with_charge}
 use Rattle.portal_core.specs.Planned.{PlannedChange}
 use Rattle.portal_core.specs.State.{State}
 use Rattle.portal_core.specs.Valid.{IsValid}
+use Rattle.datastore_answers.specs.Linked.{AreLinked}
 use Rattle.datastore_answers.specs.Plan as table
 use Rattle.datastore_answers.specs.Tables.{Stored, tables_of}
 use Rattle.portal_core.specs.Planned as planned
@@ -120,7 +121,8 @@ abbrev pub IsChargeReady : Option QuotaUsed → Parts → Type 0
 IsChargeReady None parts = ⊤
 IsChargeReady (Some entry) parts = IsTrue parts.quota_used.room
 
--- A prepared change can be made and charged.
+-- A prepared change can be made and charged, and the references between tables hold afterwards.
 pub record IsPrepared (prepared : Prepared) (parts : Parts) : Type 0 where
   pub change : IsChangeReady prepared.change parts
+  pub linked : AreLinked (changed (planned_in prepared.change) (state_of parts)).tables
   pub charge : IsChargeReady prepared.charge parts

@@ -1,12 +1,9 @@
 //! Deciding a call on the portal's parts: the caller's right and the rules. It reads the parts and changes nothing.
 ghost use Rattle.std.specs.Prelude.{◌≡◌, IfOk, IsTrue};
-ghost use Rattle.std.specs.List.{list_all};
-ghost use Rattle.packages.specs.Shelf.{datasets_of};
 ghost use Rattle.portal_calls.specs.Answer.{AcceptsOnly};
 ghost use Rattle.portal_calls.specs.Topic.{topic_of};
 ghost use Rattle.datastore_answers.specs.TableAnswers.{TableAcceptsOnly, map_answer, map_table_answer};
 ghost use Rattle.datastore_answers.specs.Changed.{TableChange};
-ghost use Rattle.datastore_answers.specs.Linked.{AreLinked};
 ghost use Rattle.datastore_answers.specs.Plan as table;
 ghost use Rattle.datastore_answers.specs.Plan.{change_of as table_change};
 ghost use Rattle.datastore_answers.specs.Tables.{Stored, tables_of, tables_seen};
@@ -16,7 +13,6 @@ ghost use Rattle.portal_core.specs.Parts.{IsPlanned, IsPlannedOn, state_of};
 ghost use Rattle.portal_core.specs.Valid.{IsValid};
 ghost use Rattle.portal_core.specs.View.{view_of};
 ghost use Rattle.visibility.specs.CallView.{context_view};
-ghost use Rattle.visibility.specs.Visibility.{is_public_if_harvested};
 
 use crate::change::Plan;
 use crate::parts::Parts;
@@ -35,6 +31,7 @@ use portal_calls::call::Call;
 use portal_calls::topic::Topic;
 use std::alloc::{AllocError, Global};
 use visibility::context::CallContext;
+use visibility::viewer::Viewer;
 
 /// The answer to a call. It prepares a batch of records, since only that shows whether the table takes it. The state
 /// stays the same.
@@ -50,9 +47,8 @@ pub fn decide(alloc: Global, parts: &mut Parts, call: &Call) -> Result<Answer<Pl
     let quota = quota_of(parts, call);
     let context = CallContext {
         call,
+        viewer: Viewer::new(&parts.people, &parts.shelf, &call.caller),
         quota,
-        people: &parts.people,
-        shelf: &parts.shelf,
     };
     answer(alloc, &context, &mut parts.tables)
 }
@@ -74,8 +70,6 @@ fn answer(
     context: &CallContext<'_>,
     tables: &mut Tables,
 ) -> Result<Answer<Plan>, AllocError>
-    requires open { IsTrue (list_all is_public_if_harvested (datasets_of context.now.shelf.now)) }
-    requires linked { AreLinked (tables_of tables.old) }
     ensures same { tables_of tables.new ≡ tables_of tables.old }
     ensures answer { IfOk result (λ answer. map_answer planned_of answer
         ≡ answer_on (topic_of context.now.call.now.request.action) (context_view context.now)

@@ -4,6 +4,7 @@ ghost use Rattle.std.specs.Prelude.{◌≡◌, ◌≤◌, IfNone, IfOk, OnErr, O
 ghost use Rattle.std.specs.Option.{option_map, option_copied};
 ghost use Rattle.org_roles.specs.Changed.{org_fault, IsReady};
 ghost use Rattle.packages.specs.Shelf.{IsValidShelf};
+ghost use Rattle.datastore_answers.specs.Linked.{AreLinked};
 ghost use Rattle.dataset_answers.specs.Sound.{IsSound};
 ghost use Rattle.portal_core.specs.Planned.{planned_of, Datasets, claims_of};
 ghost use Rattle.portal_core.specs.Changed.{AreUnused, changed, charge_of, is_in_use, key_of, with_charge, with_planned};
@@ -140,7 +141,7 @@ impl Parts {
     }
 
     /// Prepares a change that is fit and claims nothing that is in use, and its charge. The state stays the same.
-    #[tactic(auto, using(crate::proofs::Shelving::unrefused))]
+    #[tactic(auto, using(crate::proofs::Shelving::unrefused, crate::proofs::Settling::linked_after))]
     fn prepare(&mut self, alloc: Global, call: &Call, plan: Plan) -> Result<Prepared, AllocError>
         requires consistent { IsConsistent self.old }
         requires fit { IsFit call.now (state_of self.old) (planned_of plan) }
@@ -252,6 +253,7 @@ impl Parts {
     /// Makes a prepared change.
     fn commit_change(&mut self, change: PreparedChange)
         requires ready { IsChangeReady change self.old }
+        requires linked { AreLinked (changed (planned_in change) (state_of self.old)).tables }
         requires shelved { IsValidShelf self.old.shelf }
         ensures state { state_of self.new ≡ changed (planned_in change) (state_of self.old) }
         ensures shelved { IsValidShelf self.new.shelf }

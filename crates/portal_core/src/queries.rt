@@ -195,11 +195,11 @@ fn find_rows_to_delete(
     filters: &Seq<(Text, Json)>,
 ) -> Result<Result<Seq<u64>, Text>, AllocError>
     ensures { IfOk result (λ found.
-        IsTrue (may_edit_in (context_view context.now).people context.now.call.now.caller positioned.now.dataset.now)
+        IsTrue (may_edit_in (context_view context.now).people context.now.viewer.caller positioned.now.dataset.now)
         → found ≡ rows_in_table filters.now (table_at positioned.now.resource.now.number
         (tables_beside (located_now positioned.now) (tables_of tables.now)))) }
 {
-    if context.may_edit(positioned.dataset) {
+    if context.viewer.may_edit(positioned.dataset) {
         find_rows_at(alloc, positioned, tables, filters)
     } else {
         Ok(Ok(Seq::new(alloc)))

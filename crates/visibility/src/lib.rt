@@ -8,3 +8,4 @@ pub mod lookup;
 pub mod permissions;
 mod predicates;
 pub mod table_lookup;
+pub mod viewer;

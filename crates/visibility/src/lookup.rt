@@ -21,7 +21,7 @@ pub fn resource_at<'a>(
     ensures within { IfOk result (λ located. located.position < length located.dataset.now.resources) }
 {
     match required_text(&context.call.request.body, key) {
-        Ok(address) => match context.resource(address.as_str()) {
+        Ok(address) => match context.viewer.resource(address.as_str()) {
             Some(located) => Ok(located),
             None => Err(Stop::Refused(Denial::NotFound(Kind::Resource))),
         },

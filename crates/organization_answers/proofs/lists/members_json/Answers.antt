@@ -4,6 +4,6 @@ use Rattle.organization_answers.proofs.lists.members_json.Goals as goal
 pub returns : goal.returns
 returns c =
     rw (
-      members_seen c.args.context.now.call.now.caller c.args.context.now.people.now.people c.args.org.now c.requires,
+      members_seen c.args.context.now.viewer.caller c.args.context.now.viewer.people c.args.org.now c.requires,
       ← c.memberships.ensures,
     ) c.member_entries_json.ensures

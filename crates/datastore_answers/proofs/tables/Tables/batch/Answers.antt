@@ -29,7 +29,7 @@ returns-in_err-check_links-in-Some-clause-fault c =
     let reading = put_at (tables_in c.args.dataset.now (tables_of c.args.self.now)) c.args.number c.args.method
     c.args.records.now in
     let same_result = result-there c.args.self.now after address c.args.method c.args.records.now batch u
-    c.prepared_at.ensures.same c.requires.linked c.in_ok-batch.ensures.batch c.in-Some.ensures.found
+    c.prepared_at.ensures.same c.prepared_at.ensures.linked c.in_ok-batch.ensures.batch c.in-Some.ensures.found
     c.in-Some.ensures.table in
     err_of c.from_residual-in_err-check_links-in-Some.result c.in_err-check_links-in-Some.field-0.0 reading
     c.from_residual-in_err-check_links-in-Some.ensures.1
@@ -49,5 +49,5 @@ returns-clause-taken c =
     (links_checked (tables_in u.address.dataset (tables_of after)) u (alone batch.work))
     (worked_on u.table.rows batch.work)
     (result-there c.args.self.now after address c.args.method c.args.records.now batch u c.prepared_at.ensures.same
-    c.requires.linked c.in_ok-batch.ensures.batch c.in-Some.ensures.found c.in-Some.ensures.table)
+    c.prepared_at.ensures.linked c.in_ok-batch.ensures.batch c.in-Some.ensures.found c.in-Some.ensures.table)
     c.in_ok-check_links-in-Some.ensures.ok

@@ -1,6 +1,7 @@
 use Rattle.std.proofs.Common.{◌≡◌, ◌∙◌, ◌+◌, ◌-◌, map, ap, sym, subst, arith}
 use Rattle.portal_base.specs.Ordered.{IsAscending}
 use Rattle.portal_base.proofs.Filtered.{IsAscending-filter}
+use Rattle.datastore_answers.specs.Linked.{AreLinked}
 use Rattle.datastore_answers.specs.Order.{table_cmp}
 use Rattle.datastore_answers.specs.Tables.{Stored, without_room, tables_kept, tables_of}
 use Rattle.datastore_answers.proofs.DropLemmas.{stays}
@@ -21,7 +22,7 @@ kept_so_far c =
     let within = rw c.as_slice.ensures.value at c.find_range-from.ensures.within in
     let step : c.loop-at.at ≡ c.loop-at.at - 1 + 1 = omega arith in
     record {
-      up = c.self.invariant;
+      up = c.self.invariant.0;
       from = omega (arith, from_is);
       to = omega (arith, to_is);
       within = omega (arith, within);
@@ -35,7 +36,7 @@ loop-at-init c =
       c.find_range-from.ensures.ordered,
       subst (λ n. ts ≡ kept_from (stays c.args.dataset.now c.args.resources.now) n ts)
           (sym (rw c.as_slice.ensures.value at c.find_range-from.ensures.to))
-          (keep-begin c.args.dataset.now c.args.resources.now ts c.self.invariant),
+          (keep-begin c.args.dataset.now c.args.resources.now ts c.self.invariant.0),
     )
 
 pub loop-at-preserved-then-not-is_among : goal.loop-at-preserved-then-not-is_among
@@ -67,8 +68,13 @@ invariant_of-self c =
     let is = rw c.as_slice.ensures.value at c.find_range-from.ensures.from in
     omega (arith, is) in
     let kept : left ≡ tables_kept ds rs ts =
-    c.loop-at.invariant.1 ∙ ap (λ n. kept_from (stays ds rs) n ts) done ∙ keep-end ds rs ts in
-    subst (IsAscending table_cmp) (sym kept) (IsAscending-filter table_cmp (stays ds rs) ts c.self.invariant)
+    c.loop-at.invariant.1 ∙ ap (λ n. kept_from (stays ds rs) n ts) done ∙ keep-end ds rs ts in (
+      subst (IsAscending table_cmp) (sym kept) (IsAscending-filter table_cmp (stays ds rs) ts c.self.invariant.0),
+      subst AreLinked
+          (sym (ap (map without_room) kept ∙ kept_without_room ds rs ts
+          ∙ ap (λ (s : Stored). tables_kept ds rs (tables_of s)) c.self.view_is))
+          c.requires.linked,
+    )
 
 pub returns : goal.returns
 returns c =

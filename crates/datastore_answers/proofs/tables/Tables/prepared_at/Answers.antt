@@ -5,7 +5,7 @@ use Rattle.portal_base.specs.Ordered.{found}
 use Rattle.datastore_table.specs.Put.{Worked, put_records}
 use Rattle.datastore_table.specs.declared.fault.TableFault.{TableFault}
 use Rattle.datastore_table.specs.declared.fault.TableFault.TheVariants.{OutOfMemory}
-use Rattle.datastore_answers.specs.Linked.{put_own}
+use Rattle.datastore_answers.specs.Linked.{AreLinked, put_own}
 use Rattle.datastore_answers.specs.Order.{at_address, is_at}
 use Rattle.datastore_answers.specs.Tables.{Stored, tables_of}
 use Rattle.datastore_answers.specs.declared.address.Address.{Address}
@@ -20,9 +20,12 @@ invariant_of-self c =
     let t = c.index_mut.result.now in
     let within = rw c.as_slice.ensures.value at c.in-Some.ensures.within in
     let got : slice_get ts c.in-Some.index ≡ Some t =
-    slice_get-get_or ts c.in-Some.index t within ∙ ap Some (sym c.index_mut.ensures.value) in
-    IsAscending-set t c.prepared.new.table ts c.in-Some.index c.self.invariant got
-    (ap (λ (u : ResourceTable). u.address) c.prepared.ensures.same)
+    slice_get-get_or ts c.in-Some.index t within ∙ ap Some (sym c.index_mut.ensures.value) in (
+      IsAscending-set t c.prepared.new.table ts c.in-Some.index c.self.invariant.0 got
+          (ap (λ (u : ResourceTable). u.address) c.prepared.ensures.same),
+      subst AreLinked (sym (without_room-set t c.prepared.new.table ts c.in-Some.index got c.prepared.ensures.same))
+          c.self.invariant.1,
+    )
 
 pub returns-clause-same : goal.returns-clause-same
 returns-clause-same c =
@@ -45,7 +48,7 @@ returns-clause-batch c =
     let got : slice_get ts c.in-Some.index ≡ Some t =
     slice_get-get_or ts c.in-Some.index t within ∙ ap Some (sym c.index_mut.ensures.value) in
     let here : is_at address t ≡ _ = there-at address ts t (there ∙ got) in
-    let exists = found-set address t u ts c.in-Some.index c.self.invariant got here
+    let exists = found-set address t u ts c.in-Some.index c.self.invariant.0 got here
     (ap (λ (w : ResourceTable). is_at address w) c.prepared.ensures.same ∙ here) in
     batch-at c.prepared.result address c.args.method c.args.records.now u _ exists c.prepared.ensures.schema
     c.prepared.ensures.changed c.prepared.ensures.rows c.prepared.ensures.made c.prepared.ensures.ready

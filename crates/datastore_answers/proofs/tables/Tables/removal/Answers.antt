@@ -54,5 +54,5 @@ returns-clause-keeps_references c =
 pub returns-clause-ready : goal.returns-clause-ready
 returns-clause-ready c =
     let address : Address = record { dataset = c.args.dataset.now; number = c.args.number } in
-    subst (λ (ids : List ℕ). IsRemovalReady address ids c.removal_at.new.self)
+    subst (λ (ids : List ℕ). IsRemovalReady address ids c.removal_at.new.self.tables)
     (sym c.in_ok-removal.ensures.removal.rows) c.in_ok-removal.ensures.removal.delete_rows

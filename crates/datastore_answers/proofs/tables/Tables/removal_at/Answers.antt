@@ -5,6 +5,7 @@ use Rattle.portal_base.specs.Ordered.{found}
 use Rattle.datastore_table.specs.Batch.{delete_checked}
 use Rattle.datastore_table.specs.declared.fault.TableFault.{TableFault}
 use Rattle.datastore_table.specs.declared.fault.TableFault.TheVariants.{OutOfMemory}
+use Rattle.datastore_answers.specs.Linked.{AreLinked}
 use Rattle.datastore_answers.specs.Order.{at_address, is_at}
 use Rattle.datastore_answers.specs.Restrict.{delete_own}
 use Rattle.datastore_answers.specs.Tables.{Stored, tables_of}
@@ -20,9 +21,12 @@ invariant_of-self c =
     let t = c.index_mut.result.now in
     let within = rw c.as_slice.ensures.value at c.in-Some.ensures.within in
     let got : slice_get ts c.in-Some.index ≡ Some t =
-    slice_get-get_or ts c.in-Some.index t within ∙ ap Some (sym c.index_mut.ensures.value) in
-    IsAscending-set t c.prepared_removal.new.table ts c.in-Some.index c.self.invariant got
-    (ap (λ (u : ResourceTable). u.address) c.prepared_removal.ensures.same)
+    slice_get-get_or ts c.in-Some.index t within ∙ ap Some (sym c.index_mut.ensures.value) in (
+      IsAscending-set t c.prepared_removal.new.table ts c.in-Some.index c.self.invariant.0 got
+          (ap (λ (u : ResourceTable). u.address) c.prepared_removal.ensures.same),
+      subst AreLinked (sym (without_room-set t c.prepared_removal.new.table ts c.in-Some.index got c.prepared_removal.ensures.same))
+          c.self.invariant.1,
+    )
 
 pub returns-clause-same : goal.returns-clause-same
 returns-clause-same c =
@@ -45,7 +49,7 @@ returns-clause-removal c =
     let got : slice_get ts c.in-Some.index ≡ Some t =
     slice_get-get_or ts c.in-Some.index t within ∙ ap Some (sym c.index_mut.ensures.value) in
     let here : is_at address t ≡ _ = there-at address ts t (there ∙ got) in
-    let exists = found-set address t u ts c.in-Some.index c.self.invariant got here
+    let exists = found-set address t u ts c.in-Some.index c.self.invariant.0 got here
     (ap (λ (w : ResourceTable). is_at address w) c.prepared_removal.ensures.same ∙ here) in
     removal-at c.prepared_removal.result address c.args.ids.now u _ exists c.prepared_removal.ensures.ids
     c.prepared_removal.ensures.keys c.prepared_removal.ensures.keeps_references

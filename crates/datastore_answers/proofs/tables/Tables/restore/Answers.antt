@@ -11,7 +11,8 @@ returns-in_err-tables-clause-exactly c =
 
 pub returns-then-are_related-clause-exactly : goal.returns-then-are_related-clause-exactly
 returns-then-are_related-clause-exactly c =
-    sym c.if-are_related.true ∙ c.are_related.ensures.related
+    let related = rw c.as_slice.ensures.value at c.are_related.ensures.related in
+    sym c.if-are_related.true ∙ related
     ∙ restorable-related c.args.tables c.in_ok-tables.tables.items (sym c.in_ok-tables.ensures.exactly)
     c.in_ok-tables.ensures.tables
 
@@ -21,12 +22,14 @@ returns-then-are_related-clause-tables c =
 
 pub returns-then-are_related-clause-consistent : goal.returns-then-are_related-clause-consistent
 returns-then-are_related-clause-consistent c =
+    let related = rw c.as_slice.ensures.value at c.are_related.ensures.related in
+    let valid = rw c.as_slice.ensures.value at c.are_related.ensures.valid c.if-are_related.true in
     restored-consistent c.args.tables c.in_ok-tables.tables.items c.in_ok-tables.ensures.ascending
-    c.in_ok-tables.ensures.tables (sym c.are_related.ensures.related ∙ c.if-are_related.true)
-    (c.are_related.ensures.valid c.if-are_related.true)
+    c.in_ok-tables.ensures.tables (sym related ∙ c.if-are_related.true) valid
 
 pub returns-else-are_related-clause-exactly : goal.returns-else-are_related-clause-exactly
 returns-else-are_related-clause-exactly c =
-    sym c.if-are_related.false ∙ c.are_related.ensures.related
+    let related = rw c.as_slice.ensures.value at c.are_related.ensures.related in
+    sym c.if-are_related.false ∙ related
     ∙ restorable-related c.args.tables c.in_ok-tables.tables.items (sym c.in_ok-tables.ensures.exactly)
     c.in_ok-tables.ensures.tables

@@ -11,7 +11,8 @@ use Rattle.portal_core.proofs.row_changes.tables.push_changes.Goals as goal
 
 pub push_batch-requires : goal.push_batch-requires
 push_batch-requires c =
-    let planned : IsPutReady c.in-Put.address c.in-Put.field-1 c.in-Put.field-2.value c.in-Put.batch c.args.tables.now =
+    let planned : IsPutReady c.in-Put.address c.in-Put.field-1 c.in-Put.field-2.value c.in-Put.batch
+    c.args.tables.now.tables =
     subst (λ (p : TablePlan). IsPlanned p c.args.tables.now) c.in-Put.is c.requires in
     subst (λ (t : ResourceTable). IsReady c.in-Put.batch t.table)
     (same_Some planned.table c.in-Some-get.table.now (sym planned.exists ∙ sym c.in-Some-get.ensures.found))
