@@ -24,6 +24,7 @@ pub mod Kept
 pub mod KeyLemmas
 pub mod Knowing
 pub mod LedgerLemmas
+pub mod MachineLemmas
 pub mod Nobody
 pub mod OneState
 pub mod OpeningLemmas

@@ -6,6 +6,7 @@ pub mod change;
 pub mod decide;
 pub mod event;
 pub mod laws;
+pub mod machine;
 pub mod opening;
 mod page;
 pub mod parts;
