@@ -116,9 +116,9 @@ begin_is trace (Some location) status (inr (bytes, held, within, inr (why, is_so
     (λ is. absurd (cc), λ is. absurd (cc))
 
 opening_is : (store : StoreTrace) (status : Status) → FailsToOpen store status → IsOfLoad status
-opening_is store status (inl memory) = (λ is. absurd (cc), λ is. absurd (cc))
-opening_is store status (inr (inl (failed, rose))) = (λ is. absurd (cc), λ is. absurd (cc))
-opening_is store status (inr (inr (rows, none))) = (λ is. absurd (cc), λ is. absurd (cc))
+opening_is store status (inl memory, stays) = (λ is. absurd (cc), λ is. absurd (cc))
+opening_is store status (inr (inl (failed, rose)), stays) = (λ is. absurd (cc), λ is. absurd (cc))
+opening_is store status (inr (inr (rows, none)), stays) = (λ is. absurd (cc), λ is. absurd (cc))
 
 -- what a run of `load` did
 abbrev LoadsBegun : FetchTrace → LoadOptions → StoreTrace → DeviceTrace → DeviceTrace → Status → Type 0

@@ -11,7 +11,7 @@ use Rattle.portal_core.specs.declared.opening.OpenFault.{OpenFault}
 use Rattle.portal_core.specs.declared.opening.OpenFault.TheVariants as opening
 use Rattle.portal_keeper.specs.Keeping.{Shows}
 use Rattle.portal_keeper.specs.declared.row.KeptRow.{KeptRow}
-use Rattle.portal_start.specs.OverStore.{FailsToOpen, StoreTrace, status_for_opening}
+use Rattle.portal_start.specs.OverStore.{FailsToOpen, IsCauseOfNone, StoreTrace, status_for_opening}
 use Rattle.portal_status.specs.declared.status.Status.{Status}
 use Rattle.portal_status.specs.declared.status.Status.TheVariants as status
 use Rattle.portal_serve.specs.Run.{DeviceTrace, GaveTooMuch, PlaysAll, PlaysPart, PlaysRead, input_limit}
@@ -82,32 +82,33 @@ IsOfOpening ended =
     × (ended ≢ status.DataFault (codes "input too long"))
 
 pub opening_is : (store : StoreTrace) (ended : Status) → FailsToOpen store ended → IsOfOpening ended
-opening_is store ended (inl memory) = (λ is. absurd (cc), λ is. absurd (cc), λ is. absurd (cc), λ is. absurd (cc))
-opening_is store ended (inr (inl failed)) =
+opening_is store ended (inl memory, stays) =
+    (λ is. absurd (cc), λ is. absurd (cc), λ is. absurd (cc), λ is. absurd (cc))
+opening_is store ended (inr (inl failed), stays) =
     let why = failed.0 in (λ is. absurd (cc), λ is. absurd (cc), λ is. absurd (cc), λ is. absurd (cc))
-opening_is store ended (inr (inr rows)) =
+opening_is store ended (inr (inr rows), stays) =
     let why = rows.0 in (λ is. absurd (cc), λ is. absurd (cc), λ is. absurd (cc), λ is. absurd (cc))
 
 pub opening_failed : (store : StoreTrace) (ended : Status) → FailsToOpen store ended → ended ≡ status.KeeperFault
     → Rose store.faults store.faults_after
-opening_failed store ended (inl memory) is = absurd (cc)
-opening_failed store ended (inr (inl failed)) is = failed.1
-opening_failed store ended (inr (inr rows)) is = let why = rows.0 in absurd (cc)
+opening_failed store ended (inl memory, stays) is = absurd (cc)
+opening_failed store ended (inr (inl failed), stays) is = failed.1
+opening_failed store ended (inr (inr rows), stays) is = let why = rows.0 in absurd (cc)
 
 -- Why no portal was opened, by the fault.
-pub fails_to_open : (store : StoreTrace) (fault : OpenFault) (ended : Status) → ended ≡ status_for_opening fault
+pub cause_of_none : (store : StoreTrace) (fault : OpenFault) (ended : Status) → ended ≡ status_for_opening fault
     → (fault ≡ opening.Keeper → Rose store.faults store.faults_after)
     → ((rows : List KeptRow) → fault ≡ opening.BadRows rows
     → Shows store.rows rows × Shows store.rows_after rows × AreOfNoState rows)
-    → FailsToOpen store ended
-fails_to_open store opening.Keeper ended is failed bad = inr (inl (is, failed refl))
-fails_to_open store (opening.BadRows rows) ended is failed bad =
+    → IsCauseOfNone store ended
+cause_of_none store opening.Keeper ended is failed bad = inr (inl (is, failed refl))
+cause_of_none store (opening.BadRows rows) ended is failed bad =
     let why = bad rows refl in inr (inr (is, by store.rows why.0 why.2))
   where
     by : (observed : Option (List KeptRow)) → Shows observed rows → AreOfNoState rows → IfSome observed AreOfNoState
     by None shown none = tt
     by (Some kept) shown none = subst AreOfNoState (sym shown) none
-fails_to_open store opening.OutOfMemory ended is failed bad = inl is
+cause_of_none store opening.OutOfMemory ended is failed bad = inl is
 
 -- An input that isn't read isn't too long.
 pub unread_is : (ended : Status) (whole : List ℕ) (left : Option (List ℕ))

@@ -40,13 +40,18 @@ status_for_opening opening.Keeper = status.KeeperFault
 status_for_opening (opening.BadRows rows) = status.StoredRows
 status_for_opening opening.OutOfMemory = status.OutOfMemory
 
--- No portal was opened, by the status: memory ran out, the keeper's count of faults rose, or the rows are those of no state,
--- where they are observable.
-abbrev pub FailsToOpen : StoreTrace → Status → Type 0
-FailsToOpen store ended =
+-- Why no portal was opened, by the status: memory ran out, the keeper's count of faults rose, or the rows are those of no
+-- state, where they are observable.
+abbrev pub IsCauseOfNone : StoreTrace → Status → Type 0
+IsCauseOfNone store ended =
     (ended ≡ status.OutOfMemory)
     ⊎ (((ended ≡ status.KeeperFault) × Rose store.faults store.faults_after)
     ⊎ ((ended ≡ status.StoredRows) × IfSome store.rows AreOfNoState))
+
+-- No portal was opened, for the cause in the status, and the store's rows stay.
+abbrev pub FailsToOpen : StoreTrace → Status → Type 0
+FailsToOpen store ended =
+    IsCauseOfNone store ended × IfSome store.rows (λ rows. Shows store.rows_after rows)
 
 -- A portal was opened over the store, with the state whose rows the store has, or with that of the opening over a store
 -- without rows. P holds of this state and of the state in the end, which is valid, and whose rows the store has then.
