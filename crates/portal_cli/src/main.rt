@@ -22,12 +22,12 @@ pub use portal_devices::nonces::ChaChaNonces;
 pub use portal_load::load::load;
 pub use portal_status::status::Status;
 use portal_status::status::report;
-use portal_store::run_store::store_for;
+use portal_store::run_store::{is_store_large, store_for};
 use portal_words::first_word::is_timed;
 use portal_words::{Command, WordsFault};
 use run::run;
 use std::alloc::{AllocError, Global};
-use std::io;
+use std::io::{self, IsTerminal};
 use std::process::ExitCode;
 
 /// A list of this desk alone.
@@ -42,6 +42,13 @@ fn one_desk<L: Listener + Drop, C: Drop, N: Drop>(
     let mut desks = Vec::new(alloc);
     desks.push(desk)?;
     Ok(desks)
+}
+
+/// Tells whoever waits at a terminal that a large store is read first. A terminal that takes no line doesn't matter.
+fn announce_reading(rt: &HostRuntime) {
+    if rt.stderr().is_terminal() && is_store_large(rt) {
+        let _unsaid = eprintln!(rt; "portal: reading the store").is_err();
+    }
 }
 
 /// Runs the words over the host's devices and the store that the environment names, with this clock and these numbers for
@@ -65,6 +72,7 @@ fn run_over<E: Sink, C: Clock + Drop, N: Nonces + Drop>(
         Ok(store) => store,
         Err(status) => return report(faults, status),
     };
+    announce_reading(rt);
     let Ok(mut desks) = one_desk(alloc, desk) else {
         return report(faults, Status::OutOfMemory);
     };

@@ -4,7 +4,10 @@ ghost use Rattle.portal_store.specs.Location.{location_in};
 
 use crate::fault::StoreFault;
 use std::alloc::Global;
-use std::env;
+use std::{env, fs};
+
+/// The length from which a file is large, in bytes. It has some thousand rows, which take a moment to read.
+const LARGE: u64 = 1_048_576;
 
 /// The location in the value of a variable of the environment, if the variable is set.
 pub fn location_in(value: Result<String, env::VarError>) -> Result<Option<String>, StoreFault>
@@ -23,4 +26,12 @@ pub fn store_location(
     rt: &(impl env::Env + Alloc<A = Global>),
 ) -> Result<Option<String>, StoreFault> {
     location_in(env::var(rt, "PORTAL_STORE"))
+}
+
+/// Whether there is a large file at the location: one of at least 1 MiB. What the host has isn't observable.
+pub(crate) fn is_large(files: &impl fs::Files, location: &str) -> bool {
+    match fs::metadata(files, location) {
+        Ok(metadata) => metadata.len() >= LARGE,
+        Err(_) => false,
+    }
 }

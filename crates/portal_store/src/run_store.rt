@@ -4,7 +4,7 @@ ghost use Rattle.portal_words.specs.Commands.{command_of};
 ghost use Rattle.portal_store.specs.RunStore.{status_for_fault};
 
 use crate::fault::StoreFault;
-use crate::location::store_location;
+use crate::location::{is_large, store_location};
 use crate::opening::open_store;
 use crate::store::Store;
 use portal_status::status::Status;
@@ -45,5 +45,13 @@ pub fn store_for(rt: &HostRuntime, words: &[String]) -> Result<RunStore, Status>
     match store {
         Ok(store) => Ok(store),
         Err(fault) => Err(status_of_fault(fault)),
+    }
+}
+
+/// Whether `PORTAL_STORE` names a large file, whose rows take a moment to read.
+pub fn is_store_large(rt: &HostRuntime) -> bool {
+    match store_location(rt) {
+        Ok(Some(location)) => is_large(rt, location.as_str()),
+        _ => false,
     }
 }
