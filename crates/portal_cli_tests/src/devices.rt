@@ -88,6 +88,15 @@ fn written_after(read: usize) -> usize {
     TRANSCRIPT.len()
 }
 
+/// The rows of a store after a run that played so many bytes of the script, or after none.
+fn rows_after(alloc: Global, played: Option<usize>) -> Result<String, Fail> {
+    let Some(played) = played else {
+        return Ok(String::new(alloc));
+    };
+    let input = SCRIPT.get(..played).unwrap_or(SCRIPT);
+    ran(alloc, "play", Ends { input, ..NEVER })?.rows(alloc)
+}
+
 #[test]
 fn words_and_portal_files_are_accepted_or_reported(rt: HostRuntime) -> Result<(), Fail> {
     let repeated = Ends {
@@ -147,30 +156,30 @@ fn each_failing_write_ends_a_run_with_4(rt: HostRuntime) -> Result<(), Fail> {
     Ok(())
 }
 
-// The keeper's calls are one that gives the rows, one that puts those of the opening, and one for the script's change. The
-// store has the rows of the calls before the one that fails: the second call puts two.
+// The keeper's calls are one that gives the rows, one that puts those of the opening, and one for each change. Output has
+// the replies of the changes before the call that fails, and the store has their rows.
 #[test]
 fn each_failing_call_of_the_keeper_ends_a_run_with_5(rt: HostRuntime) -> Result<(), Fail> {
-    for (keep, kept) in [(1, 0), (2, 0), (3, 2)] {
-        let case = refused("play", Ends { keep, ..NEVER }, 5, KEEPER_FAULT);
+    let first = first_line_length(SCRIPT);
+    let reply = first_line_length(TRANSCRIPT);
+    for (keep, read, written) in [
+        (1, None, 0),
+        (2, None, 0),
+        (3, Some(0), 0),
+        (4, Some(first), reply),
+    ] {
+        let case = Case {
+            written,
+            ..refused("play", Ends { keep, ..NEVER }, 5, KEEPER_FAULT)
+        };
+        expect(rt.alloc(), case)?;
         let mut outcome = ran(rt.alloc(), case.words, case.ends)?;
         assert!(rt;
-            outcome.row_count(rt.alloc()) == Some(kept),
+            outcome.rows(rt.alloc())?.as_str() == rows_after(rt.alloc(), read)?.as_str(),
             "after call {keep}"
         );
-        expect(rt.alloc(), case)?;
     }
     Ok(())
-}
-
-#[test]
-fn rows_of_no_state_end_a_run_with_12(rt: HostRuntime) -> Result<(), Fail> {
-    let ends = Ends {
-        row: Some(("x", "{}")),
-        ..NEVER
-    };
-    let case = refused("play", ends, 12, "portal: stored rows are no portal's\n");
-    expect(rt.alloc(), case)
 }
 
 #[test]

@@ -9,4 +9,6 @@ mod loading;
 #[cfg(test)]
 mod memory;
 #[cfg(test)]
+mod restarts;
+#[cfg(test)]
 mod serving;

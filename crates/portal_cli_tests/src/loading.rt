@@ -1,16 +1,5 @@
 //! Loads: by words that name no command, with missing files, faulty schemas, a missing resource, and a present one.
-use crate::memory::{Ends, NEVER, Outcome, ran};
-use portal_base::caller::Caller;
-use portal_base::counted::{CountNonces, ScriptClock};
-use portal_base::memory::{MemorySink, MemorySource};
-use portal_base::seq::Seq;
-use portal_base::text::Text;
-use portal_core::portal::Portal;
-use portal_keeper::memory::MemoryKeeper;
-use portal_load::load::load;
-use portal_serve::defaults::default_portal;
-use portal_serve::play::play;
-use portal_status::status::Status;
+use crate::memory::{Ends, NEVER, Outcome, ran, ran_over};
 use std::alloc::{AllocError, Global};
 use std::test::Fail;
 
@@ -134,96 +123,55 @@ const KEY_TAKEN: &str =
     "409 {\"error\":{\"__type\":\"Validation Error\",\"records\":[\"row 2: key taken\"]},\
     \"help\":\"/api/3/action/help_show?name=datastore_upsert\",\"success\":false}\n";
 
-/// A source of these bytes, whose call of that number fails.
-fn source_of(alloc: Global, text: &str, failing: u64) -> Result<MemorySource, AllocError> {
-    let bytes = Seq::from(text.as_bytes().to_vec(alloc)?);
-    let failing = Seq::from([failing].to_vec(alloc)?);
-    Ok(MemorySource::new(bytes, failing))
-}
-
-/// The status of a load, and its output.
-#[derive(Drop)]
-struct Loaded {
-    status: Status,
-    output: MemorySink,
-}
-
-impl Loaded {
-    /// The message for the CSV.
-    fn message(&self) -> &str {
-        match &self.status {
-            Status::DataFault(text) => text.as_str(),
-            _ => "",
-        }
-    }
-}
-
-fn sink(alloc: Global) -> Result<MemorySink, AllocError> {
-    MemorySink::new(alloc, 4_000, Seq::new(alloc))
-}
-
-/// Plays the script that makes the dataset.
-fn make_dataset(
-    alloc: Global,
-    portal: &mut Portal<MemoryKeeper>,
-    clock: &mut ScriptClock,
-    nonces: &mut CountNonces,
-) -> Result<(), AllocError> {
-    let mut script = source_of(alloc, DATASET, 0)?;
-    let mut replies = sink(alloc)?;
-    play(alloc, portal, &mut script, &mut replies, clock, nonces);
-    Ok(())
-}
-
-/// A load of the CSV into the resource of the dataset.
-fn load_csv(
-    alloc: Global,
-    portal: &mut Portal<MemoryKeeper>,
-    mut input: MemorySource,
-    clock: &mut ScriptClock,
-    nonces: &mut CountNonces,
-) -> Result<Loaded, AllocError> {
-    let mut output = sink(alloc)?;
-    let status = load(
-        alloc,
-        portal,
-        &Caller::Named(Text::from_static("ann")),
-        "keys.1",
-        SCHEMA.as_bytes(),
-        &mut input,
-        &mut output,
-        clock,
-        nonces,
-    );
-    Ok(Loaded { status, output })
-}
-
-/// A load of the CSV into the resource of a dataset that a script made.
-fn load_rows(alloc: Global, csv: &str, read: u64) -> Result<Loaded, AllocError> {
-    let mut portal = default_portal(alloc)?;
-    let mut clock = ScriptClock::new();
-    let mut nonces = CountNonces::new();
-    make_dataset(alloc, &mut portal, &mut clock, &mut nonces)?;
-    let input = source_of(alloc, csv, read)?;
-    load_csv(alloc, &mut portal, input, &mut clock, &mut nonces)
+/// A run that loads the CSV over the store that a run left which made the dataset.
+fn loaded(alloc: Global, csv: &'static str, read: usize) -> Result<Outcome, AllocError> {
+    let script = Ends {
+        input: DATASET,
+        ..NEVER
+    };
+    let made = ran(alloc, "play", script)?;
+    let load = Ends {
+        input: csv,
+        read,
+        ..holding(SCHEMA)
+    };
+    ran_over(alloc, LOAD, load, made.into_keeper())
 }
 
 #[test]
 fn rows_are_loaded_up_to_a_fault_or_a_refusal(rt: HostRuntime) -> Result<(), Fail> {
-    for (csv, read, code, message, after) in [
+    for (csv, read, code, line, after) in [
         ("id,name\n1,Elm\n2,Oak\n", 0, 0, "", INSERTED),
-        ("id,name\nx,Elm\n", 0, 9, "row 1, id: not of type", ""),
-        ("id,name\n1,Elm\n,Oak\n", 0, 9, "row 2, id: required", ""),
-        ("id,name\n1\n", 0, 9, "row 1: width", ""),
-        ("id,colour\n1,red\n", 0, 9, "header 2", ""),
-        ("id,name\n1,Elm\n1,Oak\n", 0, 10, "", KEY_TAKEN),
-        ("id,name\n1,Elm\n", 1, 3, "", ""),
+        (
+            "id,name\nx,Elm\n",
+            0,
+            9,
+            "portal: row 1, id: not of type\n",
+            "",
+        ),
+        (
+            "id,name\n1,Elm\n,Oak\n",
+            0,
+            9,
+            "portal: row 2, id: required\n",
+            "",
+        ),
+        ("id,name\n1\n", 0, 9, "portal: row 1: width\n", ""),
+        ("id,colour\n1,red\n", 0, 9, "portal: header 2\n", ""),
+        (
+            "id,name\n1,Elm\n1,Oak\n",
+            0,
+            10,
+            "portal: call refused\n",
+            KEY_TAKEN,
+        ),
+        ("id,name\n1,Elm\n", 1, 3, "portal: input failed\n", ""),
     ] {
-        let loaded = load_rows(rt.alloc(), csv, read)?;
-        let rest = loaded.output.taken().strip_prefix(CREATED.as_bytes());
+        let outcome = loaded(rt.alloc(), csv, read)?;
+        let rest = outcome.output().strip_prefix(CREATED.as_bytes());
         assert!(rt;
-            loaded.status.code() == code
-                && loaded.message() == message
+            outcome.code() == code
+                && outcome.faults() == line.as_bytes()
                 && rest == Some(after.as_bytes()),
             "at {csv}"
         );

@@ -1,6 +1,5 @@
 //! Commands over devices in memory. Each device passes one byte at a time, and fails at a given call.
-ghost use Rattle.std.specs.Prelude.{◌≡◌, false, IfOk, IsTrue};
-ghost use Rattle.portal_keeper.specs.Rows.{are_distinct};
+ghost use Rattle.std.specs.Prelude.{◌≡◌, false, IfOk};
 
 use portal_base::counted::{CountNonces, ScriptClock};
 use portal_base::memory::{MemoryFetcher, MemoryLink, MemoryListener, MemorySink, MemorySource};
@@ -9,7 +8,6 @@ use portal_base::seq::Seq;
 use portal_base::text::Text;
 use portal_keeper::keeper::Keeper;
 use portal_keeper::memory::MemoryKeeper;
-use portal_keeper::row::{KeptRow, RowKind};
 use portal_load::schema_file::load_csv;
 use portal_start::commands::{play_from, serve_from};
 use portal_start::over_store::{Ended, end_with, open_portal};
@@ -17,21 +15,33 @@ use portal_start::start::start_of;
 use portal_status::status::{Status, report};
 use portal_words::{Command, LoadOptions, WordsFault};
 use std::alloc::{AllocError, Global};
+use std::test::Fail;
 
-/// A change, and a call that shows it.
+/// Two changes, each of which gives a dataset.
 pub const SCRIPT: &str =
-    r#"{"action":"organization_member_delete","as":"cyn","body":{"id":"city","username":"bob"}}
-{"action":"organization_list_for_user","as":"bob"}
+    r#"{"action":"package_create","as":"ann","body":{"name":"trees","owner_org":"city"}}
+{"action":"package_create","as":"ann","body":{"name":"lamps","owner_org":"city"}}
 "#;
 
 pub const TRANSCRIPT: &str =
-    r#"200 {"help":"/api/3/action/help_show?name=organization_member_delete","result":null,"success":true}
-200 {"help":"/api/3/action/help_show?name=organization_list_for_user","result":[],"success":true}
-"#;
+    "200 {\"help\":\"/api/3/action/help_show?name=package_create\",\"result\":{\"author\":\"\",\
+    \"creator_user_id\":\"ann\",\"id\":\"00000000-0000-0000-0000-000000000001\",\"license_id\":\"\",\
+    \"maintainer\":\"\",\"metadata_created\":\"2024-01-01T00:00:00\",\"metadata_modified\":\"2024-01-01T00:00:00\",\
+    \"name\":\"trees\",\"notes\":\"\",\"num_resources\":0,\"num_tags\":0,\"organization\":{\"id\":\"city\",\
+    \"name\":\"city\",\"title\":\"City\"},\"owner_org\":\"city\",\"private\":false,\"resources\":[],\
+    \"state\":\"active\",\"tags\":[],\"title\":\"trees\",\"type\":\"dataset\",\"url\":\"\",\"version\":\"\"},\
+    \"success\":true}\n\
+    200 {\"help\":\"/api/3/action/help_show?name=package_create\",\"result\":{\"author\":\"\",\
+    \"creator_user_id\":\"ann\",\"id\":\"00000000-0000-0000-0000-000000000002\",\"license_id\":\"\",\
+    \"maintainer\":\"\",\"metadata_created\":\"2024-01-01T00:00:01\",\"metadata_modified\":\"2024-01-01T00:00:01\",\
+    \"name\":\"lamps\",\"notes\":\"\",\"num_resources\":0,\"num_tags\":0,\"organization\":{\"id\":\"city\",\
+    \"name\":\"city\",\"title\":\"City\"},\"owner_org\":\"city\",\"private\":false,\"resources\":[],\
+    \"state\":\"active\",\"tags\":[],\"title\":\"lamps\",\"type\":\"dataset\",\"url\":\"\",\"version\":\"\"},\
+    \"success\":true}\n";
 
 /// A portal file with the default portal's organization.
-const PORTAL: &str = r#"user = [{ name = "bob" }, { name = "cyn" }]
-organization = [{ name = "city", roles = { bob = "member", cyn = "admin" } }]
+const PORTAL: &str = r#"user = [{ name = "ann" }]
+organization = [{ name = "city", title = "City", roles = { ann = "editor" } }]
 "#;
 
 const REQUEST: &str = "GET /api/3/action/user_list HTTP/1.1\r\n\r\n";
@@ -72,10 +82,11 @@ impl<O: Sink> Sink for Narrow<O> {
     }
 }
 
-/// The numbers of the calls at which devices fail, from 1, or 0 if a device doesn't fail; the count of bytes that
-/// output takes; the file at `p.toml`; and the key and the body of the row of a dataset that the store has, if it has one.
+/// What comes on input; the numbers of the calls at which devices fail, from 1, or 0 if a device doesn't fail; the count
+/// of bytes that output takes; and the file at `p.toml`.
 #[derive(Clone, Copy)]
 pub struct Ends {
+    pub input: &'static str,
     pub read: usize,
     pub write: usize,
     pub room: usize,
@@ -84,20 +95,19 @@ pub struct Ends {
     pub accept: usize,
     pub keep: usize,
     pub file: &'static str,
-    pub row: Option<(&'static str, &'static str)>,
 }
 
-/// No device fails.
+/// The script is on input, and no device fails.
 pub const NEVER: Ends = Ends {
+    input: SCRIPT,
     read: 0,
     write: 0,
-    room: TRANSCRIPT.len(),
+    room: 4_000,
     line: 0,
     fetch: 0,
     accept: 0,
     keep: 0,
     file: PORTAL,
-    row: None,
 };
 
 /// A desk in memory.
@@ -118,9 +128,9 @@ fn failing(alloc: Global, call: usize) -> Result<Seq<u64>, AllocError> {
     Ok(Seq::from([call as u64].to_vec(alloc)?))
 }
 
-fn source(alloc: Global, read: usize) -> Result<Narrow<MemorySource>, AllocError> {
-    let bytes = Seq::from(SCRIPT.as_bytes().to_vec(alloc)?);
-    let failing = failing(alloc, read)?;
+fn source(alloc: Global, ends: Ends) -> Result<Narrow<MemorySource>, AllocError> {
+    let bytes = Seq::from(ends.input.as_bytes().to_vec(alloc)?);
+    let failing = failing(alloc, ends.read)?;
     Ok(Narrow {
         inner: MemorySource::new(bytes, failing),
     })
@@ -174,7 +184,7 @@ fn devices_with(alloc: Global, ends: Ends) -> Result<Devices, AllocError>
     ensures { IfOk result (λ devices. devices.desk.listener.is_out ≡ false) }
 {
     Ok(Devices {
-        input: source(alloc, ends.read)?,
+        input: source(alloc, ends)?,
         output: sink(alloc, ends.room, ends.write)?,
         faults: sink(alloc, 100, ends.line)?,
         fetcher: fetcher(alloc, ends)?,
@@ -182,28 +192,22 @@ fn devices_with(alloc: Global, ends: Ends) -> Result<Devices, AllocError>
     })
 }
 
-/// The rows of the store, of which there is one at most.
-fn rows(
-    alloc: Global,
-    row: Option<(&'static str, &'static str)>,
-) -> Result<Seq<KeptRow>, AllocError>
-    ensures { IfOk result (λ rows. IsTrue (are_distinct rows)) }
-{
-    let Some((key, body)) = row else {
-        return Ok(Seq::new(alloc));
-    };
-    let row = KeptRow {
-        kind: RowKind::Set,
-        key: Text::from_static(key),
-        body: Text::from_static(body),
-    };
-    Ok(Seq::from(Vec::from_array(alloc, [row])?))
+/// A store without rows.
+pub fn empty_store(alloc: Global, ends: Ends) -> Result<MemoryKeeper, AllocError> {
+    let failing = failing(alloc, ends.keep)?;
+    Ok(MemoryKeeper::new(alloc, Seq::new(alloc), failing))
 }
 
-fn keeper(alloc: Global, ends: Ends) -> Result<MemoryKeeper, AllocError> {
-    let failing = failing(alloc, ends.keep)?;
-    let rows = rows(alloc, ends.row)?;
-    Ok(MemoryKeeper::new(alloc, rows, failing))
+/// The rows of a store, a line each: the number of the kind, the key and the body.
+pub fn rows_of(alloc: Global, keeper: &mut MemoryKeeper) -> Result<String, Fail> {
+    let mut text = String::new(alloc);
+    for row in keeper.load(alloc)?.as_slice() {
+        let number = row.kind.number();
+        let key = row.key.as_str();
+        let body = row.body.as_str();
+        text.push_str(format!(in alloc; "{number} {key} {body}\n")?.as_str())?;
+    }
+    Ok(text)
 }
 
 /// The end of a run.
@@ -229,12 +233,14 @@ impl Outcome {
         self.devices.faults.inner.taken()
     }
 
-    /// The count of the rows that the store has, if its next call doesn't fail.
-    pub fn row_count(&mut self, alloc: Global) -> Option<usize> {
-        match self.keeper.load(alloc) {
-            Ok(rows) => Some(rows.len()),
-            Err(_fault) => None,
-        }
+    /// The rows of the store, a line each.
+    pub fn rows(&mut self, alloc: Global) -> Result<String, Fail> {
+        rows_of(alloc, &mut self.keeper)
+    }
+
+    /// The store, for the next run.
+    pub fn into_keeper(self) -> MemoryKeeper {
+        self.keeper
     }
 
     /// The links that were taken back.
@@ -310,18 +316,6 @@ fn carry_out(
     }
 }
 
-/// The end of the command of these words over such devices.
-fn ran_words(alloc: Global, words: &[String], ends: Ends) -> Result<Outcome, AllocError> {
-    let mut devices = devices_with(alloc, ends)?;
-    let Ended { status, keeper } = carry_out(alloc, words, keeper(alloc, ends)?, &mut devices);
-    let code = report(&mut devices.faults, status).code();
-    Ok(Outcome {
-        code,
-        devices,
-        keeper,
-    })
-}
-
 /// The words of a line, between spaces.
 fn words_of(alloc: Global, line: &str) -> Result<Vec<String>, AllocError> {
     let mut words = Vec::new(alloc);
@@ -331,8 +325,25 @@ fn words_of(alloc: Global, line: &str) -> Result<Vec<String>, AllocError> {
     Ok(words)
 }
 
+/// The end of the command of the words of a line, over a store that another run may have left.
+pub fn ran_over(
+    alloc: Global,
+    line: &str,
+    ends: Ends,
+    keeper: MemoryKeeper,
+) -> Result<Outcome, AllocError> {
+    let words = words_of(alloc, line)?;
+    let mut devices = devices_with(alloc, ends)?;
+    let Ended { status, keeper } = carry_out(alloc, words.as_slice(), keeper, &mut devices);
+    let code = report(&mut devices.faults, status).code();
+    Ok(Outcome {
+        code,
+        devices,
+        keeper,
+    })
+}
+
 /// The end of the command of the words of a line.
 pub fn ran(alloc: Global, line: &str, ends: Ends) -> Result<Outcome, AllocError> {
-    let words = words_of(alloc, line)?;
-    ran_words(alloc, words.as_slice(), ends)
+    ran_over(alloc, line, ends, empty_store(alloc, ends)?)
 }
