@@ -12,6 +12,6 @@ pub mod package;
 mod resource_list;
 pub mod resources;
 pub mod shelf;
-mod tags;
+pub mod tags;
 pub mod texts;
 pub mod walk;

@@ -114,7 +114,7 @@ fn push_name(
 }
 
 /// Sorts the texts and drops repeats. It takes no memory.
-pub(crate) fn sort_and_dedup(texts: &mut Vec<Text>)
+pub fn sort_and_dedup(texts: &mut Vec<Text>)
     ensures set { texts.new.items ≡ text_set texts.old.items }
     ensures count { vec_len texts.new ≤ vec_len texts.old }
 {
@@ -142,7 +142,7 @@ fn tags_of(alloc: Global, items: &[Json]) -> Result<Seq<Text>, ReadFault>
 }
 
 /// Reads the list of tags, or adds the error of its key.
-pub fn read_tags(
+pub(crate) fn read_tags(
     alloc: Global,
     faults: &mut KeyErrors,
     body: &Json,
