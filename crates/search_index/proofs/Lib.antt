@@ -1,0 +1,7 @@
+pub mod CutLemmas
+pub mod DemandLemmas
+pub mod EntryLemmas
+mod Examples
+pub mod GrammarLemmas
+pub mod ReadingLemmas
+pub mod TermLemmas
