@@ -10,4 +10,4 @@ pub mod laws;
 pub mod query;
 mod reading;
 mod term_set;
-pub mod terms;
+mod terms;
