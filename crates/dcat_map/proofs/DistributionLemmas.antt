@@ -6,7 +6,7 @@ use Rattle.std.proofs.lemmas.List.{map-append}
 use Rattle.std.proofs.lemmas.List.Elements.{filter-append}
 use Rattle.ntriples.specs.declared.term.Term.{Term}
 use Rattle.ntriples.specs.declared.term.Triple.{Triple}
-use Rattle.dcat_map.specs.declared.record.Distribution.{Distribution}
+use Rattle.harvest_records.specs.declared.record.Distribution.{Distribution}
 use Rattle.dcat_map.specs.Terms.{text_cmp}
 use Rattle.dcat_map.specs.Distributions.{distribution_in, distribution_cmp, distributions_in, is_iri_or_blank}
 use Rattle.dcat_map.proofs.Orders.{then_equal, same_text}

@@ -11,7 +11,7 @@ use Rattle.std.proofs.lemmas.Map.Text.{is_eq-slice_cmp}
 use Rattle.ntriples.specs.declared.term.Term.{Term}
 use Rattle.ntriples.specs.declared.term.Term.TheVariants.{Iri, Blank, Literal}
 use Rattle.ntriples.specs.declared.term.Triple.{Triple}
-use Rattle.dcat_map.specs.declared.record.HarvestRecord.{HarvestRecord}
+use Rattle.harvest_records.specs.declared.record.HarvestRecord.{HarvestRecord}
 use Rattle.dcat_map.specs.declared.record.RecordFault.{RecordFault}
 use Rattle.dcat_map.specs.declared.record.RecordFault.TheVariants.{NotDescribed, OutOfMemory}
 use Rattle.dcat_map.specs.Records.{record_in, titled, description_in}

@@ -7,7 +7,7 @@ use Rattle.std.specs.Ordering.{on, then_cmp}
 use Rattle.ntriples.specs.declared.term.Term.{Term}
 use Rattle.ntriples.specs.declared.term.Term.TheVariants.{Iri, Blank, Literal}
 use Rattle.ntriples.specs.declared.term.Triple.{Triple}
-use Rattle.dcat_map.specs.declared.record.Distribution.{Distribution}
+use Rattle.harvest_records.specs.declared.record.Distribution.{Distribution}
 use Rattle.dcat_map.specs.declared.shared.Shared.{Shared}
 use Rattle.dcat_map.specs.Sets.{in_order}
 use Rattle.dcat_map.specs.Terms.{text_cmp}

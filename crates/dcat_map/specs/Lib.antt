@@ -3,7 +3,6 @@ pub mod Terms
 pub mod Vocabulary
 pub mod Graphs
 pub mod Listings
-pub mod Names
 pub mod Picks
 pub mod Tags
 pub mod Instants

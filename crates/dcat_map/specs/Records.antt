@@ -3,7 +3,7 @@ use Rattle.std.specs.Prelude.{ℕ, if◌then◌else◌, List, [], ◌∷◌, Res
 use Rattle.ntriples.specs.declared.term.Term.{Term}
 use Rattle.ntriples.specs.declared.term.Term.TheVariants.{Iri}
 use Rattle.ntriples.specs.declared.term.Triple.{Triple}
-use Rattle.dcat_map.specs.declared.record.HarvestRecord.{HarvestRecord}
+use Rattle.harvest_records.specs.declared.record.HarvestRecord.{HarvestRecord}
 use Rattle.dcat_map.specs.declared.record.RecordFault.{RecordFault}
 use Rattle.dcat_map.specs.declared.record.RecordFault.TheVariants.{NotDescribed, NoTitle}
 use Rattle.dcat_map.specs.Graphs.{graph_of, about, is_described}

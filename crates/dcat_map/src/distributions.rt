@@ -11,11 +11,11 @@ ghost use Rattle.dcat_map.specs.Vocabulary.{dct_description, dct_format};
 
 use crate::graph::Graph;
 use crate::picks::{least_iri, least_named, picked};
-use crate::record::Distribution;
 use crate::vocabulary::{
     ACCESS_URL, DESCRIPTION, DISTRIBUTION, DOWNLOAD_URL, FORMAT, MEDIA_TYPE, MEDIA_TYPES,
     OLD_MEDIA_TYPES, TITLE,
 };
+use harvest_records::Distribution;
 use ntriples::{Borrowed, Term, Triple};
 use portal_base::copy::TryClone;
 use portal_base::seq::Seq;

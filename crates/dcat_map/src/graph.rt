@@ -6,11 +6,11 @@ ghost use Rattle.dcat_map.specs.Terms.{key_cmp, triple_cmp};
 ghost use Rattle.dcat_map.specs.Distributions.{distribution_in};
 ghost use Rattle.dcat_map.specs.Vocabulary.{dcat_dataset_class};
 
-use crate::record::Distribution;
 use crate::sets::make_triple_set;
 use crate::shared::{self, Shared, described_shared};
 use crate::terms::{compare_terms, is_iri};
 use crate::vocabulary::{DATASET_CLASS, TYPE};
+use harvest_records::Distribution;
 use ntriples::{Borrowed, Term, Triple};
 use portal_base::seq::Seq;
 use portal_base::text::Text;

@@ -6,7 +6,6 @@ mod graph;
 mod instants;
 pub mod laws;
 mod listing;
-mod names;
 mod picks;
 mod record;
 mod sets;
@@ -16,6 +15,6 @@ mod terms;
 mod vocabulary;
 
 pub use graph::{Graph, described};
+pub use harvest_records::{Distribution, HarvestRecord, name_of};
 pub use listing::{ListFault, Listing, listed, listed_in};
-pub use names::name_of;
-pub use record::{Distribution, HarvestRecord, RecordFault, describe, describe_in};
+pub use record::{RecordFault, describe, describe_in};

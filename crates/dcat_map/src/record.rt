@@ -16,6 +16,7 @@ use crate::picks::{least_named, picked};
 use crate::tags::tags_among;
 use crate::terms::is_iri;
 use crate::vocabulary::{DATASET_CLASS, DESCRIPTION, KEYWORD, LICENSE, MODIFIED, TITLE, TYPE};
+use harvest_records::HarvestRecord;
 use ntriples::{Term, Triple};
 use portal_base::copy::TryClone;
 use portal_base::moment::Moment;
@@ -23,30 +24,6 @@ use portal_base::seq::Seq;
 use portal_base::text::Text;
 use std::alloc::{AllocError, Global};
 use thiserror::Error;
-
-/// A file or a service that gives a dataset's data.
-#[derive(Drop)]
-pub struct Distribution {
-    pub url: Text,
-    pub name: Text,
-    pub format: Text,
-    pub mimetype: Text,
-    pub description: Text,
-}
-
-/// What a graph says of a dataset.
-#[derive(Drop)]
-pub struct HarvestRecord {
-    pub title: Text,
-    pub notes: Text,
-    /// Ascending by bytes, each once, 100 at most.
-    pub tags: Seq<Text>,
-    /// 1970-01-01T00:00:00 where the graph gives none.
-    pub modified: Moment,
-    pub license_id: Text,
-    /// In order, 200 at most.
-    pub resources: Seq<Distribution>,
-}
 
 /// Why there is no record.
 #[derive(Debug, Drop, Error, Clone, Copy, PartialEq, Eq)]

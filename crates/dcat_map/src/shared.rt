@@ -5,10 +5,10 @@ ghost use Rattle.dcat_map.specs.Distributions.{distribution_in, AreDescribed};
 
 use crate::distributions::{distribution_of, is_iri_or_blank};
 use crate::graph::Graph;
-use crate::record::Distribution;
 use crate::sets::make_term_set;
 use crate::terms::compare_terms;
 use crate::vocabulary::DISTRIBUTION;
+use harvest_records::Distribution;
 use ntriples::{Borrowed, Term, Triple};
 use std::alloc::{AllocError, Global};
 

@@ -1,6 +1,6 @@
 //! The names of harvested datasets.
 ghost use Rattle.std.specs.Prelude.{◌≡◌, IfOk};
-ghost use Rattle.dcat_map.specs.Names.{harvested_name};
+ghost use Rattle.harvest_records.specs.Names.{harvested_name};
 
 use portal_base::text::Text;
 use sha2::{Digest, Sha256};
