@@ -1,0 +1,44 @@
+//! Acts in a hall over a portal. They are generic over the keeper: the borrow checker doesn't cover them over a portal of one
+//! keeper.
+ghost use Rattle.std.specs.Prelude.{◌≡◌};
+ghost use Rattle.portal_hall.specs.Passes.{IsPassOf, room_of};
+
+use portal_calls::event::{Event, Reply};
+use portal_core::portal::Portal;
+use portal_hall::acted::Acted;
+use portal_hall::hall::Hall;
+use portal_hall::pass::Pass;
+use portal_keeper::keeper::Keeper;
+use std::sync::Wait;
+
+/// The portal's reply, the length of the history at the reply, and the event's index in it, if it was accepted.
+#[derive(Drop)]
+pub struct Outcome {
+    pub reply: Reply,
+    pub front: u64,
+    pub entry: Option<u64>,
+}
+
+/// The outcome of the event, if there was memory for it in the history.
+pub fn act<R: Wait, K: Keeper>(
+    rt: &R,
+    hall: &Hall<Portal<K>>,
+    pass: &mut Pass<Portal<K>>,
+    event: Event,
+) -> Option<Outcome>
+    requires { IsPassOf hall.now pass.old }
+    ensures { IsPassOf hall.now pass.new × (room_of pass.new ≡ room_of pass.old) }
+{
+    match hall.act(rt, pass, event) {
+        Acted::Done {
+            reply,
+            front,
+            entry,
+        } => Some(Outcome {
+            reply,
+            front,
+            entry,
+        }),
+        Acted::OutOfMemory(_) => None,
+    }
+}
