@@ -2,7 +2,7 @@
 use Rattle.std.proofs.Common.{◌≡◌, ℕ, ◌<◌, ◌^◌, Bool, true, false, cond, List, [], ◌∷◌, Option, Some, None, length, map}
 use Rattle.std.proofs.Common.{refl, sym, ap, ◌∙◌, subst, ◌⊎◌, inl, inr, true≢false, IfSome, IfNone, IsTrue}
 use Rattle.std.specs.Prelude.{filter, find}
-use Rattle.std.specs.List.{list_any}
+use Rattle.std.specs.List.{All, list_any}
 use Rattle.std.specs.Option.{option_map, option_map_or}
 use Rattle.std.specs.declared.cmp.Ordering.TheVariants.{Less, Equal}
 use Rattle.std.specs.Ordering.{nat_cmp, is_eq}
@@ -12,7 +12,7 @@ use Rattle.slab.specs.Slab.{Slab, get, entries, Updates}
 use Rattle.portal_base.specs.Ordered.{IsAscending, ascending, upserted, dropped}
 use Rattle.portal_base.proofs.Inserted.{AreApart, IsAscending-ascending, list_any-ascending}
 use Rattle.portal_base.proofs.Upserted.{IsAscending-upserted, IsAscending-dropped, IsIn-upserted, upserted-IsIn}
-use Rattle.portal_base.proofs.Upserted.{upserted-IsIn_other, IsIn-dropped, dropped-IsIn}
+use Rattle.portal_base.proofs.Upserted.{All-each, upserted-IsIn_other, IsIn-dropped, dropped-IsIn}
 use Rattle.portal_base.proofs.Filtered.{IsIn-filter, filter-IsIn}
 use Rattle.portal_base.proofs.Unique.{IsIn, unique, below_in, IsIn-ascending, ascending-IsIn}
 use Rattle.digest_index.specs.Index.{IndexState, IsUnder}
@@ -180,6 +180,12 @@ package_at_slab n s b = by (get s n) refl (package_at n (shelf_state s b)) refl
     by (Some d) there r is = sym is ∙ package_at-IsIn n d (entries s) (IsAscending-entries s) (IsIn-entries n d s there)
     by None none None is = refl
     by None none (Some d) is = sym (entries-IsIn n d s (IsIn-package_at n d (entries s) is)) ∙ none
+
+-- The numbers of a shelf are below 2^32.
+pub numbers_below : (s : Slab Package) (index : IndexState ℕ) (b : Bool) → IsConsistent s index b
+    → All (λ e. e.0 < 2 ^ 32) (entries s)
+numbers_below s index b consistent =
+    All-each (λ e. e.0 < 2 ^ 32) (entries s) (λ e m. consistent.below e.0 e.1 (entries-IsIn e.0 e.1 s m))
 
 -- The value of a consistent shelf is valid.
 pub IsValidShelf-consistent : (s : Slab Package) (index : IndexState ℕ) (b : Bool) → IsConsistent s index b

@@ -207,6 +207,13 @@ impl Shelf {
         walk::has(&self.datasets, test)
     }
 
+    /// The numbers of all datasets, ascending.
+    pub fn numbers(&self, alloc: Global) -> Result<Vec<u32>, AllocError>
+        ensures { IfOk result (λ numbers. numbers.items ≡ map (λ e. e.0) self.now.entries) }
+    {
+        walk::numbers_of(alloc, &self.datasets)
+    }
+
     /// The names of the datasets that pass the test, in ascending order.
     pub fn names_of<T: Test>(&self, alloc: Global, test: &T) -> Result<Vec<Text>, AllocError>
         ensures { IfOk result (λ names. names.items

@@ -1,7 +1,7 @@
 //! Walks over all datasets, in an order that callers can't rely on.
 ghost use Rattle.std.specs.Prelude.{◌≡◌, ◌∷◌, ◌++◌, ◌+◌, ◌<◌, ◌^◌, ◌&&◌, [], ℕ, List, IfOk, OnOk, IsTrue};
 ghost use Rattle.std.specs.Prelude.{filter, if◌then◌else◌, length, map};
-ghost use Rattle.std.specs.List.{list_any};
+ghost use Rattle.std.specs.List.{All, list_any};
 ghost use Rattle.std.specs.Str.{bytes_eq};
 ghost use Rattle.slab.specs.Slab.{entries};
 ghost use Rattle.packages.specs.Owners.{count_at};
@@ -86,6 +86,18 @@ pub(crate) fn has<T: Test>(datasets: &Slab<Package>, test: &T) -> bool
         }
     }
     false
+}
+
+/// The numbers of all datasets, ascending.
+pub(crate) fn numbers_of(alloc: Global, datasets: &Slab<Package>) -> Result<Vec<u32>, AllocError>
+    requires { All (λ e. e.0 < 2 ^ 32) (entries datasets.now) }
+    ensures { IfOk result (λ numbers. numbers.items ≡ map (λ e. e.0) (entries datasets.now)) }
+{
+    let mut numbers = Vec::with_capacity(alloc, datasets.len())?;
+    for entry in datasets.iter() {
+        numbers.push(entry.0 as u32)?;
+    }
+    Ok(numbers)
 }
 
 /// The names of the datasets that pass, in ascending order.
