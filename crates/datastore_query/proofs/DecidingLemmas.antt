@@ -4,20 +4,18 @@ use Rattle.std.proofs.Common.{append_assoc, append-nil, arith}
 use mathlib.Core.Path.{fun_ext}
 use Rattle.std.specs.declared.cmp.Ordering.{Ordering}
 use Rattle.std.specs.declared.cmp.Ordering.TheVariants.{Less, Equal, Greater}
-use Rattle.std.specs.Ordering.{ordering_reverse, ordering_then}
-use Rattle.std.specs.Cmp.{IsTotalOrder}
+use Rattle.std.specs.Ordering.{ordering_then}
 use Rattle.std.specs.List.{list_any}
 use Rattle.std.proofs.lemmas.Bool.{eqb-true}
 use Rattle.portal_base.specs.Ordered.{ascending}
+use Rattle.sorted_pages.proofs.DirectionLemmas.{tied, untied}
 use Rattle.datastore_table.specs.declared.row.Row.{Row}
 use Rattle.datastore_query.specs.declared.column.Column.{Column}
 use Rattle.datastore_query.specs.declared.column.Column.TheVariants as column
 use Rattle.datastore_query.specs.declared.sort.Sort.{Sort}
-use Rattle.datastore_query.specs.declared.sort_text.Direction.{Direction}
-use Rattle.datastore_query.specs.declared.sort_text.Direction.TheVariants.{Ascending, Descending}
 use Rattle.datastore_query.specs.Query.{with_first}
 use Rattle.datastore_query.specs.Repeats.{by_one_column, deciding, is_same_column}
-use Rattle.datastore_query.specs.Sort.{column_cmp, column_cmp_total, in_order, sort_cmp, sorts_cmp, turned}
+use Rattle.datastore_query.specs.Sort.{column_cmp, column_cmp_total, in_order, sort_cmp, sorts_cmp}
 
 -- columns with one number are one column
 pub one_column : (a b : Column) → is_same_column a b ≡ true → a ≡ b
@@ -28,16 +26,6 @@ one_column (column.Field i) (column.Field j) e =
     let same : j + 1 ≡ i + 1 = eqb-true (j + 1) (i + 1) e in
     let k : i ≡ j = omega arith in
     ap column.Field k
-
-untied : (direction : Direction) (cmp : Row → Row → Ordering) → IsTotalOrder cmp → (a b : Row)
-    → turned direction cmp a b ≡ Equal → cmp a b ≡ Equal
-untied Ascending cmp o a b e = e
-untied Descending cmp o a b e = o.antisymm a b ∙ ap ordering_reverse e
-
-tied : (direction : Direction) (cmp : Row → Row → Ordering) → IsTotalOrder cmp → (a b : Row)
-    → cmp a b ≡ Equal → turned direction cmp a b ≡ Equal
-tied Ascending cmp o a b e = e
-tied Descending cmp o a b e = o.antisymm b a ∙ ap ordering_reverse e
 
 -- Two sorts by one column tie the same rows.
 also_tied : (one other : Sort) (a b : Row) → is_same_column other.column one.column ≡ true

@@ -14,8 +14,8 @@ use Rattle.datastore_table.specs.declared.row.Row.{Row}
 use Rattle.datastore_table.specs.Cells.{same_cells}
 use Rattle.datastore_query.specs.declared.column.Column.TheVariants as column
 use Rattle.datastore_query.specs.declared.sort.SortName.{SortName}
-use Rattle.datastore_query.specs.declared.sort_text.Direction.{Direction}
-use Rattle.datastore_query.specs.declared.sort_text.Direction.TheVariants.{Ascending, Descending}
+use Rattle.sorted_pages.specs.declared.direction.Direction.{Direction}
+use Rattle.sorted_pages.specs.declared.direction.Direction.TheVariants.{Ascending, Descending}
 use Rattle.datastore_query.specs.Column.{all_columns, named_columns}
 use Rattle.datastore_query.specs.Filter.{filters_reading, passes_filters}
 use Rattle.datastore_query.specs.Query.{firsts, page_rows, QueryValue}

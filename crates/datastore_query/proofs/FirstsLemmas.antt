@@ -1,17 +1,16 @@
 -- The first of each group of equal items, and the part of a list that a page is.
-use Rattle.std.proofs.Common.{◌≡◌, ◌∙◌, ◌↔◌, ◌⊎◌, ◌≤◌, ℕ, Bool, true, false, ◌||◌, not, cond, List, [], ◌∷◌, ◌++◌}
-use Rattle.std.proofs.Common.{ap, arith, append-nil, drop, filter, fold, inl, inr, length, min, refl, subst}
-use Rattle.std.proofs.Common.{sym, take}
+use Rattle.std.proofs.Common.{◌≡◌, ◌∙◌, ◌↔◌, Bool, true, false, ◌||◌, not, cond, List, [], ◌∷◌, ◌++◌}
+use Rattle.std.proofs.Common.{ap, append-nil, filter, fold, inl, inr, refl, subst}
+use Rattle.std.proofs.Common.{sym}
 use Rattle.std.specs.Prelude.{AllPairs, Contains}
 use Rattle.std.specs.List.{list_any}
-use Rattle.std.proofs.lemmas.List.{drop_all, drop_at, drop_min, length-take, take-append-drop, take_all, take_at}
 use Rattle.std.proofs.lemmas.List.Elements.{filter-append}
 use Rattle.portal_base.proofs.Filtered.{IsIn-filter, filter-IsIn}
 use Rattle.portal_base.proofs.Unique.{Contains-IsIn, IsIn, IsIn-Contains}
 use Rattle.datastore_table.proofs.PairLemmas.{AllPairs-cons, AllPairs-filter, AllPairs-head, AllPairs-nil, AllPairs-tail}
 use Rattle.datastore_table.proofs.PairLemmas.{AllPairs-within}
 use Rattle.datastore_table.proofs.KeyLemmas.{not_true, true_false}
-use Rattle.datastore_query.specs.Listing.{AreFirsts, IsPart, Precedes}
+use Rattle.datastore_query.specs.Listing.{AreFirsts, Precedes}
 use Rattle.datastore_query.specs.Query.{firsts, with_first}
 
 -- ---- the first items, from the first of the list
@@ -246,46 +245,3 @@ firsts_are {X} like exact itself items found = (to, from)
         (λ a b m up down. no-cycle items a b up down (own.kept b m))
         (λ x m. IsIn-Contains x found ((are.same x).1 (Contains-IsIn x items (own.kept x m))))
         (λ x m. own.all x (IsIn-Contains x items ((are.same x).0 (Contains-IsIn x found m)))) own.sorted are.sorted
-
--- ---- a part of a list
-
-part-of : {X : Type 0} (offset limit : ℕ) (items : List X) → IsPart offset limit items (take limit (drop offset items))
-part-of offset limit items = record {
-  before = take offset items;
-  after = drop limit (drop offset items);
-  whole = sym (ap (λ ys. take offset items ++ ys) (take-append-drop limit (drop offset items))
-      ∙ take-append-drop offset items);
-  start = length-take offset items;
-  most = most;
-  full = full;
-}
-  where
-    long : length (take limit (drop offset items)) ≡ min limit (length (drop offset items))
-    long = length-take limit (drop offset items)
-
-    most : length (take limit (drop offset items)) ≤ limit
-    most = omega (arith, long)
-
-    by : (limit ≤ length (drop offset items)) ⊎ (length (drop offset items) ≤ limit)
-        → (drop limit (drop offset items) ≡ [] → ⊥) → length (take limit (drop offset items)) ≡ limit
-    by (inl le) some = omega (arith, long, le)
-    by (inr le) some = absurd (some (drop_all limit (drop offset items) le))
-
-    full : (drop limit (drop offset items) ≡ [] → ⊥) → length (take limit (drop offset items)) ≡ limit
-    full some = by (grind arith) some
-
-part-is : {X : Type 0} (offset limit : ℕ) (items part : List X) → IsPart offset limit items part
-    → take limit (drop offset items) ≡ part
-part-is {X} offset limit items part p =
-    ap (take limit) (sym (drop_min offset items) ∙ ap (drop (min offset (length items))) p.whole
-    ∙ drop_at p.before (part ++ p.after) (min offset (length items)) p.start)
-    ∙ by p.after p.full
-  where
-    by : (after : List X) → ((after ≡ [] → ⊥) → length part ≡ limit) → take limit (part ++ after) ≡ part
-    by [] full = ap (take limit) (append-nil part) ∙ take_all limit part p.most
-    by (x ∷ after) full = take_at part (x ∷ after) limit (full (λ e. cc))
-
-pub parts_are : {X : Type 0} (offset limit : ℕ) (items part : List X)
-    → (take limit (drop offset items) ≡ part) ↔ IsPart offset limit items part
-parts_are offset limit items part =
-    (λ e. subst (λ ys. IsPart offset limit items ys) e (part-of offset limit items), part-is offset limit items part)

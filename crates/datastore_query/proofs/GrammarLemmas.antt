@@ -1,32 +1,28 @@
 -- A sort's text is read as its grammar says.
 use Rattle.std.proofs.Common.{◌≡◌, ◌∙◌, ◌↔◌, ℕ, suc, ◌+◌, ◌-◌, ◌<◌, ◌≤◌, Bool, true, false, ◌&&◌, ◌||◌, not, cond, List, []}
-use Rattle.std.proofs.Common.{◌∷◌, ◌++◌, length, take, drop, get_or, map, fold, refl, sym, ap, ap₂, subst, arith}
+use Rattle.std.proofs.Common.{◌∷◌, ◌++◌, length, take, get_or, map, fold, refl, sym, ap, ap₂, subst, arith}
 use Rattle.std.proofs.Common.{append_assoc, append-nil}
 use Rattle.std.specs.Prelude.{Option, Some, None, ◌==◌, ◌⊎◌}
 use Rattle.std.proofs.Common.{inl, inr}
 use Rattle.std.specs.List.{list_any}
-use Rattle.std.specs.Prelude.{codes, nat_le, nat_lt}
-use Rattle.std.specs.Str.{bytes_eq, trim, trim_end}
+use Rattle.std.specs.Prelude.{nat_le}
+use Rattle.std.specs.Str.{trim}
 use Rattle.std.proofs.lemmas.Bool.{eqb-true}
 use Rattle.std.proofs.lemmas.Bool.Decides.{nat_tests}
 use Rattle.std.proofs.lemmas.List.{at_drop_all, at_drop_more, length-append, nil_from_length, take-append-drop, take_at}
 use Rattle.std.proofs.lemmas.List.{get_or_at}
-use Rattle.std.proofs.lemmas.Slice.Eq.{bytes_eq-Decides}
-use Rattle.std.proofs.Math.Seq.{drop-append_seam}
+use Rattle.sorted_pages.specs.Direction.{directed}
+use Rattle.sorted_pages.proofs.DirectionLemmas.{directed_from, directed_to}
 use Rattle.datastore_query.specs.declared.sort.SortName.{SortName}
-use Rattle.datastore_query.specs.declared.sort_text.Direction.{Direction}
-use Rattle.datastore_query.specs.declared.sort_text.Direction.TheVariants.{Ascending, Descending}
-use Rattle.datastore_query.specs.SortText.{before_space, directed, inner, is_between_quotes, is_empty_text, is_quote}
-use Rattle.datastore_query.specs.SortText.{is_unclosed, name_of, named, or_ascending, or_descending, part_reading, parts_from, parts_of}
-use Rattle.datastore_query.specs.SortText.{prepended, quoted_after, without_word}
-use Rattle.datastore_query.specs.SortGrammar.{AreParts, AreSortParts, HasNoQuote, is_plain, IsBeforeWord, IsClosed, IsDirected, IsName}
+use Rattle.datastore_query.specs.SortText.{inner, is_between_quotes, is_empty_text, is_quote}
+use Rattle.datastore_query.specs.SortText.{is_unclosed, name_of, named, part_reading, parts_from, parts_of}
+use Rattle.datastore_query.specs.SortText.{prepended, quoted_after}
+use Rattle.datastore_query.specs.SortGrammar.{AreParts, AreSortParts, HasNoQuote, is_plain, IsClosed, IsName}
 use Rattle.datastore_query.specs.SortGrammar.{IsOpen, IsPart}
 use Rattle.datastore_query.specs.SortGrammar.AreParts.{last_part, next_part, open_part}
 use Rattle.datastore_query.specs.SortGrammar.AreSortParts.{no_parts, some_parts}
-use Rattle.datastore_query.specs.SortGrammar.IsDirected.{ascending, descending, undirected}
 use Rattle.datastore_query.specs.SortGrammar.IsName.{bare, in_quotes}
 use Rattle.datastore_query.specs.SortGrammar.IsPart.{blank, naming}
-use Rattle.datastore_query.proofs.SortLemmas.{before_space-some}
 use Rattle.datastore_query.specs.SortGrammar.IsClosed.{nothing, plain, quoted}
 use Rattle.datastore_query.specs.SortGrammar.IsOpen.{opened}
 
@@ -214,113 +210,6 @@ name_from _ _ (bare text none) = by (is_between_quotes text) refl
     by : (b : Bool) → is_between_quotes text ≡ b → cond b (inner text) text ≡ text
     by true e = let facts = between-quoted text e in absurd (none (inner text) facts.0 facts.1)
     by false e = refl
-
--- ---- a direction
-
-ltb-is : (a b : ℕ) → nat_lt a b ≡ true → a < b
-ltb-is a b h = grind (arith, nat_tests)
-
-tail_of : (word text front : List ℕ) → text ≡ front ++ word
-    → (drop (length text - length word) text ≡ word) × (take (length text - length word) text ≡ front)
-tail_of word text front e =
-    let long : length text ≡ length front + length word = ap length e ∙ length-append front word in
-    let n : length text - length word ≡ length front = omega arith in (
-      ap₂ (λ k (xs : List ℕ). drop k xs) n e ∙ drop-append_seam front word,
-      ap₂ (λ k (xs : List ℕ). take k xs) n e ∙ take_at front word _ refl,
-    )
-
-word_if : (word text name : List ℕ) (n : ℕ) (front : List ℕ) → front ≡ take n text
-    → (b : Bool) → (nat_le (length word) (length text) && bytes_eq (drop n text) word) ≡ b
-    → (d : Bool) → nat_lt (length (trim_end front)) (length front) ≡ d
-    → cond {A = Option (List ℕ)} b (cond d (Some (trim_end front)) None) None ≡ Some name → IsBeforeWord word text name
-word_if word text name n front is true e true shorter made = record {
-  front = front;
-  whole =
-      sym (take-append-drop n text)
-      ∙ ap₂ (λ (xs : List ℕ) (ys : List ℕ). xs ++ ys) (sym is)
-      ((bytes_eq-Decides (drop n text) word).0 (both (nat_le (length word) (length text)) _ e).1);
-  trimmed = cc;
-  white =
-      let is_name : name ≡ trim_end front = cc in
-      let lt : length (trim_end front) < length front = ltb-is (length (trim_end front)) (length front) shorter in
-      subst (λ (xs : List ℕ). length xs < length front) (sym is_name) lt;
-}
-word_if word text name n front is true e false shorter made = absurd (cc)
-word_if word text name n front is false e d shorter made = absurd (cc)
-
-word_to : (word text name : List ℕ) → without_word word text ≡ Some name → IsBeforeWord word text name
-word_to word text name e =
-    word_if word text name (length text - length word) (take (length text - length word) text) refl _ refl _ refl e
-
-word_from : (word text name : List ℕ) → IsBeforeWord word text name → without_word word text ≡ Some name
-word_from word text name is =
-    let parts = tail_of word text is.front is.whole in
-    let long : length text ≡ length is.front + length word = ap length is.whole ∙ length-append is.front word in
-    let n : ℕ = length text - length word in
-    let fits : nat_le (length word) (length text) ≡ true = grind (arith, nat_tests, long) in
-    let same : bytes_eq (drop n text) word ≡ true = (bytes_eq-Decides (drop n text) word).1 parts.0 in
-    ap (λ b. cond {A = Option (List ℕ)} (b && bytes_eq (drop n text) word) (before_space (take n text)) None) fits
-    ∙ ap (λ b. cond {A = Option (List ℕ)} b (before_space (take n text)) None) same
-    ∙ ap before_space parts.1
-    ∙ sym (before_space-some name is.front is.trimmed is.white)
-
--- A text ends with one of the two words at most.
-one_word : (text one two : List ℕ) → IsBeforeWord (codes "desc") text one → IsBeforeWord (codes "asc") text two → ⊥
-one_word text one two d a =
-    let whole : text ≡ (d.front ++ codes "d") ++ codes "esc" =
-    d.whole ∙ sym (append_assoc d.front (codes "d") (codes "esc")) in
-    let ends = (tail_of (codes "esc") text (d.front ++ codes "d") whole).0 in
-    let ends_too = (tail_of (codes "asc") text a.front a.whole).0 in
-    apart 101 97 refl refl (ap (λ (xs : List ℕ). get_or xs 0 0) (sym ends ∙ ends_too))
-  where
-    apart : (a b : ℕ) → a ≡ 101 → b ≡ 97 → a ≡ b → ⊥
-    apart a b p q r = omega arith
-
-abbrev of_words : List ℕ → Option (List ℕ) → Option (List ℕ) → SortName
-of_words text None upwards = or_ascending text upwards
-of_words text (Some name) upwards = record { name = name; direction = Descending }
-
-by_words : (text : List ℕ) → directed text ≡ of_words text (without_word (codes "desc") text) (without_word (codes "asc") text)
-by_words text = of (without_word (codes "desc") text)
-  where
-    of : (o : Option (List ℕ)) → or_descending text o ≡ of_words text o (without_word (codes "asc") text)
-    of None = refl
-    of (Some name) = refl
-
-directed_to : (text : List ℕ) → IsDirected text (directed text).name (directed text).direction
-directed_to text =
-    subst (λ (on : SortName). IsDirected text on.name on.direction) (sym (by_words text))
-    (by (without_word (codes "desc") text) refl (without_word (codes "asc") text) refl)
-  where
-    none : (word : List ℕ) → without_word word text ≡ None → (name : List ℕ) → IsBeforeWord word text name → ⊥
-    none word e name is = let found = word_from word text name is in absurd (cc)
-
-    by : (o : Option (List ℕ)) → without_word (codes "desc") text ≡ o
-        → (p : Option (List ℕ)) → without_word (codes "asc") text ≡ p
-        → IsDirected text (of_words text o p).name (of_words text o p).direction
-    by (Some name) e p f = descending name (word_to (codes "desc") text name e)
-    by None e (Some name) f = ascending name (word_to (codes "asc") text name f)
-    by None e None f = undirected (none (codes "desc") e) (none (codes "asc") f)
-
-directed_from : (text name : List ℕ) (direction : Direction) → IsDirected text name direction
-    → directed text ≡ record { name = name; direction = direction }
-directed_from text _ _ (descending name is) = ap (or_descending text) (word_from (codes "desc") text name is)
-directed_from text _ _ (ascending name is) =
-    none (without_word (codes "desc") text) refl
-    ∙ ap (or_ascending text) (word_from (codes "asc") text name is)
-  where
-    none : (o : Option (List ℕ)) → without_word (codes "desc") text ≡ o
-        → or_descending text o ≡ or_ascending text (without_word (codes "asc") text)
-    none None e = refl
-    none (Some other) e = absurd (one_word text other name (word_to (codes "desc") text other e) is)
-directed_from text _ _ (undirected no_desc no_asc) =
-    by_words text ∙ none (without_word (codes "desc") text) refl (without_word (codes "asc") text) refl
-  where
-    none : (o : Option (List ℕ)) → without_word (codes "desc") text ≡ o → (p : Option (List ℕ))
-        → without_word (codes "asc") text ≡ p → of_words text o p ≡ record { name = text; direction = Ascending }
-    none None e None f = refl
-    none (Some name) e p f = absurd (no_desc name (word_to (codes "desc") text name e))
-    none None e (Some name) f = absurd (no_asc name (word_to (codes "asc") text name f))
 
 -- ---- a part
 

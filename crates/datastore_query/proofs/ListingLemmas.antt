@@ -1,15 +1,13 @@
 -- A query's page is what the rules say.
-use Rattle.std.proofs.Common.{◌≡◌, ◌∙◌, ◌↔◌, ℕ, Bool, true, false, cond, List, [], ◌∷◌, ◌++◌, ap, drop, inl, inr, length}
+use Rattle.std.proofs.Common.{◌≡◌, ◌∙◌, ◌↔◌, ℕ, Bool, true, false, List, [], ◌∷◌, ◌++◌, ap, drop, inl, inr, length}
 use Rattle.std.proofs.Common.{map, refl, subst, sym, take}
 use Rattle.std.specs.Prelude.{Contains}
 use Rattle.std.specs.declared.cmp.Ordering.{Ordering}
 use Rattle.std.specs.declared.cmp.Ordering.TheVariants.{Less, Equal, Greater}
 use Rattle.std.specs.Cmp.{nat_cmp_is}
 use Rattle.std.specs.List.Sorted.{IsPermutation}
-use Rattle.std.specs.Ordering.{is_lt, ordering_then}
-use Rattle.std.proofs.lemmas.List.Sorted.{IsPermutation-cons, IsPermutation-middle, IsPermutation-refl}
-use Rattle.std.proofs.lemmas.List.Sorted.{IsPermutation-trans}
-use Rattle.portal_base.specs.Ordered.{IsAscending, ascending, inserted}
+use Rattle.std.specs.Ordering.{ordering_then}
+use Rattle.portal_base.specs.Ordered.{IsAscending}
 use Rattle.portal_base.proofs.Filtered.{IsIn-filter, filter-IsIn}
 use Rattle.portal_base.proofs.Inserted.{IsAscending-ascending}
 use Rattle.portal_base.proofs.Unique.{Contains-IsIn, IsIn, IsIn-Contains, IsIn-ascending, ascending-IsIn, unique}
@@ -21,6 +19,8 @@ use Rattle.datastore_table.proofs.KeyLemmas.{cells-is, cells-itself}
 use Rattle.datastore_table.proofs.PairLemmas.{AllPairs-weaker, ascending_pairs, pairs_ascending}
 use Rattle.datastore_table.proofs.RowLemmas.{both_hold}
 use Rattle.datastore_table.proofs.RuleLemmas.{less-from}
+use Rattle.sorted_pages.proofs.PageLemmas.{parts_are}
+use Rattle.sorted_pages.proofs.SelectLemmas.{ascending-permutes}
 use Rattle.datastore_query.specs.declared.sort.Sort.{Sort}
 use Rattle.datastore_query.specs.Column.{projected}
 use Rattle.datastore_query.specs.Listing.{AreListed, AreSelectedInOrder, AreTied, ComesBefore, IsPage, IsSelected}
@@ -28,7 +28,7 @@ use Rattle.datastore_query.specs.Query.{QueryValue, firsts, firsts_if, is_select
 use Rattle.datastore_query.specs.Filter.{passes_filters}
 use Rattle.datastore_query.specs.Sort.{in_order, sort_cmp, sorts_cmp, sorts_cmp_total}
 use Rattle.datastore_query.specs.Words.{has_words}
-use Rattle.datastore_query.proofs.FirstsLemmas.{firsts_are, parts_are}
+use Rattle.datastore_query.proofs.FirstsLemmas.{firsts_are}
 use Rattle.datastore_query.proofs.OrderLemmas.{apart-ascending}
 use Rattle.datastore_query.proofs.PassingLemmas.{filters_by_values, words_by_texts}
 use Rattle.datastore_query.proofs.RowLemmas.{ascending_filtered}
@@ -222,25 +222,6 @@ page_by_rules query rows page total up = (to, is-page query rows page total up)
         (subst (λ cells. IsPage query rows cells (length (listing query rows))) e.0 (page-is query rows up))
 
 -- ---- each row as often
-
-inserted-permutes : {X : Type 0} (cmp : X → X → Ordering) (x : X) (xs : List X)
-    → IsPermutation (x ∷ xs) (inserted cmp x xs)
-inserted-permutes cmp x [] = IsPermutation-refl (x ∷ [])
-inserted-permutes {X} cmp x (y ∷ ys) = by (is_lt (cmp y x)) (inserted-permutes cmp x ys)
-  where
-    by : (b : Bool) → IsPermutation (x ∷ ys) (inserted cmp x ys)
-        → IsPermutation (x ∷ y ∷ ys) (cond b (y ∷ inserted cmp x ys) (x ∷ y ∷ ys))
-    by true more =
-        IsPermutation-trans (x ∷ y ∷ ys) (y ∷ x ∷ ys) (y ∷ inserted cmp x ys) (IsPermutation-middle (x ∷ []) y ys)
-        (IsPermutation-cons y (x ∷ ys) (inserted cmp x ys) more)
-    by false more = IsPermutation-refl (x ∷ y ∷ ys)
-
-ascending-permutes : {X : Type 0} (cmp : X → X → Ordering) (xs : List X) → IsPermutation xs (ascending cmp xs)
-ascending-permutes cmp [] = IsPermutation-refl []
-ascending-permutes cmp (x ∷ xs) =
-    IsPermutation-trans (x ∷ xs) (x ∷ ascending cmp xs) (inserted cmp x (ascending cmp xs))
-    (IsPermutation-cons x xs (ascending cmp xs) (ascending-permutes cmp xs))
-    (inserted-permutes cmp x (ascending cmp xs))
 
 pub order_permutes : (sorts : List Sort) (rows : List Row) → IsPermutation rows (in_order sorts rows)
 order_permutes sorts rows = ascending-permutes (sorts_cmp sorts) rows

@@ -1,14 +1,16 @@
 -- The order of cells of one type is that of their values, and no sort ties two rows with different `_id`s.
-use Rattle.std.proofs.Common.{◌≡◌, ◌∙◌, ℕ, ℤ, false, ◌||◌, List, [], ◌∷◌, refl, sym, ap, ap₂}
+use Rattle.std.proofs.Common.{◌≡◌, ℕ, ℤ, false, List, [], ◌∷◌, refl, sym}
+use Rattle.std.specs.Prelude.{IsTrue}
 use Rattle.std.specs.declared.cmp.Ordering.{Ordering}
 use Rattle.std.specs.declared.cmp.Ordering.TheVariants.{Less, Equal, Greater}
-use Rattle.std.specs.Ordering.{int_cmp, is_eq, nat_cmp, ordering_reverse, ordering_then}
+use Rattle.std.specs.Ordering.{int_cmp, is_eq, nat_cmp, ordering_then}
 use Rattle.std.specs.Cmp.Lexicographic.{slice_cmp}
 use Rattle.table_schema.specs.Order.{cell_cmp}
 use Rattle.table_schema.specs.declared.cell.Cell.TheVariants as cell
-use Rattle.std.specs.List.{list_any}
-use Rattle.portal_base.specs.Ordered.{IsAscending, IsBelowAll}
+use Rattle.portal_base.specs.Ordered.{IsAscending, are_apart}
 use Rattle.portal_base.proofs.Inserted.{AreApart}
+use Rattle.portal_base.proofs.Removed.{AreApart-are_apart}
+use Rattle.sorted_pages.proofs.SelectLemmas.{finer-apart}
 use Rattle.datastore_table.specs.declared.row.Row.{Row}
 use Rattle.datastore_table.specs.Rows.{row_cmp, row_cmp_total}
 use Rattle.datastore_query.specs.declared.sort.Sort.{Sort}
@@ -31,11 +33,6 @@ pub number_order : (x y : ℤ) → int_cmp x y ≡ cell_cmp (cell.Number x) (cel
 unfolding cell_cmp
 number_order x y = sym (then_equal (int_cmp x y))
 
-above : (r : Ordering) → r ≡ Less → ordering_reverse r ≡ Greater
-above Less e = refl
-above Equal e = absurd (cc)
-above Greater e = absurd (cc)
-
 not_tied : (r s : Ordering) → is_eq s ≡ false → is_eq (ordering_then r s) ≡ false
 not_tied Less s h = refl
 not_tied Equal s h = h
@@ -47,14 +44,10 @@ apart_rows [] x y h = h
 apart_rows (sort ∷ sorts) x y h =
     not_tied (sort_cmp sort x y) (sorts_cmp sorts x y) (apart_rows sorts x y h)
 
-none_alike : (sorts : List Sort) (x : Row) (ys : List Row) → IsBelowAll row_cmp x ys
-    → list_any (λ y. is_eq (sorts_cmp sorts y x)) ys ≡ false
-none_alike sorts x [] below = refl
-none_alike sorts x (y ∷ ys) below =
-    let back : row_cmp y x ≡ Greater =
-    row_cmp_total.antisymm y x ∙ above (row_cmp x y) below.0 in
-    ap₂ (λ a b. a || b) (apart_rows sorts y x (ap is_eq back)) (none_alike sorts x ys below.1)
+pub ascending_apart : (sorts : List Sort) (rows : List Row) → IsAscending row_cmp rows
+    → IsTrue (are_apart (sorts_cmp sorts) rows)
+ascending_apart sorts rows up =
+    finer-apart row_cmp row_cmp_total (sorts_cmp sorts) (apart_rows sorts) rows up
 
 pub apart-ascending : (sorts : List Sort) (rows : List Row) → IsAscending row_cmp rows → AreApart (sorts_cmp sorts) rows
-apart-ascending sorts [] up = tt
-apart-ascending sorts (row ∷ rows) up = (none_alike sorts row rows up.0, apart-ascending sorts rows up.1)
+apart-ascending sorts rows up = AreApart-are_apart (sorts_cmp sorts) rows (ascending_apart sorts rows up)

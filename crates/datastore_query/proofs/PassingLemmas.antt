@@ -22,7 +22,7 @@ use Rattle.datastore_query.specs.declared.column.Column.TheVariants as column
 use Rattle.datastore_query.specs.declared.filter.Filter.{Filter}
 use Rattle.datastore_query.specs.Filter.{has_value, is_id, passes_filter, passes_filters}
 use Rattle.datastore_query.specs.Passing.{HasWord, HasWords, HaveWord, IsAfterWord, IsBeforeWord, PassesFilters, value_at}
-use Rattle.datastore_query.proofs.SelectLemmas.{IsIn-back, IsIn-either, IsIn-front}
+use Rattle.sorted_pages.proofs.MemberLemmas.{IsIn-back, IsIn-either, IsIn-front}
 use Rattle.datastore_query.specs.Words.{cell_tokens, has_word, has_words, row_tokens}
 
 -- ---- filters

@@ -2,10 +2,12 @@
 use Rattle.std.proofs.Common.{◌≡◌, ◌∙◌, ℕ, zero, suc, ◌+◌, ◌<◌, Bool, List, [], ◌∷◌, arith, drop, filter, length, map}
 use Rattle.std.proofs.Common.{◌==◌, true, ap, min, refl, sym, take}
 use Rattle.std.proofs.lemmas.Bool.{eqb-true}
-use Rattle.std.proofs.lemmas.List.{drop-map, drop-take, take-map, take-take, take_all, take_min}
+use Rattle.std.proofs.lemmas.List.{drop-map, take-map, take_all}
 use Rattle.portal_base.specs.Ordered.{IsAscending}
 use Rattle.portal_base.proofs.Filtered.{IsAscending-filter}
 use Rattle.portal_base.proofs.Upserted.{ascending-same}
+use Rattle.sorted_pages.proofs.PageLemmas.{page_of_first}
+use Rattle.sorted_pages.proofs.SelectLemmas.{ascending-length}
 use Rattle.table_schema.specs.Field.{FieldValue}
 use Rattle.datastore_table.specs.declared.row.Row.{Row}
 use Rattle.datastore_table.specs.Rows.{row_cmp, row_cmp_total}
@@ -13,7 +15,6 @@ use Rattle.datastore_query.specs.declared.column.Column.TheVariants as column
 use Rattle.datastore_query.specs.declared.sort.Sort.{Sort}
 use Rattle.datastore_query.specs.Column.{field_columns_from}
 use Rattle.datastore_query.specs.Sort.{in_order, sorts_cmp}
-use Rattle.datastore_query.proofs.SelectLemmas.{ascending-length}
 
 pub ascending_filtered : (p : Row → Bool) (rows : List Row) → IsAscending row_cmp rows
     → IsAscending row_cmp (filter p rows)
@@ -38,13 +39,8 @@ pub page_within : (sorts : List Sort) (limit offset end : ℕ) (rows first : Lis
     → end ≡ min (offset + limit) (length rows) → first ≡ take end (in_order sorts rows)
     → take limit (drop offset first) ≡ take limit (drop offset (in_order sorts rows))
 page_within sorts limit offset end rows first at is =
-    let ordered : List Row = in_order sorts rows in
-    let long : length ordered ≡ length rows = ascending-length (sorts_cmp sorts) rows in
-    let up_to : first ≡ take (offset + limit) ordered =
-    is ∙ ap (λ n. take n ordered) (at ∙ ap (min (offset + limit)) (sym long)) ∙ take_min (offset + limit) ordered in
-    ap (λ (rs : List Row). take limit (drop offset rs)) up_to
-    ∙ ap (take limit) (drop-take offset limit ordered)
-    ∙ take-take limit limit (drop offset ordered) (omega arith)
+    page_of_first limit offset end (in_order sorts rows) first
+    (at ∙ ap (min (offset + limit)) (sym (ascending-length (sorts_cmp sorts) rows))) is
 
 pub all_in_order : (sorts : List Sort) (rows : List Row) → take (length rows) (in_order sorts rows) ≡ in_order sorts rows
 all_in_order sorts rows =

@@ -1,7 +1,8 @@
 -- What a query lists of a table: which rows, in which order, which of equal ones, and which part of them is its page.
-use Rattle.std.specs.Prelude.{◌≡◌, ◌⊎◌, ◌↔◌, ◌<◌, ◌≤◌, ℕ, Bool, true, false, List, [], ◌∷◌, ◌++◌, AllPairs, Contains}
-use Rattle.std.specs.Prelude.{length, map, min}
+use Rattle.std.specs.Prelude.{◌≡◌, ◌⊎◌, ◌↔◌, ◌<◌, ℕ, Bool, true, false, List, ◌∷◌, ◌++◌, AllPairs, Contains}
+use Rattle.std.specs.Prelude.{length, map}
 use Rattle.std.specs.declared.cmp.Ordering.TheVariants.{Less, Equal}
+use Rattle.sorted_pages.specs.Page.{IsPart}
 use Rattle.table_schema.specs.declared.cell.Cell.{Cell}
 use Rattle.datastore_table.specs.declared.row.Row.{Row}
 use Rattle.datastore_query.specs.declared.sort.Sort.{Sort}
@@ -57,15 +58,6 @@ pub data AreListed (rows : List (List Cell)) : Bool → List (List Cell) → Typ
   distinct_rows : (firsts : List (List Cell)) → AreFirsts rows firsts → AreListed rows true firsts
 
 -- ---- the page
-
--- The part of the items from this index on, from 0, of at most `limit` items. It is shorter only where they end.
-pub record IsPart {X : Type 0} (offset limit : ℕ) (items part : List X) : Type 0 where
-  pub before : List X
-  pub after : List X
-  pub whole : items ≡ before ++ (part ++ after)
-  pub start : length before ≡ min offset (length items)
-  pub most : length part ≤ limit
-  pub full : (after ≡ [] → ⊥) → length part ≡ limit
 
 -- A query's page of a table with these rows, and the count of all rows that it lists.
 pub record IsPage (query : QueryValue) (rows : List Row) (page : List (List Cell)) (total : ℕ) : Type 0 where

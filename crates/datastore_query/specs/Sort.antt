@@ -3,10 +3,12 @@ use Rattle.std.specs.Prelude.{ℕ, Bool, if◌then◌else◌, List, [], ◌∷�
 use Rattle.std.specs.Prelude.{option_map, option_to_list, Result, Ok, Err}
 use Rattle.std.specs.List.{list_any}
 use Rattle.std.specs.declared.cmp.Ordering.{Ordering}
-use Rattle.std.specs.Ordering.{flip_args, on, then_cmp}
+use Rattle.std.specs.Ordering.{on, then_cmp}
 use Rattle.std.specs.Cmp.{IsTotalOrder}
-use Rattle.std.proofs.lemmas.Cmp.{back_total, on_total, then_total}
+use Rattle.std.proofs.lemmas.Cmp.{on_total, then_total}
 use Rattle.portal_base.specs.Ordered.{ascending}
+use Rattle.sorted_pages.specs.declared.direction.Direction.{Direction}
+use Rattle.sorted_pages.specs.Direction.{turned, turned_total}
 use Rattle.table_schema.specs.Field.{FieldValue}
 use Rattle.table_schema.specs.Order.{cell_cmp, cell_cmp_total}
 use Rattle.table_schema.specs.declared.cell.Cell.{Cell}
@@ -17,8 +19,6 @@ use Rattle.datastore_query.specs.declared.column.Column.{Column}
 use Rattle.datastore_query.specs.declared.column.Column.TheVariants as column
 use Rattle.datastore_query.specs.declared.sort.Sort.{Sort}
 use Rattle.datastore_query.specs.declared.sort.SortName.{SortName}
-use Rattle.datastore_query.specs.declared.sort_text.Direction.{Direction}
-use Rattle.datastore_query.specs.declared.sort_text.Direction.TheVariants.{Ascending, Descending}
 use Rattle.datastore_query.specs.Column.{column_of, no_field_error}
 use Rattle.datastore_query.specs.SortText.{part_reading, parts_of}
 
@@ -81,10 +81,6 @@ abbrev pub column_cmp : Column → Row → Row → Ordering
 column_cmp column.Id = row_cmp
 column_cmp (column.Field index) = on (row_cell index) cell_cmp
 
-abbrev pub turned : Direction → (Row → Row → Ordering) → Row → Row → Ordering
-turned Ascending cmp = cmp
-turned Descending cmp = flip_args cmp
-
 abbrev pub sort_cmp : Sort → Row → Row → Ordering
 sort_cmp sort = turned sort.direction (column_cmp sort.column)
 
@@ -100,11 +96,6 @@ in_order sorts rows = ascending (sorts_cmp sorts) rows
 pub column_cmp_total : (on_column : Column) → IsTotalOrder (column_cmp on_column)
 column_cmp_total column.Id = row_cmp_total
 column_cmp_total (column.Field index) = on_total (row_cell index) cell_cmp_total
-
-pub turned_total : (direction : Direction) {cmp : Row → Row → Ordering} → IsTotalOrder cmp
-    → IsTotalOrder (turned direction cmp)
-turned_total Ascending o = o
-turned_total Descending o = back_total o
 
 pub sorts_cmp_total : (sorts : List Sort) → IsTotalOrder (sorts_cmp sorts)
 sorts_cmp_total [] = row_cmp_total

@@ -5,13 +5,13 @@
 --     part   = *white [ name [ 1*white ( "asc" / "desc" ) ] ] *white
 --     name   = quoted / bare
 --     quoted = %x22 *( any byte but %x22 ) %x22
-use Rattle.std.specs.Prelude.{◌≡◌, ℕ, ◌<◌, ◌==◌, Bool, false, true, ◌&&◌, not, List, [], ◌∷◌, ◌++◌, codes, length}
+use Rattle.std.specs.Prelude.{◌≡◌, ℕ, ◌==◌, Bool, false, true, ◌&&◌, not, List, [], ◌∷◌, ◌++◌}
 use Rattle.std.specs.Prelude.{Option, Some, None}
 use Rattle.std.specs.List.{list_any}
-use Rattle.std.specs.Str.{trim, trim_end}
+use Rattle.std.specs.Str.{trim}
+use Rattle.sorted_pages.specs.declared.direction.Direction.{Direction}
+use Rattle.sorted_pages.specs.Direction.{IsDirected}
 use Rattle.datastore_query.specs.declared.sort.SortName.{SortName}
-use Rattle.datastore_query.specs.declared.sort_text.Direction.{Direction}
-use Rattle.datastore_query.specs.declared.sort_text.Direction.TheVariants.{Ascending, Descending}
 use Rattle.datastore_query.specs.SortText.{is_quote}
 
 -- ---- double quotes
@@ -35,20 +35,6 @@ pub data IsOpen : List ℕ → Type 0 where
   opened : (before inside : List ℕ) → IsClosed before → HasNoQuote inside → IsOpen (before ++ 34 ∷ inside)
 
 -- ---- one part
-
--- The text is the name, white space and the word.
-pub record IsBeforeWord (word text name : List ℕ) : Type 0 where
-  pub front : List ℕ
-  pub whole : text ≡ front ++ word
-  pub trimmed : name ≡ trim_end front
-  pub white : length name < length front
-
--- The text is what names a column, with or without a direction after it. Without one, rows ascend.
-pub data IsDirected (text : List ℕ) : List ℕ → Direction → Type 0 where
-  descending : (name : List ℕ) → IsBeforeWord (codes "desc") text name → IsDirected text name Descending
-  ascending : (name : List ℕ) → IsBeforeWord (codes "asc") text name → IsDirected text name Ascending
-  undirected : ((name : List ℕ) → IsBeforeWord (codes "desc") text name → ⊥)
-      → ((name : List ℕ) → IsBeforeWord (codes "asc") text name → ⊥) → IsDirected text text Ascending
 
 -- The text is the name in double quotes, or the name alone.
 pub data IsName : List ℕ → List ℕ → Type 0 where

@@ -1,12 +1,12 @@
 -- The text of a sort. Commas separate its parts. Each part is a name, in double quotes or not, with or without a
 -- direction after it. White space is Unicode's White_Space.
-use Rattle.std.specs.Prelude.{ℕ, ◌+◌, ◌-◌, ◌==◌, nat_lt, nat_le, Bool, false, ◌&&◌, ◌||◌, not, if◌then◌else◌}
-use Rattle.std.specs.Prelude.{List, [], ◌∷◌, codes, fold, length, take, drop, slice_index, Option, Some, None}
+use Rattle.std.specs.Prelude.{ℕ, ◌+◌, ◌-◌, ◌==◌, nat_le, Bool, false, ◌&&◌, ◌||◌, not, if◌then◌else◌}
+use Rattle.std.specs.Prelude.{List, [], ◌∷◌, fold, length, take, drop, slice_index, Option, Some, None}
 use Rattle.std.specs.Prelude.{option_map}
 use Rattle.std.specs.List.{list_any}
-use Rattle.std.specs.Str.{bytes_eq, trim, trim_end}
+use Rattle.std.specs.Str.{trim}
+use Rattle.sorted_pages.specs.Direction.{DirectedName, directed}
 use Rattle.datastore_query.specs.declared.sort.SortName.{SortName}
-use Rattle.datastore_query.specs.declared.sort_text.Direction.TheVariants.{Ascending, Descending}
 
 -- ---- parts
 
@@ -47,31 +47,6 @@ is_unclosed text = fold quoted_after false text
 
 -- ---- one part
 
-abbrev pub if_shorter : List ℕ → List ℕ → Option (List ℕ)
-if_shorter name front = if nat_lt (length name) (length front) then Some name else None
-
-abbrev pub before_space : List ℕ → Option (List ℕ)
-before_space front = if_shorter (trim_end front) front
-
--- the text before the word, if the text ends with white space and the word; the white space is trimmed
-abbrev pub without_word : List ℕ → List ℕ → Option (List ℕ)
-without_word word text =
-    if nat_le (length word) (length text) && bytes_eq (drop (length text - length word) text) word
-    then before_space (take (length text - length word) text)
-    else None
-
-abbrev pub or_ascending : List ℕ → Option (List ℕ) → SortName
-or_ascending text None = record { name = text; direction = Ascending }
-or_ascending text (Some name) = record { name = name; direction = Ascending }
-
-abbrev pub or_descending : List ℕ → Option (List ℕ) → SortName
-or_descending text None = or_ascending text (without_word (codes "asc") text)
-or_descending text (Some name) = record { name = name; direction = Descending }
-
--- the text without the `asc` or `desc` at its end, and the direction
-abbrev pub directed : List ℕ → SortName
-directed text = or_descending text (without_word (codes "desc") text)
-
 -- the text between the first and the last byte
 abbrev pub inner : List ℕ → List ℕ
 inner text = take (length text - 2) (drop 1 text)
@@ -86,7 +61,7 @@ is_between_quotes text =
 abbrev pub name_of : List ℕ → List ℕ
 name_of text = if is_between_quotes text then inner text else text
 
-abbrev pub named : SortName → SortName
+abbrev pub named : DirectedName → SortName
 named part = record { name = name_of part.name; direction = part.direction }
 
 abbrev pub is_empty_text : List ℕ → Bool

@@ -1,6 +1,5 @@
 //! The order of rows by the columns of a sort.
-ghost use Rattle.std.specs.Prelude.{◌≡◌, ◌<◌, IfOk, length, take};
-ghost use Rattle.std.specs.List.Sorted.{IsPermutation, IsSorted};
+ghost use Rattle.std.specs.Prelude.{◌≡◌, IfOk, take};
 ghost use Rattle.portal_base.specs.Ordered.{IsAscending};
 ghost use Rattle.table_schema.specs.Order.{cell_cmp};
 ghost use Rattle.datastore_table.specs.Cells.{cell_at};
@@ -10,9 +9,11 @@ ghost use Rattle.datastore_query.specs.Sort.{column_cmp, in_order, sort_cmp, sor
 use crate::column::Column;
 use crate::lent_row::LentRow;
 use crate::sort::{Sort, deciding};
-use crate::sort_text::Direction;
 use datastore_table::Row;
 use portal_base::ordered::Ordered;
+use sorted_pages::direction::Direction;
+use sorted_pages::order::{Order, first_in_order};
+use sorted_pages::page::leading;
 use std::alloc::{AllocError, Global};
 use std::cmp::Ordering;
 use table_schema::Cell;
@@ -73,69 +74,29 @@ fn compare(sorts: &[Sort], one: &Row, other: &Row) -> Ordering
     compare_in(Column::Id, one, other)
 }
 
-fn compare_lent(sorts: &[Sort], one: &LentRow, other: &LentRow) -> Ordering
-    ensures { result ≡ sorts_cmp sorts.now one.now other.now }
-{
-    compare(sorts, one.row(), other.row())
+// The order of rows by the columns of sorts, and last by `_id`.
+#[derive(Drop)]
+struct SortOrder<'s> {
+    sorts: &'s [Sort],
 }
 
-// Sorts rows. It takes no memory.
-fn put_in_order(rows: &mut [LentRow], sorts: &[Sort])
-    ensures permutation { IsPermutation rows.old rows.new }
-    ensures sorted { IsSorted (sorts_cmp sorts.now) rows.new }
-{
-    rows.sort_unstable_by(
-        |one: &LentRow, other: &LentRow| -> Ordering
-            ensures { result ≡ sorts_cmp sorts.entry.now one.now other.now }
-        { compare_lent(sorts, one, other) },
-    );
-}
+impl<'s, 'a> Order<LentRow<'a>> for SortOrder<'s> {
+    ghost use Rattle.datastore_query.specs.Sort.{sorts_cmp, sorts_cmp_total};
 
-// Moves this many of the first rows in the order to the front, and sorts these alone. It takes no memory.
-fn select_first<'s, 'a>(
-    rows: &'s mut [LentRow<'a>],
-    sorts: &[Sort],
-    count: usize,
-) -> &'s [LentRow<'a>]
-    requires ascending { IsAscending row_cmp rows.old }
-    requires more { count < length rows.old }
-    ensures { result.now ≡ take count (in_order sorts.now rows.old) }
-{
-    let (front, _, _) = rows.select_nth_unstable_by(
-        count,
-        |one: &LentRow, other: &LentRow| -> Ordering
-            ensures { result ≡ sorts_cmp sorts.entry.now one.now other.now }
-        { compare_lent(sorts, one, other) },
-    );
-    put_in_order(front, sorts);
-    front
-}
+    ghost cmp = { λ order. sorts_cmp order.sorts.now };
 
-// This many of the first rows in the order, or all rows if there are fewer. It takes no memory.
-fn first_by<'s, 'a>(rows: &'s mut [LentRow<'a>], sorts: &[Sort], count: usize) -> &'s [LentRow<'a>]
-    requires { IsAscending row_cmp rows.old }
-    ensures { result.now ≡ take count (in_order sorts.now rows.old) }
-{
-    if count < rows.len() {
-        select_first(rows, sorts, count)
-    } else {
-        put_in_order(rows, sorts);
-        rows
+    ghost total = { λ order. sorts_cmp_total order.sorts.now };
+
+    fn compare(&self, one: &LentRow<'a>, other: &LentRow<'a>) -> Ordering {
+        compare(self.sorts, one.row(), other.row())
     }
-}
-
-// This many of the first rows, or all rows if there are fewer.
-fn leading<'s, 'a>(rows: &'s [LentRow<'a>], count: usize) -> &'s [LentRow<'a>]
-    ensures { result.now ≡ take count rows.now }
-{
-    &rows[..rows.len().min(count)]
 }
 
 /// This many of the first rows in the order of the sorts, or all rows if there are fewer. The rows are in ascending order
 /// of their `_id`. They are compared once by each column, however often the sorts name it, and not at all if the sorts
 /// name none.
-#[tactic(auto, using(crate::proofs::DecidingLemmas::deciding_order))]
-pub(crate) fn first_in_order<'s, 'a>(
+#[tactic(auto, using(crate::proofs::DecidingLemmas::deciding_order, crate::proofs::OrderLemmas::ascending_apart))]
+pub(crate) fn first_by_sorts<'s, 'a>(
     alloc: Global,
     rows: &'s mut [LentRow<'a>],
     sorts: &[Sort],
@@ -148,5 +109,8 @@ pub(crate) fn first_in_order<'s, 'a>(
         return Ok(leading(rows, count));
     }
     let deciding = deciding(alloc, sorts)?;
-    Ok(first_by(rows, deciding.as_slice(), count))
+    let order = SortOrder {
+        sorts: deciding.as_slice(),
+    };
+    Ok(first_in_order(rows, &order, count))
 }

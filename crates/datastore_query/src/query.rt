@@ -18,17 +18,18 @@ use crate::fault::QueryFault;
 use crate::field_names::FieldNames;
 use crate::filter::{Filter, filters_of};
 use crate::lent_row::LentRow;
-use crate::order::first_in_order;
+use crate::order::first_by_sorts;
 use crate::ordered_filter::{passes_filters, with_values_in_order};
 use crate::page::{LentPage, Page};
 use crate::parts::Parts;
-use crate::rows::{PageBounds, lend_again, page_of, projections, selected};
+use crate::rows::{lend_again, projections, selected};
 use crate::sort::{Sort, sorts_of};
 use datastore_table::{Row, Table};
 use portal_base::json_value::Json;
 use portal_base::seq::Seq;
 use portal_base::text::Text;
 use portal_base::tokens::tokens;
+use sorted_pages::page::{PageBounds, page_of};
 use std::alloc::{AllocError, Global};
 use std::marker::Model;
 
@@ -236,7 +237,7 @@ impl Query {
     {
         let total = rows.len() as u64;
         let end = self.bounds().end_within(rows.len());
-        let first = first_in_order(alloc, rows, self.sorts.as_slice(), end)?;
+        let first = first_by_sorts(alloc, rows, self.sorts.as_slice(), end)?;
         let rows = lend_again(alloc, page_of(first, self.bounds()))?;
         Ok(LentPage { rows, total })
     }
@@ -255,7 +256,7 @@ impl Query {
             ≡ length (firsts (are_alike self.now.columns) (in_order self.now.sorts rows.old))) }
     {
         let count = rows.len();
-        let ordered = first_in_order(alloc, rows, self.sorts.as_slice(), count)?;
+        let ordered = first_by_sorts(alloc, rows, self.sorts.as_slice(), count)?;
         let distinct = distinct_rows(alloc, self.columns.as_slice(), ordered)?;
         let rows = lend_again(alloc, page_of(distinct.as_slice(), self.bounds()))?;
         let total = distinct.len() as u64;

@@ -1,5 +1,5 @@
-//! The rows of a query: their selection, their cells, and a page of them.
-ghost use Rattle.std.specs.Prelude.{◌≡◌, ◌+◌, All, IfOk, drop, filter, map, min, take};
+//! The rows of a query: their selection, and their cells.
+ghost use Rattle.std.specs.Prelude.{◌≡◌, All, IfOk, filter, map};
 ghost use Rattle.table_schema.specs.Printed.{IsValue};
 ghost use Rattle.datastore_query.specs.Column.{projected};
 ghost use Rattle.datastore_query.specs.Query.{is_selected};
@@ -14,31 +14,6 @@ use portal_base::seq::Seq;
 use portal_base::text::Text;
 use std::alloc::{AllocError, Global};
 use table_schema::Cell;
-
-/// The bounds of a page: it skips `offset` items and has at most `limit` items.
-#[derive(Clone, Copy)]
-pub(crate) struct PageBounds {
-    pub offset: u64,
-    pub limit: u64,
-}
-
-impl PageBounds {
-    /// How many of this many items are on the page or before it.
-    pub(crate) fn end_within(self, count: usize) -> usize
-        ensures { result ≡ min (self.offset + self.limit) count }
-    {
-        let end = self.offset.saturating_add(self.limit);
-        count.min(end as usize)
-    }
-}
-
-/// The items within the bounds of a page.
-pub(crate) fn page_of<T>(items: &[T], bounds: PageBounds) -> &[T]
-    ensures { result.now ≡ take bounds.limit (drop bounds.offset items.now) }
-{
-    let after = &items[items.len().min(bounds.offset as usize)..];
-    &after[..after.len().min(bounds.limit as usize)]
-}
 
 /// The rows, lent once more.
 pub(crate) fn lend_again<'a>(

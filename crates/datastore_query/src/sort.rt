@@ -8,9 +8,10 @@ ghost use Rattle.datastore_query.specs.Repeats.{deciding};
 
 use crate::column::{Column, add_column, column_of, no_field_error};
 use crate::field_names::FieldNames;
-use crate::sort_text::{Direction, directed, is_unclosed, name_of, split_at_comma};
+use crate::sort_text::{is_unclosed, name_of, split_at_comma};
 use portal_base::seq::Seq;
 use portal_base::text::Text;
+use sorted_pages::direction::{Direction, directed};
 use std::alloc::{AllocError, Global};
 use std::collections::HashSet;
 

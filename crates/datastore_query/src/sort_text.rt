@@ -1,15 +1,8 @@
 //! The parts of a sort's text. Commas separate the parts. Each part is a name, with or without a direction after it.
 ghost use Rattle.std.specs.Prelude.{◌≡◌, ◌<◌, ◌+◌, false, None, Some, length, take, drop, slice_index};
-ghost use Rattle.std.specs.Prelude.{IfSome, IfNone, IsUtf8, option_copied};
-ghost use Rattle.datastore_query.specs.SortText.{comma_from, directed, is_between_quotes};
-ghost use Rattle.datastore_query.specs.SortText.{is_unclosed, name_of, quoted_after, without_word};
-
-/// The direction of a sort.
-#[derive(Clone, Copy, Debug, Drop, PartialEq, Eq)]
-pub enum Direction {
-    Ascending,
-    Descending,
-}
+ghost use Rattle.std.specs.Prelude.{IfSome, IfNone, IsUtf8};
+ghost use Rattle.datastore_query.specs.SortText.{comma_from, is_between_quotes, is_unclosed};
+ghost use Rattle.datastore_query.specs.SortText.{name_of, quoted_after};
 
 // Whether the text after this byte is between double quotes.
 fn quoted_after(quoted: bool, byte: u8) -> bool
@@ -56,33 +49,6 @@ pub(crate) fn is_unclosed(text: &[u8]) -> bool
         quoted = quoted_after(quoted, *byte);
     }
     quoted
-}
-
-// The text before this word, if the text ends with white space and the word. The white space is trimmed.
-fn without_word<'a>(text: &'a str, word: &str) -> Option<&'a str>
-    ensures { option_copied result ≡ without_word word.now text.now }
-{
-    let front = text.strip_suffix(word)?;
-    let name = front.trim_end();
-    if name.len() < front.len() {
-        Some(name)
-    } else {
-        None
-    }
-}
-
-/// The text without the direction at its end, and the direction, which is ascending by default.
-pub(crate) fn directed(text: &str) -> (&str, Direction)
-    ensures text { result.0.now ≡ (directed text.now).name }
-    ensures direction { result.1 ≡ (directed text.now).direction }
-{
-    if let Some(name) = without_word(text, "desc") {
-        return (name, Direction::Descending);
-    }
-    match without_word(text, "asc") {
-        Some(name) => (name, Direction::Ascending),
-        None => (text, Direction::Ascending),
-    }
 }
 
 // Whether the text begins and ends with a double quote and has no other.

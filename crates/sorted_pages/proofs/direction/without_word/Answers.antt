@@ -1,8 +1,8 @@
 use Rattle.std.proofs.Common.{sym, ap, ◌∙◌}
 use Rattle.std.specs.Option.{option_copied}
-use Rattle.datastore_query.proofs.SortLemmas.{before_space-none, before_space-some, without_word-none}
-use Rattle.datastore_query.proofs.SortLemmas.{without_word-some}
-use Rattle.datastore_query.proofs.sort_text.without_word.Goals as goal
+use Rattle.sorted_pages.proofs.DirectionLemmas.{before_space-none, before_space-some, without_word-none}
+use Rattle.sorted_pages.proofs.DirectionLemmas.{without_word-some}
+use Rattle.sorted_pages.proofs.direction.without_word.Goals as goal
 
 pub returns-in_err-front : goal.returns-in_err-front
 returns-in_err-front c =

@@ -1,6 +1,6 @@
 use Rattle.std.proofs.Common.{◌∙◌, ap, sym, take}
 use Rattle.datastore_query.proofs.RowLemmas.{unsorted}
-use Rattle.datastore_query.proofs.order.first_in_order.Goals as goal
+use Rattle.datastore_query.proofs.order.first_by_sorts.Goals as goal
 
 pub returns-then-is_empty : goal.returns-then-is_empty
 returns-then-is_empty c =
