@@ -5,7 +5,7 @@ use Rattle.portal_calls.specs.declared.action.Action.{Action}
 use Rattle.portal_calls.specs.declared.action.Action.TheVariants.{PackageCreate, PackageUpdate, PackagePatch}
 use Rattle.portal_calls.specs.declared.action.Action.TheVariants.{PackageDelete}
 use Rattle.portal_calls.specs.declared.action.Action.TheVariants.{DatasetPurge, PackageShow, PackageList}
-use Rattle.portal_calls.specs.declared.action.Action.TheVariants.{ResourceCreate}
+use Rattle.portal_calls.specs.declared.action.Action.TheVariants.{PackageSearch, ResourceCreate}
 use Rattle.portal_calls.specs.declared.action.Action.TheVariants.{ResourceUpdate, ResourceDelete, ResourceShow}
 use Rattle.portal_calls.specs.declared.action.Action.TheVariants.{OrganizationCreate}
 use Rattle.portal_calls.specs.declared.action.Action.TheVariants.{OrganizationPatch, OrganizationDelete}
@@ -23,6 +23,7 @@ action_name PackageDelete = codes "package_delete"
 action_name DatasetPurge = codes "dataset_purge"
 action_name PackageShow = codes "package_show"
 action_name PackageList = codes "package_list"
+action_name PackageSearch = codes "package_search"
 action_name ResourceCreate = codes "resource_create"
 action_name ResourceUpdate = codes "resource_update"
 action_name ResourceDelete = codes "resource_delete"
@@ -47,7 +48,8 @@ abbrev pub all_actions : List Action
 all_actions =
     PackageCreate ∷ PackageUpdate ∷ PackagePatch
     ∷ PackageDelete ∷ DatasetPurge ∷ PackageShow
-    ∷ PackageList ∷ ResourceCreate ∷ ResourceUpdate
+    ∷ PackageList ∷ PackageSearch
+    ∷ ResourceCreate ∷ ResourceUpdate
     ∷ ResourceDelete ∷ ResourceShow ∷ OrganizationCreate
     ∷ OrganizationPatch ∷ OrganizationDelete ∷ OrganizationShow
     ∷ OrganizationList ∷ OrganizationListForUser ∷ OrganizationMemberCreate
@@ -69,6 +71,7 @@ is_reading PackageDelete = false
 is_reading DatasetPurge = false
 is_reading PackageShow = true
 is_reading PackageList = true
+is_reading PackageSearch = true
 is_reading ResourceCreate = false
 is_reading ResourceUpdate = false
 is_reading ResourceDelete = false

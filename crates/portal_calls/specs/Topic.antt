@@ -6,7 +6,8 @@ use Rattle.portal_calls.specs.declared.action.Action.TheVariants.{OrganizationLi
 use Rattle.portal_calls.specs.declared.action.Action.TheVariants.{OrganizationMemberCreate, OrganizationMemberDelete}
 use Rattle.portal_calls.specs.declared.action.Action.TheVariants.{MemberList, UserList, PackageCreate, PackageUpdate}
 use Rattle.portal_calls.specs.declared.action.Action.TheVariants.{PackagePatch, PackageDelete, DatasetPurge}
-use Rattle.portal_calls.specs.declared.action.Action.TheVariants.{PackageShow, PackageList, ResourceCreate}
+use Rattle.portal_calls.specs.declared.action.Action.TheVariants.{PackageShow, PackageList, PackageSearch}
+use Rattle.portal_calls.specs.declared.action.Action.TheVariants.{ResourceCreate}
 use Rattle.portal_calls.specs.declared.action.Action.TheVariants.{ResourceUpdate, ResourceDelete, ResourceShow}
 use Rattle.portal_calls.specs.declared.action.Action.TheVariants.{DatastoreCreate, DatastoreUpsert, DatastoreInfo}
 use Rattle.portal_calls.specs.declared.action.Action.TheVariants.{DatastoreSearch, DatastoreDelete}
@@ -15,7 +16,7 @@ use Rattle.portal_calls.specs.declared.topic.DatasetAction.TheVariants as datase
 use Rattle.portal_calls.specs.declared.topic.TableAction.TheVariants as table
 use Rattle.portal_calls.specs.declared.topic.QueryAction.TheVariants as query
 use Rattle.portal_calls.specs.declared.topic.Topic.{Topic}
-use Rattle.portal_calls.specs.declared.topic.Topic.TheVariants.{Organizations, Datasets, Tables, Queries}
+use Rattle.portal_calls.specs.declared.topic.Topic.TheVariants.{Organizations, Datasets, Search, Tables, Queries}
 
 abbrev pub topic_of : Action → Topic
 topic_of OrganizationCreate = Organizations organization.OrganizationCreate
@@ -35,6 +36,7 @@ topic_of PackageDelete = Datasets dataset.PackageDelete
 topic_of DatasetPurge = Datasets dataset.DatasetPurge
 topic_of PackageShow = Datasets dataset.PackageShow
 topic_of PackageList = Datasets dataset.PackageList
+topic_of PackageSearch = Search
 topic_of ResourceCreate = Datasets dataset.ResourceCreate
 topic_of ResourceUpdate = Datasets dataset.ResourceUpdate
 topic_of ResourceDelete = Datasets dataset.ResourceDelete

@@ -12,6 +12,7 @@ pub enum Action {
     DatasetPurge,
     PackageShow,
     PackageList,
+    PackageSearch,
     ResourceCreate,
     ResourceUpdate,
     ResourceDelete,
@@ -35,7 +36,7 @@ pub enum Action {
 
 impl Action {
     /// Every action.
-    pub const ALL: [Action; 26] = [
+    pub const ALL: [Action; 27] = [
         Action::PackageCreate,
         Action::PackageUpdate,
         Action::PackagePatch,
@@ -43,6 +44,7 @@ impl Action {
         Action::DatasetPurge,
         Action::PackageShow,
         Action::PackageList,
+        Action::PackageSearch,
         Action::ResourceCreate,
         Action::ResourceUpdate,
         Action::ResourceDelete,
@@ -76,6 +78,7 @@ impl Action {
             Action::DatasetPurge => "dataset_purge",
             Action::PackageShow => "package_show",
             Action::PackageList => "package_list",
+            Action::PackageSearch => "package_search",
             Action::ResourceCreate => "resource_create",
             Action::ResourceUpdate => "resource_update",
             Action::ResourceDelete => "resource_delete",
@@ -116,6 +119,7 @@ impl Action {
             self,
             Action::PackageShow
                 | Action::PackageList
+                | Action::PackageSearch
                 | Action::ResourceShow
                 | Action::OrganizationShow
                 | Action::OrganizationList

@@ -4,6 +4,7 @@
 
 pub mod action;
 pub mod answer;
+pub mod body_values;
 pub mod call;
 pub mod event;
 pub mod stop;

@@ -50,11 +50,12 @@ pub enum QueryAction {
     DatastoreDelete,
 }
 
-/// What an action is about.
+/// What an action is about. A search of datasets is a topic of its own, since it reads the index of their terms.
 #[derive(Clone, Copy)]
 pub enum Topic {
     Organizations(OrganizationAction),
     Datasets(DatasetAction),
+    Search,
     Tables(TableAction),
     Queries(QueryAction),
 }
@@ -94,6 +95,7 @@ impl Topic {
             Action::DatasetPurge => Topic::Datasets(DatasetAction::DatasetPurge),
             Action::PackageShow => Topic::Datasets(DatasetAction::PackageShow),
             Action::PackageList => Topic::Datasets(DatasetAction::PackageList),
+            Action::PackageSearch => Topic::Search,
             Action::ResourceCreate => Topic::Datasets(DatasetAction::ResourceCreate),
             Action::ResourceUpdate => Topic::Datasets(DatasetAction::ResourceUpdate),
             Action::ResourceDelete => Topic::Datasets(DatasetAction::ResourceDelete),

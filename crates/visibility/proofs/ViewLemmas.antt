@@ -47,6 +47,28 @@ pub find-kept : {X : Type 0} (p q : X → Bool) → ((x : X) → (p x && q x) �
 find-kept p q kept xs = find_filter p q xs ∙ find_agree (λ x. p x && q x) p kept xs
 
 -- filtering twice is filtering once
+and_false : (a : Bool) → (a && false) ≡ false
+and_false true = refl
+and_false false = refl
+
+-- What passes a test among what passes another passes both.
+pub filter_both : {X : Type 0} (p q r : X → Bool) → ((x : X) → r x ≡ (p x && q x)) → (xs : List X)
+    → filter p (filter q xs) ≡ filter r xs
+filter_both p q r both [] = refl
+filter_both {X} p q r both (x ∷ xs) = by (p x) refl (q x) refl (filter_both p q r both xs)
+  where
+    by : (a : Bool) → p x ≡ a → (b : Bool) → q x ≡ b → filter p (filter q xs) ≡ filter r xs
+        → filter p (filter q (x ∷ xs)) ≡ filter r (x ∷ xs)
+    by a pa false qb rest =
+        let no : r x ≡ false = both x ∙ ap (λ b. p x && b) qb ∙ and_false (p x) in
+        rw (qb, no) rest
+    by true pa true qb rest =
+        let yes : r x ≡ true = both x ∙ ap (λ b. p x && b) qb ∙ ap (λ a. a && true) pa in
+        rw (qb, yes, pa) (ap (λ ys. x ∷ ys) rest)
+    by false pa true qb rest =
+        let no : r x ≡ false = both x ∙ ap (λ a. a && q x) pa in
+        rw (qb, no, pa) rest
+
 pub filter_twice : {X : Type 0} (q : X → Bool) (xs : List X) → filter q (filter q xs) ≡ filter q xs
 filter_twice q [] = refl
 filter_twice {X} q (x ∷ xs) = by (q x) refl (filter_twice q xs)

@@ -7,5 +7,6 @@ pub mod laws;
 pub mod lookup;
 pub mod permissions;
 mod predicates;
+pub mod public_counts;
 pub mod table_lookup;
 pub mod viewer;

@@ -1,7 +1,7 @@
 //! Predicates on datasets, for walks over the shelf.
 ghost use Rattle.std.specs.Prelude.{◌≡◌};
 
-use crate::permissions::is_public;
+use crate::permissions::{Standing, is_public};
 use packages::package::Package;
 use packages::walk::Test;
 use portal_base::text::Text;
@@ -36,20 +36,20 @@ impl<'a> Test for IsOwnedBy<'a> {
     }
 }
 
-/// Whether a dataset belongs to the organization and is public.
+/// Whether the caller sees a dataset that passes a test.
 #[derive(Drop)]
-pub(crate) struct IsPublicIn<'a> {
-    pub org: &'a Text,
+pub(crate) struct IsSeenAnd<'a, T> {
+    pub standing: &'a Standing<'a>,
+    pub test: &'a T,
 }
 
-impl<'a> Test for IsPublicIn<'a> {
+impl<'a, T: Test> Test for IsSeenAnd<'a, T> {
     ghost use Rattle.std.specs.Prelude.{◌&&◌};
-    ghost use Rattle.std.specs.Str.{bytes_eq};
-    ghost use Rattle.visibility.specs.Visibility.{is_public};
+    ghost use Rattle.visibility.specs.Visibility.{sees_in};
 
-    ghost test = { λ own d. bytes_eq d.owner_org own.org.now && is_public d };
+    ghost test = { λ own d. T.test own.test.now d && sees_in own.standing.now.people own.standing.now.caller d };
 
     fn passes(&self, dataset: &Package) -> bool {
-        dataset.owner_org == *self.org && is_public(dataset)
+        self.test.passes(dataset) && self.standing.sees(dataset)
     }
 }

@@ -1,25 +1,27 @@
 //! A caller and the state that it asks about. Each look-up returns what the caller's view contains, and builds no view.
-ghost use Rattle.std.specs.Prelude.{◌≡◌, ◌<◌, ℕ, List, IfOk, IfSome, IsTrue, find, length, option_map};
+ghost use Rattle.std.specs.Prelude.{◌≡◌, ◌<◌, ◌&&◌, ℕ, List, IfOk, IfSome, IsTrue, filter, find, length, option_map};
 ghost use Rattle.std.specs.Option.{option_copied};
 ghost use Rattle.org_roles.specs.PeopleLists.{is_sysadmin_in, is_user_in, org_in, role_in};
 ghost use Rattle.std.specs.List.{list_all};
+ghost use Rattle.std.specs.Str.{bytes_eq};
 ghost use Rattle.visibility.specs.View.{administers, public_count, datasets_seen, edits_somewhere, has_datasets};
 ghost use Rattle.visibility.specs.View.{public_names};
 ghost use Rattle.visibility.specs.Viewer.{datasets_for, people_for};
-ghost use Rattle.visibility.specs.Visibility.{caller_role, is_public_if_harvested, may_edit_in};
+ghost use Rattle.visibility.specs.Visibility.{caller_role, is_public_if_harvested, may_edit_in, sees_in};
 ghost use Rattle.packages.specs.Named.{is_named, resource_named};
 ghost use Rattle.packages.specs.LocatedResource.{located_now};
 ghost use Rattle.packages.specs.Owners.{count_at};
 ghost use Rattle.packages.specs.Shelf.{IsValidShelf, datasets_of};
 
 use crate::permissions::Standing;
-use crate::predicates::{IsOwnedBy, IsPublic, IsPublicIn};
+use crate::predicates::{IsOwnedBy, IsPublic, IsSeenAnd};
 use org_roles::entry::{Membership, Org, User};
 use org_roles::people::People;
 use org_roles::role::Role;
 use packages::named::{LocatedResource, dataset_part, resource_in};
 use packages::package::Package;
 use packages::shelf::Shelf;
+use packages::walk::Test;
 use portal_base::caller::Caller;
 use portal_base::seq::Seq;
 use portal_base::text::Text;
@@ -185,12 +187,29 @@ impl<'a> Viewer<'a> {
         Ok(Seq::from(self.shelf.names_of(alloc, &IsPublic)?))
     }
 
-    /// The number of the organization's public datasets.
-    #[tactic(auto, using(crate::proofs::PublicLemmas::public_count_seen))]
-    pub fn public_count(&self, org: &Text) -> usize
-        ensures { result ≡ public_count org.now (datasets_for self.now) }
+    /// Whether the caller sees the dataset.
+    pub fn sees(&self, dataset: &Package) -> bool
+        ensures { result ≡ sees_in self.now.people self.now.caller dataset.now }
     {
-        self.shelf.count_of(&IsPublicIn { org })
+        self.standing.sees(dataset)
+    }
+
+    /// The numbers of the datasets that the caller sees and that pass the test, by the names of the organizations that own
+    /// them. It walks the datasets once.
+    #[tactic(auto, using(crate::proofs::ViewLemmas::filter_both))]
+    pub fn counts_by_owner<T: Test>(
+        &self,
+        alloc: Global,
+        test: &T,
+    ) -> Result<BTreeMap<Text, usize>, AllocError>
+        ensures { IfOk result (λ counts. (org : List ℕ) → count_at org counts
+            ≡ length (filter (λ d. bytes_eq d.owner_org org && T.test test.now d) (datasets_for self.now))) }
+    {
+        let test = IsSeenAnd {
+            standing: &self.standing,
+            test,
+        };
+        self.shelf.counts_by_owner(alloc, &test)
     }
 
     /// The numbers of the organizations' public datasets, by the organizations' names. It walks the datasets once.
