@@ -1,8 +1,8 @@
 -- The dictionary and the errors of a dataset in the view, given all tables and given those of the view.
 use Rattle.std.proofs.Common.{◌≡◌, inl, inr, ℕ, ◌+◌, ◌==◌, zero, suc, Bool, true, false, not, ◌||◌, List, []}
-use Rattle.std.proofs.Common.{◌∷◌, ◌++◌, Option, Some, None, set, slice_get, refl, sym, ap, ◌∙◌, subst}
+use Rattle.std.proofs.Common.{◌∷◌, ◌++◌, arith, map, Option, Some, None, set, slice_get, refl, sym, ap, ◌∙◌, subst}
 use Rattle.std.specs.Prelude.{codes}
-use Rattle.std.specs.List.{Contains, list_any}
+use Rattle.std.specs.List.{All, Contains, list_any}
 use Rattle.std.specs.Str.{bytes_eq}
 use Rattle.std.proofs.lemmas.Slice.Eq.{bytes_eq-Decides}
 use Rattle.portal_base.specs.KeyErrors.{error_if}
@@ -59,6 +59,17 @@ pub package-view : (people : PeopleLists) (datasets : List Package) (summaries :
     → IsIdAmong d.id datasets
     → package_dictionary people summaries d ≡ package_dictionary people (summaries_seen datasets summaries) d
 package-view people datasets summaries d among = rw (resources-view datasets summaries d.id 0 d.resources among) refl
+
+-- The dictionaries of datasets in the view tell of no table but those of the view.
+pub packages_view : (people : PeopleLists) (datasets : List Package) (summaries : List TableSummary) (ds : List Package)
+    → All (Contains datasets) ds → map (package_dictionary people summaries) ds
+    ≡ map (package_dictionary people (summaries_seen datasets summaries)) ds
+packages_view people datasets summaries [] all = refl
+packages_view people datasets summaries (d ∷ ds) all =
+    ap (λ (j : Json). j ∷ map (package_dictionary people summaries) ds)
+    (package-view people datasets summaries d (id-among d datasets (all 0 d (omega arith))))
+    ∙ ap (λ (l : List Json). package_dictionary people (summaries_seen datasets summaries) d ∷ l)
+    (packages_view people datasets summaries ds (λ k e lt. all (suc k) e (omega (lt, arith))))
 
 -- ---- errors
 

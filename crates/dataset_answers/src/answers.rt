@@ -97,7 +97,7 @@ fn package_show<H: TableLookup>(
         (summaries_seen (context_view context.now).datasets (H.summaries tables.now))) }
 {
     let dataset = dataset_at(alloc, context, "id")?;
-    let shown = package_json(alloc, context, tables, dataset)?;
+    let shown = package_json(alloc, &context.viewer, tables, dataset)?;
     Ok(Answer::Shown(shown))
 }
 
@@ -187,7 +187,7 @@ fn accept_creation(
         (DatasetChange.Create dataset)) }
 {
     let dataset = created_dataset(alloc, context.call, described)?;
-    let shown = package_json(alloc, context, &NoTables, &dataset)?;
+    let shown = package_json(alloc, &context.viewer, &NoTables, &dataset)?;
     Ok(Answer::Accepted(shown, DatasetChange::Create(dataset)))
 }
 
@@ -258,7 +258,7 @@ fn accept_replacement<H: TableLookup>(
         ≡ Answer.Accepted (package_dictionary (context_view context.now).people (H.summaries tables.now) changed)
         (DatasetChange.Replace changed)) }
 {
-    let shown = package_json(alloc, context, tables, &changed)?;
+    let shown = package_json(alloc, &context.viewer, tables, &changed)?;
     Ok(Answer::Accepted(shown, DatasetChange::Replace(changed)))
 }
 

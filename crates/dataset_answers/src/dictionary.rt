@@ -3,7 +3,7 @@ ghost use Rattle.std.specs.Prelude.{◌≡◌, map, IfOk};
 ghost use Rattle.dataset_answers.specs.Dictionary.{organization_title, organization_dictionary};
 ghost use Rattle.dataset_answers.specs.Dictionary.{tag_dictionary, resource_dictionary, resource_dictionaries};
 ghost use Rattle.dataset_answers.specs.Dictionary.{dictionary_with, package_dictionary};
-ghost use Rattle.visibility.specs.CallView.{context_view};
+ghost use Rattle.visibility.specs.Viewer.{people_for};
 
 use packages::named::resource_address;
 use packages::package::{Package, Resource};
@@ -12,13 +12,13 @@ use portal_base::json_value::Json;
 use portal_base::seq::Seq;
 use portal_base::text::Text;
 use std::alloc::{AllocError, Global};
-use visibility::context::CallContext;
 use visibility::table_lookup::TableLookup;
+use visibility::viewer::Viewer;
 
-fn title_of_organization<'a>(context: &CallContext<'a>, name: &Text) -> &'a str
-    ensures { result.now ≡ organization_title (context_view context.now).people name.now }
+fn title_of_organization<'a>(viewer: &Viewer<'a>, name: &Text) -> &'a str
+    ensures { result.now ≡ organization_title (people_for viewer.now) name.now }
 {
-    match context.viewer.org(name) {
+    match viewer.org(name) {
         Some(org) => org.title.as_str(),
         None => "",
     }
@@ -26,12 +26,12 @@ fn title_of_organization<'a>(context: &CallContext<'a>, name: &Text) -> &'a str
 
 fn organization_json<'a>(
     alloc: Global,
-    context: &CallContext<'a>,
+    viewer: &Viewer<'a>,
     name: &'a Text,
 ) -> Result<Json, AllocError>
-    ensures { IfOk result (λ json. json ≡ organization_dictionary (context_view context.now).people name.now) }
+    ensures { IfOk result (λ json. json ≡ organization_dictionary (people_for viewer.now) name.now) }
 {
-    let title = title_of_organization(context, name);
+    let title = title_of_organization(viewer, name);
     Json::dictionary(
         alloc,
         [
@@ -113,14 +113,14 @@ fn resources_json<H: TableLookup>(
 /// The dictionary of a dataset. Its keys are those of CKAN 2.10's package dictionary that the portal has.
 pub fn package_json<H: TableLookup>(
     alloc: Global,
-    context: &CallContext<'_>,
+    viewer: &Viewer<'_>,
     tables: &H,
     dataset: &Package,
 ) -> Result<Json, AllocError>
     ensures { IfOk result (λ json.
-        json ≡ package_dictionary (context_view context.now).people (H.summaries tables.now) dataset.now) }
+        json ≡ package_dictionary (people_for viewer.now) (H.summaries tables.now) dataset.now) }
 {
-    let organization = organization_json(alloc, context, &dataset.owner_org)?;
+    let organization = organization_json(alloc, viewer, &dataset.owner_org)?;
     let resources = resources_json(alloc, tables, &dataset.id, dataset.resources.as_slice())?;
     let tags = tags_json(alloc, dataset.tags.as_slice())?;
     dictionary_with(alloc, dataset, organization, resources, tags)

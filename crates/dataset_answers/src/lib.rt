@@ -4,7 +4,7 @@
 pub mod answers;
 mod bodies;
 pub mod change;
-mod dictionary;
+pub mod dictionary;
 pub mod laws;
 mod lists;
 mod lookup;

@@ -1,5 +1,5 @@
 -- The dictionaries of organizations, roles and users, with keys that ascend by bytes.
-use Rattle.std.specs.Prelude.{ℕ, pos, List, [], ◌∷◌, codes}
+use Rattle.std.specs.Prelude.{◌≡◌, ℕ, pos, List, [], ◌∷◌, codes}
 use Rattle.portal_base.specs.MomentText.{moment_text}
 use Rattle.portal_base.specs.declared.json_value.Json.{Json}
 use Rattle.portal_base.specs.declared.json_value.Json as json
@@ -25,6 +25,10 @@ counted_dictionary count org = json.Map (
 -- an organization, with the count of its public datasets among these
 abbrev pub organization_dictionary : List Package → Org → Json
 organization_dictionary datasets org = counted_dictionary (public_count org.name datasets) org
+
+-- the counts are those of the public datasets among these
+abbrev pub AreCountsOf : List Package → (List ℕ → ℕ) → Type 0
+AreCountsOf datasets counts = (org : List ℕ) → counts org ≡ public_count org datasets
 
 abbrev pub role_name : Role → List ℕ
 role_name Member = codes "member"

@@ -14,7 +14,7 @@ ghost use Rattle.organization_answers.specs.Answers.{answer_to_member_create, an
 ghost use Rattle.organization_answers.specs.Answers.{organization_named, administered_organization};
 ghost use Rattle.organization_answers.specs.Answers.{answer_to_member_list, answer_to_organization_list};
 ghost use Rattle.organization_answers.specs.Answers.{answer_to_organization_list_for_user, answer_to_user_list};
-ghost use Rattle.organization_answers.specs.Dictionary.{member_dictionary};
+ghost use Rattle.organization_answers.specs.Dictionary.{AreCountsOf, member_dictionary};
 
 use crate::bodies::{read_creation, read_former_member, read_member, read_patch, removal_errors};
 use crate::dictionary::{member_json, organization_json};
@@ -32,31 +32,36 @@ use portal_calls::stop::{Stop, answer_or_refusal, authorize, validate, validate_
 use portal_calls::topic::OrganizationAction;
 use std::alloc::{AllocError, Global};
 use visibility::context::CallContext;
+use visibility::public_counts::PublicCounts;
 
-/// The answer to a call of this action.
-pub fn answer(
+/// The answer to a call of this action. An organization's count of public datasets is one of these counts.
+pub fn answer<C: PublicCounts>(
     alloc: Global,
     context: &CallContext<'_>,
+    counts: &C,
     action: OrganizationAction,
 ) -> Result<Answer<OrgChange>, AllocError>
+    requires { AreCountsOf (context_view context.now).datasets (C.counts counts.now) }
     ensures { IfOk result (λ answer. answer ≡ answer_to_action action (context_view context.now)) }
 {
-    answer_or_refusal(answer_to_action(alloc, context, action))
+    answer_or_refusal(answer_to_action(alloc, context, counts, action))
 }
 
 /// The answer to a call of this action, or the stop before it.
-fn answer_to_action(
+fn answer_to_action<C: PublicCounts>(
     alloc: Global,
     context: &CallContext<'_>,
+    counts: &C,
     action: OrganizationAction,
 ) -> Result<Answer<OrgChange>, Stop>
+    requires { AreCountsOf (context_view context.now).datasets (C.counts counts.now) }
     ensures { Answers result (answer_to_action action (context_view context.now)) }
 {
     match action {
-        OrganizationAction::OrganizationCreate => organization_create(alloc, context),
-        OrganizationAction::OrganizationPatch => organization_patch(alloc, context),
+        OrganizationAction::OrganizationCreate => organization_create(alloc, context, counts),
+        OrganizationAction::OrganizationPatch => organization_patch(alloc, context, counts),
         OrganizationAction::OrganizationDelete => organization_delete(alloc, context),
-        OrganizationAction::OrganizationShow => organization_show(alloc, context),
+        OrganizationAction::OrganizationShow => organization_show(alloc, context, counts),
         OrganizationAction::OrganizationList => organization_list(alloc, context),
         OrganizationAction::OrganizationListForUser => organization_list_for_user(alloc, context),
         OrganizationAction::OrganizationMemberCreate => member_create(alloc, context),
@@ -67,13 +72,18 @@ fn answer_to_action(
 }
 
 /// The answer to an `organization_create`.
-fn organization_create(alloc: Global, context: &CallContext<'_>) -> Result<Answer<OrgChange>, Stop>
+fn organization_create<C: PublicCounts>(
+    alloc: Global,
+    context: &CallContext<'_>,
+    counts: &C,
+) -> Result<Answer<OrgChange>, Stop>
+    requires { AreCountsOf (context_view context.now).datasets (C.counts counts.now) }
     ensures { Answers result (answer_to_organization_create (context_view context.now)) }
 {
     authorize(context.viewer.is_sysadmin(), Right::CreateOrganization)?;
     let (faults, org) = read_creation(alloc, &context.call.request.body, context.call.moment)?;
     validate_change(context.quota, faults)?;
-    let shown = organization_json(alloc, context, &org)?;
+    let shown = organization_json(alloc, counts, &org)?;
     Ok(Answer::Accepted(shown, OrgChange::Create(org)))
 }
 
@@ -109,13 +119,18 @@ fn administered_organization<'a>(alloc: Global, context: &CallContext<'a>) -> Re
 // ---- organizations
 
 /// The answer to an `organization_patch`.
-fn organization_patch(alloc: Global, context: &CallContext<'_>) -> Result<Answer<OrgChange>, Stop>
+fn organization_patch<C: PublicCounts>(
+    alloc: Global,
+    context: &CallContext<'_>,
+    counts: &C,
+) -> Result<Answer<OrgChange>, Stop>
+    requires { AreCountsOf (context_view context.now).datasets (C.counts counts.now) }
     ensures { Answers result (answer_to_organization_patch (context_view context.now)) }
 {
     let org = administered_organization(alloc, context)?;
     let (faults, patched) = read_patch(alloc, &context.call.request.body, org)?;
     validate_change(context.quota, faults)?;
-    let shown = organization_json(alloc, context, &patched)?;
+    let shown = organization_json(alloc, counts, &patched)?;
     Ok(Answer::Accepted(shown, OrgChange::Patch(patched)))
 }
 
@@ -131,11 +146,16 @@ fn organization_delete(alloc: Global, context: &CallContext<'_>) -> Result<Answe
 }
 
 /// The answer to an `organization_show`.
-fn organization_show(alloc: Global, context: &CallContext<'_>) -> Result<Answer<OrgChange>, Stop>
+fn organization_show<C: PublicCounts>(
+    alloc: Global,
+    context: &CallContext<'_>,
+    counts: &C,
+) -> Result<Answer<OrgChange>, Stop>
+    requires { AreCountsOf (context_view context.now).datasets (C.counts counts.now) }
     ensures { Answers result (answer_to_organization_show (context_view context.now)) }
 {
     let org = organization_named(alloc, context)?;
-    Ok(Answer::Shown(organization_json(alloc, context, org)?))
+    Ok(Answer::Shown(organization_json(alloc, counts, org)?))
 }
 
 // ---- members

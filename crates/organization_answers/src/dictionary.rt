@@ -1,7 +1,8 @@
 //! The dictionaries of organizations, roles and users.
-ghost use Rattle.std.specs.Prelude.{◌≡◌, IfOk};
+ghost use Rattle.std.specs.Prelude.{◌≡◌, IfOk, List};
+ghost use Rattle.packages.specs.declared.package.Package.{Package};
 ghost use Rattle.organization_answers.specs.Dictionary.{role_name, organization_dictionary, capacity_dictionary};
-ghost use Rattle.organization_answers.specs.Dictionary.{counted_dictionary};
+ghost use Rattle.organization_answers.specs.Dictionary.{AreCountsOf, counted_dictionary};
 ghost use Rattle.organization_answers.specs.Dictionary.{member_dictionary, member_entry};
 ghost use Rattle.visibility.specs.CallView.{context_view};
 
@@ -14,6 +15,7 @@ use portal_base::seq::Seq;
 use portal_base::text::Text;
 use std::alloc::{AllocError, Global};
 use visibility::context::CallContext;
+use visibility::public_counts::PublicCounts;
 
 /// The name of a role.
 pub fn name_of_role(role: Role) -> &'static str
@@ -27,14 +29,15 @@ pub fn name_of_role(role: Role) -> &'static str
 }
 
 /// The dictionary of an organization, with the count of its public datasets.
-pub fn organization_json(
+pub fn organization_json<C: PublicCounts>(
     alloc: Global,
-    context: &CallContext<'_>,
+    counts: &C,
     org: &Org,
 ) -> Result<Json, AllocError>
-    ensures { IfOk result (λ json. json ≡ organization_dictionary (context_view context.now).datasets org.now) }
+    ensures { (datasets : List Package) → AreCountsOf datasets (C.counts counts.now) →
+        IfOk result (λ json. json ≡ organization_dictionary datasets org.now) }
 {
-    counted_json(alloc, org, context.viewer.public_count(&org.name))
+    counted_json(alloc, org, counts.public_count(&org.name) as usize)
 }
 
 /// The dictionary of an organization with this count of public datasets.

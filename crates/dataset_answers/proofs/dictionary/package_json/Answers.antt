@@ -4,7 +4,7 @@ use Rattle.org_roles.specs.PeopleLists.{PeopleLists}
 use Rattle.packages.specs.declared.package.Package.{Package}
 use Rattle.portal_base.specs.declared.json_value.Json.{Json}
 use Rattle.visibility.specs.TableSummary.{TableSummary}
-use Rattle.visibility.specs.CallView.{context_view}
+use Rattle.visibility.specs.Viewer.{people_for}
 use Rattle.dataset_answers.specs.Dictionary.{dictionary_with, organization_dictionary, package_dictionary}
 use Rattle.dataset_answers.specs.Dictionary.{resource_dictionaries, tag_dictionary}
 use Rattle.dataset_answers.proofs.dictionary.package_json.Goals as goal
@@ -26,7 +26,7 @@ returns g c =
     let summaries = g.H.TableLookup.summaries c.args.tables.now in
     let dataset = c.args.dataset.now in
     subst (λ (j : Json). IfOk c.dictionary_with.result (λ shown. shown ≡ j))
-    (made_is (context_view c.args.context.now).people summaries dataset _ _ _ c.in_ok-organization.ensures
+    (made_is (people_for c.args.viewer.now) summaries dataset _ _ _ c.in_ok-organization.ensures
     (c.in_ok-resources.ensures ∙ ap (resource_dictionaries summaries dataset.id 0) c.as_slice.ensures)
     (c.in_ok-tags.ensures ∙ ap (map tag_dictionary) c.as_slice-2.ensures))
     c.dictionary_with.ensures
