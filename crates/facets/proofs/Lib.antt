@@ -1,7 +1,12 @@
 mod ClassLemmas
 mod EntryLemmas
 mod Examples
+mod FieldLemmas
+mod FillLemmas
 mod LawLemmas
+mod LookLemmas
+mod OrderLemmas
+mod PublicLemmas
 mod RunLemmas
 mod SetLemmas
 mod SlotLemmas

@@ -158,12 +158,12 @@ abbrev pub AreCounted : List (List ℕ) → List Facet → Type 0
 AreCounted xs [] = Unit {0}
 AreCounted xs (r ∷ rs) = (r.1 ≡ occurrences xs r.0) × AreCounted xs rs
 
-occurrences-more : (x t : List ℕ) (xs : List (List ℕ)) → bytes_eq x t ≡ true
+pub occurrences-more : (x t : List ℕ) (xs : List (List ℕ)) → bytes_eq x t ≡ true
     → occurrences (x ∷ xs) t ≡ occurrences xs t + 1
 occurrences-more x t xs same =
     ap (λ b. length (cond b (x ∷ filter (λ y. bytes_eq y t) xs) (filter (λ y. bytes_eq y t) xs))) same ∙ omega arith
 
-occurrences-other : (x t : List ℕ) (xs : List (List ℕ)) → bytes_eq x t ≡ false
+pub occurrences-other : (x t : List ℕ) (xs : List (List ℕ)) → bytes_eq x t ≡ false
     → occurrences (x ∷ xs) t ≡ occurrences xs t
 occurrences-other x t xs apart =
     ap (λ b. length (cond b (x ∷ filter (λ y. bytes_eq y t) xs) (filter (λ y. bytes_eq y t) xs))) apart
@@ -187,7 +187,7 @@ occurrences-none t (x ∷ xs) out = by (bytes_eq x t) refl (occurrences-none t x
     by false apart none = occurrences-other x t xs apart ∙ none
 
 -- A text that is below all texts isn't one of them.
-not_in_above : (x : List ℕ) (ys : List (List ℕ)) → IsBelowAll text_cmp x ys → IsIn x ys → ⊥
+pub not_in_above : (x : List ℕ) (ys : List (List ℕ)) → IsBelowAll text_cmp x ys → IsIn x ys → ⊥
 not_in_above x [] below m = absurd m
 not_in_above x (y ∷ ys) below (inl e) =
     let apart : bytes_eq x y ≡ false = below-apart x y below.0 in

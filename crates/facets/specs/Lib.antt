@@ -4,5 +4,7 @@ pub mod Counters
 pub mod Facets
 pub mod Facts
 pub mod Items
+pub mod Request
+pub mod SearchFacets
 pub mod Slots
 pub mod Tally

@@ -1,12 +1,18 @@
 //! Counters: the facts of datasets by id, from which the counts of values are made.
 //!
 //! `prepare` makes room for a dataset. `commit` and `remove` change the counters as the datasets change, and take no memory.
-ghost use Rattle.std.specs.Prelude.{◌≡◌, ◌+◌, ◌++◌, ◌&&◌, ◌||◌, ℕ, [], List, IfOk, IsTrue, OnErr, OnOk, filter, flat_map, length, not};
+ghost use Rattle.std.specs.Prelude.{◌≡◌, ◌+◌, ◌++◌, ◌&&◌, ◌||◌, ℕ, [], List, Some, IfOk, IsTrue, OnErr, OnOk};
+ghost use Rattle.std.specs.Prelude.{filter, flat_map, length, not};
 ghost use Rattle.std.specs.BTreeMap.{IsOrdered, values};
 ghost use Rattle.std.specs.Cmp.Lexicographic.{slice_cmp};
 ghost use Rattle.std.specs.Ordering.{nat_cmp};
 ghost use Rattle.std.specs.Str.{bytes_eq};
-ghost use Rattle.facets.specs.Counters.{class_count, class_counts, entries_with, entries_without, facts_in_classes, has_room};
+ghost use Rattle.packages.specs.Shelf.{IsValidShelf, datasets_of, package_at};
+ghost use Rattle.packages.specs.declared.package.Package.{Package};
+ghost use Rattle.visibility.specs.declared.class.Class.TheVariants.{Public};
+ghost use Rattle.facets.specs.Counters.{StandsFor, class_count, class_counts, entries_with, entries_without};
+ghost use Rattle.facets.specs.Counters.{facts_in_classes, has_room};
+ghost use Rattle.facets.specs.declared.field.FacetField.TheVariants.{Organization};
 ghost use Rattle.facets.specs.Slots.{has_slot, slot_entries, slot_passes, slot_values};
 ghost use Rattle.facets.specs.ClassSet.{has_class};
 ghost use Rattle.facets.specs.Counts.{has_text};
@@ -19,6 +25,7 @@ use crate::field::FacetField;
 use crate::tally::tally;
 use packages::laws::a_set_has_its_texts;
 use packages::package::Package;
+use packages::shelf::Shelf;
 use portal_base::copy::TryClone;
 use portal_base::seq::Seq;
 use portal_base::text::Text;
@@ -26,6 +33,7 @@ use std::alloc::{AllocError, Global};
 use std::collections::BTreeMap;
 use std::marker::Model;
 use visibility::class::Class;
+use visibility::public_counts::PublicCounts;
 
 /// The facts of a dataset, which counters have room for.
 #[derive(Drop)]
@@ -147,6 +155,31 @@ impl Counters {
         }
     }
 
+    /// The counters of a shelf: the facts of each of its datasets.
+    pub fn of(alloc: Global, shelf: &Shelf) -> Result<Counters, AllocError>
+        requires { IsValidShelf shelf.now }
+        ensures { IfOk result (λ counters. StandsFor counters (datasets_of shelf.now)) }
+    {
+        let mut counters = Counters::new(alloc);
+        let numbers = shelf.numbers(alloc)?;
+        for number in numbers.as_slice() {
+            counters.enter(shelf, *number)?;
+        }
+        Ok(counters)
+    }
+
+    /// Enters the facts of the shelf's dataset at a number.
+    fn enter(&mut self, shelf: &Shelf, number: u32) -> Result<(), AllocError>
+        ensures { (dataset : Package) → package_at number shelf.now ≡ Some dataset →
+            OnOk result (self.new.entries ≡ entries_with dataset.id (facts_of dataset) self.old) }
+    {
+        if let Some(dataset) = shelf.package_at(number) {
+            let counts = self.prepare(dataset)?;
+            self.commit(counts);
+        }
+        Ok(())
+    }
+
     /// Makes room for the dataset, and returns its facts. If memory runs out, nothing changes.
     pub fn prepare(&mut self, package: &Package) -> Result<PreparedCounts, AllocError>
         ensures id { IfOk result (λ counts. counts.id ≡ «package».now.id) }
@@ -210,5 +243,13 @@ impl Counters {
     {
         let classes = ClassSet::of(self.alloc, classes)?;
         values_of_slots(self.alloc, &self.slots, &classes, field)
+    }
+}
+
+impl PublicCounts for Counters {
+    ghost counts = { λ counters org. class_count Public Organization org counters };
+
+    fn public_count(&self, org: &Text) -> u64 {
+        self.count(&Class::Public, FacetField::Organization, org.as_str())
     }
 }

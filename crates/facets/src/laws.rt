@@ -1,15 +1,23 @@
 //! Laws of facets and of counters. Each function's contract is a law, and the function does nothing.
-ghost use Rattle.std.specs.Prelude.{◌≡◌, ◌≢◌, ◌<◌, ◌↔◌, ℕ, List, [], Contains, IsTrue, filter};
+ghost use Rattle.std.specs.Prelude.{◌≡◌, ◌≢◌, ◌<◌, ◌≤◌, ◌↔◌, ℕ, List, [], Contains, IsPermutation, IsTrue, filter};
 ghost use Rattle.portal_base.specs.Ordered.{IsAscending, dropped, upserted};
+ghost use Rattle.portal_base.specs.declared.json_value.Json.{Json};
 ghost use Rattle.packages.specs.Order.{dataset_cmp};
 ghost use Rattle.packages.specs.declared.package.Package.{Package};
+ghost use Rattle.visibility.specs.View.{public_count};
 ghost use Rattle.visibility.specs.Visibility.{class_for};
 ghost use Rattle.visibility.specs.declared.class.Class.{Class};
+ghost use Rattle.visibility.specs.declared.class.Class.TheVariants.{Public};
 ghost use Rattle.facets.specs.Counters.{CountersState, StandsFor, class_count, class_counts, entries_with, entries_without};
 ghost use Rattle.facets.specs.Counts.{facet_cmp};
 ghost use Rattle.facets.specs.Facets.{count_of, facet_counts, has_value, texts_in};
+ghost use Rattle.facets.specs.Request.{facet_request};
+ghost use Rattle.facets.specs.SearchFacets.{counted_names, search_facets};
+ghost use Rattle.facets.specs.declared.request.FacetRequest.{FacetRequest};
+ghost use Rattle.org_roles.specs.declared.entry.Org.{Org};
 ghost use Rattle.facets.specs.Facts.{facts_of, is_one_of, same_class};
 ghost use Rattle.facets.specs.declared.field.FacetField.{FacetField};
+ghost use Rattle.facets.specs.declared.field.FacetField.TheVariants.{Organization};
 
 use packages::laws::a_set_has_its_texts;
 
@@ -27,6 +35,29 @@ pub fn facets_are_the_values_with_their_counts()
         ((0 < count) × (count ≡ count_of field value datasets)) }
     ensures ascends { (field : FacetField) (datasets : List Package) →
         IsAscending facet_cmp (facet_counts field datasets) }
+{
+    a_set_has_its_texts();
+}
+
+/// The facets of datasets don't depend on their order.
+pub fn facets_do_not_depend_on_the_order()
+    ensures { (field : FacetField) (datasets others : List Package) → IsPermutation datasets others →
+        facet_counts field datasets ≡ facet_counts field others }
+{
+    a_set_has_its_texts();
+}
+
+/// Nor do the facets that a search shows.
+pub fn search_facets_do_not_depend_on_the_order()
+    ensures { (orgs : List Org) (request : FacetRequest) (datasets others : List Package) →
+        IsPermutation datasets others → search_facets orgs request datasets ≡ search_facets orgs request others }
+{
+    facets_do_not_depend_on_the_order();
+}
+
+/// A search counts the values of at most four fields, however many its body names and however often.
+pub fn a_request_counts_at_most_four_fields()
+    ensures { (body : Json) → counted_names (facet_request body).fields ≤ 4 }
 {
     a_set_has_its_texts();
 }
@@ -55,6 +86,14 @@ pub fn counters_count_the_datasets()
         StandsFor counters datasets →
         class_counts classes field counters ≡ facet_counts field (filter (λ d. is_one_of classes (class_for d)) datasets) }
 {}
+
+/// Counters that stand for some datasets count the public ones of each organization.
+pub fn counters_give_the_public_counts()
+    ensures { (counters : CountersState) (datasets : List Package) (org : List ℕ) → StandsFor counters datasets →
+        org ≢ [] → class_count Public Organization org counters ≡ public_count org datasets }
+{
+    counters_count_the_datasets();
+}
 
 /// The test of classes is equality.
 pub fn equal_classes_are_the_same()

@@ -9,5 +9,7 @@ pub mod facts;
 pub mod field;
 pub mod items;
 pub mod laws;
+pub mod request;
+pub mod search;
 mod tally;
 mod values;

@@ -1,17 +1,17 @@
 //! The index: the terms of each dataset of a shelf.
 //!
 //! `prepare` alone takes memory. `commit` and `remove` change the index as the shelf changes.
-ghost use Rattle.std.specs.Prelude.{◌≡◌, ◌<◌, ◌≤◌, ◌^◌, ℕ, List, [], length, IfNone, IfOk, IfSome, OnOk, ◌++◌};
+ghost use Rattle.std.specs.Prelude.{◌≡◌, ◌<◌, ◌≤◌, ◌^◌, ℕ, List, [], length, IfNone, IfOk, IfSome, OnOk, Some, ◌++◌};
 ghost use Rattle.std.specs.Cmp.Lexicographic.{slice_cmp};
 ghost use Rattle.std.specs.Ordering.{nat_cmp};
-ghost use Rattle.portal_base.specs.Ordered.{IsAscending};
+ghost use Rattle.portal_base.specs.Ordered.{IsAscending, upserted};
 ghost use Rattle.packages.specs.Shelf as shelves;
-ghost use Rattle.packages.specs.Shelf.{ShelfState, with_package};
+ghost use Rattle.packages.specs.Shelf.{IsValidShelf, ShelfState, package_at, with_package};
 ghost use Rattle.packages.specs.declared.package.Package.{Package};
 ghost use Rattle.search_index.specs.declared.item.Item.{Item};
 ghost use Rattle.search_index.specs.Demands.{Means, meets};
 ghost use Rattle.search_index.specs.Index.{StandsFor, entries_from, numbers_found, numbers_selected, with_terms, without_number};
-ghost use Rattle.search_index.specs.Index.{selected_at};
+ghost use Rattle.search_index.specs.Index.{entry_cmp, entry_of, selected_at};
 ghost use Rattle.search_index.specs.Terms.{terms_of};
 
 use crate::query::SearchQuery;
@@ -146,6 +146,31 @@ impl Index {
             alloc,
             rows: Vec::new(alloc),
         }
+    }
+
+    /// The index of a shelf: the terms of each of its datasets.
+    pub fn of(alloc: Global, shelf: &Shelf) -> Result<Index, AllocError>
+        requires { IsValidShelf shelf.now }
+        ensures { IfOk result (λ index. StandsFor index shelf.now) }
+    {
+        let mut index = Index::new(alloc);
+        let numbers = shelf.numbers(alloc)?;
+        for number in numbers.as_slice() {
+            index.enter(shelf, *number)?;
+        }
+        Ok(index)
+    }
+
+    /// Enters the terms of the shelf's dataset at a number.
+    fn enter(&mut self, shelf: &Shelf, number: u32) -> Result<(), AllocError>
+        ensures { (dataset : Package) → package_at number shelf.now ≡ Some dataset → OnOk result
+            (self.new.entries ≡ upserted entry_cmp (entry_of (number, dataset)) self.old.entries) }
+    {
+        if let Some(dataset) = shelf.package_at(number) {
+            let terms = self.prepare(number, dataset)?;
+            self.commit(terms);
+        }
+        Ok(())
     }
 
     /// Makes room for the number, and returns the terms of the dataset. If memory is out, the entries stay.
