@@ -1,0 +1,3 @@
+mod FindLemmas
+pub mod LawLemmas
+pub mod PageLemmas

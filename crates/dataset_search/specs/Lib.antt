@@ -1,0 +1,4 @@
+pub mod Found
+pub mod Order
+pub mod Search
+pub mod Sort
