@@ -23,7 +23,7 @@ use Rattle.org_roles.specs.declared.change.OrgChange.{OrgChange}
 use Rattle.dataset_answers.specs.Fit.{IsFitDataset}
 use Rattle.dataset_answers.specs.declared.change.DatasetChange.{DatasetChange}
 use Rattle.organization_answers.specs.Fit.{IsFitOrg}
-use Rattle.portal_calls.specs.Answer.{AcceptsOnly}
+use Rattle.portal_calls.specs.Answer.{AcceptsOnly, answer_if_found}
 use Rattle.portal_calls.specs.Topic.{topic_of}
 use Rattle.portal_calls.specs.declared.topic.QueryAction.{QueryAction}
 use Rattle.portal_calls.specs.declared.topic.QueryAction.TheVariants.{DatastoreDelete, DatastoreSearch}
@@ -39,6 +39,7 @@ use Rattle.portal_core.specs.Fit.{IsFit, IsFitAmong}
 use Rattle.portal_core.specs.Queries.{answer_to_datastore_delete, answer_to_datastore_search, answer_to_query}
 use Rattle.portal_core.specs.Queries.{delete_answer, find_rows_of_resource, page_answer, query_for}
 use Rattle.portal_core.specs.Queries.{search_answer_for_table}
+use Rattle.portal_core.specs.Search.{search_outcome}
 use Rattle.portal_core.specs.SearchBody.{search_in, search_errors}
 use Rattle.portal_calls.specs.declared.answer.Denial.{Denial}
 use Rattle.portal_core.specs.State.{State}
@@ -94,6 +95,13 @@ query-fit : (action : QueryAction) (view : CallView) (tables : List ResourceTabl
 query-fit DatastoreSearch view tables = search_only (IsFitTable view tables) view tables
 query-fit DatastoreDelete view tables = delete-fit view tables
 
+-- ---- searches of datasets
+
+-- An answer that shows what was found accepts nothing.
+pub found_only : (P : PlannedChange → Type 0) (found : Result Json Denial) → AcceptsOnly P (answer_if_found found Shown)
+found_only P (Ok json) = tt
+found_only P (Err denial) = tt
+
 -- ---- every action
 
 by_topic : (topic : Topic) (view : CallView) (tables : List ResourceTable)
@@ -101,6 +109,9 @@ by_topic : (topic : Topic) (view : CallView) (tables : List ResourceTable)
 by_topic (topic.Organizations action) view tables = people-fit view tables _ (organization.action_fit action view)
 by_topic (topic.Datasets action) view tables =
     datasets-fit view tables _ (dataset.action_fit action view (summaries_of tables))
+by_topic topic.Search view tables =
+    found_only (IsFitAmong view tables)
+    (search_outcome view.call.request.body view.people view.datasets (summaries_of tables))
 by_topic (topic.Tables action) view tables = tables-fit view tables _ (table.action_fit action view tables)
 by_topic (topic.Queries action) view tables = tables-fit view tables _ (query-fit action view tables)
 

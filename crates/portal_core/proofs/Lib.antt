@@ -18,6 +18,7 @@ pub mod Fitting
 pub mod Hiding
 pub mod Histories
 pub mod InOrder
+pub mod IndexLemmas
 pub mod Isolating
 pub mod Keeping
 pub mod Kept
@@ -34,6 +35,7 @@ pub mod Passed
 pub mod PeopleEntries
 pub mod PeopleRows
 pub mod PlannedRows
+pub mod PublicCounting
 pub mod QueryLemmas
 pub mod Reading
 pub mod RestoredDatasets
@@ -48,6 +50,8 @@ pub mod RowBodies
 pub mod RowChanges
 mod RowExamples
 pub mod RowMembers
+pub mod SearchLemmas
+pub mod SearchSteps
 pub mod Settling
 pub mod Shelving
 pub mod StateLemmas

@@ -1,5 +1,5 @@
 -- The rows of an opening: the changes that put them, one after the other, leave them in order.
-use Rattle.std.proofs.Common.{◌≡◌, Bool, true, false, cond, List, [], ◌∷◌, ◌++◌, Option, Some, None, map, append_assoc}
+use Rattle.std.proofs.Common.{◌≡◌, cond, List, [], ◌∷◌, ◌++◌, Option, Some, None, map, append_assoc}
 use Rattle.std.proofs.Common.{append-nil, arith, inl, inr, refl, sym, ap, ◌∙◌, subst}
 use Rattle.std.specs.List.{flat_map}
 use Rattle.std.specs.Prelude.{Err, IfSome, Ok, OnErr, Result, not}
@@ -15,7 +15,6 @@ use Rattle.org_roles.specs.PeopleLists.{AreSorted, PeopleLists}
 use Rattle.portal_keeper.specs.Changed.{rows_after}
 use Rattle.portal_keeper.specs.Keeping.{ChangesRows, KeepsRows, Shows}
 use Rattle.portal_keeper.specs.Rows.{AreInOrder, kind_number, row_cmp, row_cmp_total}
-use Rattle.portal_keeper.specs.declared.change.Change.{Change}
 use Rattle.portal_keeper.specs.declared.change.Change.TheVariants.{Put}
 use Rattle.portal_keeper.specs.declared.row.KeptRow.{KeptRow}
 use Rattle.portal_rows.proofs.KindLemmas.{kinds-less}

@@ -21,7 +21,8 @@ use Rattle.org_roles.specs.declared.change.OrgChange.{OrgChange}
 use Rattle.organization_answers.proofs.Fitting as organization
 use Rattle.visibility.specs.CallView.{CallView}
 use Rattle.portal_calls.specs.declared.event.Event.TheVariants.{Call as a_call}
-use Rattle.portal_core.proofs.Answering.{search_only}
+use Rattle.portal_core.proofs.Answering.{found_only, search_only}
+use Rattle.portal_core.specs.Search.{search_outcome}
 use Rattle.portal_core.proofs.Settling.{refused-same}
 use Rattle.portal_core.specs.Answer.{answer_on, call_view_of, of_people, of_datasets, of_tables, planned_answer}
 use Rattle.portal_core.specs.Known.{known_call}
@@ -57,6 +58,9 @@ by_action action.DatasetPurge view tables reads = absurd (cc)
 by_action action.PackageShow view tables reads =
     of_datasets-nothing _ (show_only (λ change. ⊥) view (summaries_of tables))
 by_action action.PackageList view tables reads = of_datasets-nothing _ (list_only (λ change. ⊥) view)
+by_action action.PackageSearch view tables reads =
+    found_only (λ change. ⊥)
+    (search_outcome view.call.request.body view.people view.datasets (summaries_of tables))
 by_action action.ResourceCreate view tables reads = absurd (cc)
 by_action action.ResourceUpdate view tables reads = absurd (cc)
 by_action action.ResourceDelete view tables reads = absurd (cc)

@@ -13,13 +13,14 @@ use Rattle.dataset_rows.specs.Rows.{IsWellTyped}
 use Rattle.datastore_answers.specs.Tables.{tables_of}
 use Rattle.datastore_answers.specs.declared.resource_table.ResourceTable.{ResourceTable}
 use Rattle.packages.specs.Order.{dataset_cmp}
-use Rattle.packages.specs.Shelf.{IsValidShelf, datasets_of}
+use Rattle.packages.specs.Shelf.{datasets_of}
 use Rattle.packages.specs.declared.package.Package.{Package}
 use Rattle.packages.proofs.FindLemmas.{IsIn-map, map-IsIn}
 use Rattle.portal_rows.specs.KeptValues.{AreKeptValues}
 use Rattle.portal_rows.specs.OrgRows.{IsOrgWithRoles}
 use Rattle.portal_rows.specs.declared.kept_values.KeptValues.{KeptValues}
 use Rattle.portal_rows.specs.declared.org_reading.OrgWithRoles.{OrgWithRoles}
+use Rattle.portal_core.specs.Indexes.{IsIndexed}
 use Rattle.portal_core.specs.Parts.{IsConsistent, state_of}
 use Rattle.portal_core.specs.Restored.{ArePeopleOf, AreShelvable, AreTablesOf}
 use Rattle.portal_core.specs.State.{State, quota_used_cmp}
@@ -48,7 +49,7 @@ same-orgs one other kept first second =
 
 pub parts-consistent : (values : KeptValues) (parts : Parts) → AreKeptValues values
     → ArePeopleOf values.orgs parts.people.people → AreShelvable parts.people.people values.datasets
-    → datasets_of parts.shelf ≡ values.datasets → IsValidShelf parts.shelf
+    → datasets_of parts.shelf ≡ values.datasets → IsIndexed parts.shelf parts.indexes
     → AreTablesOf (datasets_of parts.shelf) values.tables (tables_of parts.tables) → parts.quota_used.used ≡ []
     → IsConsistent parts
 parts-consistent values parts kept people shelvable datasets shelved tables none = record {

@@ -1,11 +1,10 @@
 -- Parts that are read from the rows of a store.
-use Rattle.std.proofs.Common.{◌≡◌, ◌↔◌, ◌∙◌, List, Option, Some, None, refl, sym, ap, subst, IfOk, IfSome, IfNone}
+use Rattle.std.proofs.Common.{◌≡◌, ◌↔◌, ◌∙◌, List, Option, Some, None, sym, ap, subst, IfOk, IfSome, IfNone}
 use Rattle.std.specs.Prelude.{Result, Ok, Err}
 use Rattle.std.proofs.lemmas.Option.{same_Some}
 use Rattle.portal_keeper.specs.declared.row.KeptRow.{KeptRow}
 use Rattle.portal_rows.specs.KeptValues.{IsKeptOf, rows_of_values}
 use Rattle.portal_rows.specs.declared.kept_values.KeptValues.{KeptValues}
-use Rattle.portal_core.specs.KeptRows.{kept_rows}
 use Rattle.portal_core.specs.Parts.{IsConsistent, state_of}
 use Rattle.portal_core.specs.State.{State}
 use Rattle.portal_core.specs.Typed.{IsTyped}

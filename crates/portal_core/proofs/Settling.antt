@@ -17,7 +17,7 @@ use Rattle.portal_calls.specs.declared.event.Refusal.TheVariants.{KeeperFault, O
 use Rattle.portal_calls.specs.declared.event.Reply.TheVariants as reply
 use Rattle.portal_calls.proofs.Refusing.{quiet-refusal, refusal_kept, refusal_there}
 use Rattle.portal_hall.specs.History.{replay}
-use Rattle.packages.specs.Shelf.{IsValidShelf}
+use Rattle.portal_core.specs.Indexes.{IsIndexed}
 use Rattle.datastore_answers.specs.Linked.{AreLinked}
 use Rattle.portal_core.specs.Answer.{answer_to, planned_answer}
 use Rattle.portal_core.specs.Change.{Change}
@@ -197,7 +197,7 @@ planned-unused json planned call state valid fit unused =
 -- ---- the parts
 
 -- Parts that make up the same state as consistent ones are consistent.
-pub kept_consistent : (old new : Parts) → IsConsistent old → state_of new ≡ state_of old → IsValidShelf new.shelf
+pub kept_consistent : (old new : Parts) → IsConsistent old → state_of new ≡ state_of old → IsIndexed new.shelf new.indexes
     → IsConsistent new
 kept_consistent old new consistent same shelved = record {
   valid = subst IsValid (sym same) consistent.valid;
@@ -207,7 +207,7 @@ kept_consistent old new consistent same shelved = record {
 -- So are parts in which a change was made.
 pub applied_consistent : (planned : PlannedChange) (call : Call) (old new : Parts) → IsConsistent old
     → IsFit call (view_of call.caller (state_of old)) planned → AreUnused (state_of old) (claims_of planned)
-    → state_of new ≡ with_planned call planned (state_of old) → IsValidShelf new.shelf → IsConsistent new
+    → state_of new ≡ with_planned call planned (state_of old) → IsIndexed new.shelf new.indexes → IsConsistent new
 applied_consistent planned call old new consistent fit unused is shelved = record {
   valid = subst IsValid (sym is) (with_planned_valid planned call (state_of old) consistent.valid fit unused);
   shelved = shelved;

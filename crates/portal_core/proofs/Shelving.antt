@@ -18,6 +18,8 @@ use Rattle.packages.specs.Order.{dataset_cmp}
 use Rattle.packages.specs.Shelf.{ShelfState, IsValidShelf, package_at, number_in, datasets_of}
 use Rattle.packages.specs.Texts.{longest_name}
 use Rattle.packages.specs.declared.package.Package.{Package}
+use Rattle.facets.specs.Counters as counters
+use Rattle.search_index.specs.Index as index
 use Rattle.packages.proofs.FindLemmas.{IsIn-find, find-none, list_any-map}
 use Rattle.packages.proofs.EntryLemmas.{IsIn-package_at, package_at-IsIn}
 use Rattle.packages.proofs.ShelfLemmas.{number_of_member}
@@ -172,13 +174,13 @@ unfolding on_shelf led
 taken (dataset.Create d) parts call consistent fit unused = free parts call d consistent fit.sound unused
 taken (dataset.Replace d) parts call consistent fit unused =
     let within = IsIn-Contains fit.old (datasets_of parts.shelf) fit.is_present in
-    let place = led parts.shelf consistent.shelved fit.old within in
+    let place = led parts.shelf consistent.shelved.valid fit.old within in
     record {
-      on_shelf = on_shelf parts.shelf consistent.shelved fit.old d.id within fit.id;
+      on_shelf = on_shelf parts.shelf consistent.shelved.valid fit.old d.id within fit.id;
       name = ap (option_map (λ (e : Package). e.name)) place.2 ∙ ap Some fit.name;
     }
 taken (dataset.Remove id) parts call consistent fit unused =
-    on_shelf parts.shelf consistent.shelved fit.old id (IsIn-Contains fit.old (datasets_of parts.shelf) fit.is_present)
+    on_shelf parts.shelf consistent.shelved.valid fit.old id (IsIn-Contains fit.old (datasets_of parts.shelf) fit.is_present)
     fit.id
 
 -- What is fit, and claims nothing that is in use, is refused for nothing.
@@ -210,14 +212,19 @@ pub opened_consistent : (parts : Parts) (opening : Opening) → is_opening openi
     → parts.people.people.users ≡ ascending user_cmp opening.users
     → parts.people.people.orgs ≡ ascending org_cmp opening.orgs
     → parts.people.people.roles ≡ ascending membership_cmp opening.roles
-    → parts.shelf.entries ≡ [] → parts.shelf.room ≡ None → parts.tables.tables ≡ [] → parts.quota_used.used ≡ []
+    → parts.shelf.entries ≡ [] → parts.shelf.room ≡ None → parts.indexes.index.entries ≡ []
+    → parts.indexes.counters.entries ≡ [] → parts.tables.tables ≡ [] → parts.quota_used.used ≡ []
     → IsConsistent parts
-opened_consistent parts opening fit users orgs roles none no_room no_table no_charge =
+opened_consistent parts opening fit users orgs roles none no_room no_terms no_counts no_table no_charge =
     let datasets : datasets_of parts.shelf ≡ [] =
     ap (λ (es : List (ℕ × Package)). ascending dataset_cmp (map (λ (e : ℕ × Package). e.1) es)) none in
     let tables : tables_of parts.tables ≡ [] = ap (map without_room) no_table in
     let same : opened opening ≡ state_of parts = rw (users, orgs, roles, datasets, tables, no_charge) refl in
     record {
       valid = subst IsValid same (opened_valid opening fit);
-      shelved = empty_shelved parts.shelf none no_room;
+      shelved = record {
+        valid = empty_shelved parts.shelf none no_room;
+        terms = no_terms ∙ sym (ap (map index.entry_of) none);
+        counts = no_counts ∙ sym (ap (map counters.entry_of) datasets);
+      };
     }

@@ -1,7 +1,7 @@
 -- The store beside the parts: its rows stay those of the state.
 use Rattle.std.proofs.Common.{◌≡◌, List, Option, Some, None, refl, sym, ap, ◌∙◌, subst}
-use Rattle.std.specs.Prelude.{IsSomeAnd}
-use Rattle.packages.specs.Shelf.{IsValidShelf}
+use Rattle.packages.specs.Shelf.{ShelfState}
+use Rattle.portal_core.specs.Indexes.{IsIndexed}
 use Rattle.portal_base.specs.declared.caller.Caller.{Caller}
 use Rattle.portal_base.specs.declared.caller.Caller.TheVariants.{Anonymous, Named}
 use Rattle.portal_calls.specs.declared.call.Call.{Call}
@@ -48,7 +48,7 @@ shown_changed (Some before) (Some kept) changes rows after shown made is =
 
 -- Parts that make up the same state are kept as well.
 pub same_kept : (rows : Option (List KeptRow)) (old new : Parts) → AreKept rows old → state_of new ≡ state_of old
-    → IsValidShelf new.shelf → AreKept rows new
+    → IsIndexed new.shelf new.indexes → AreKept rows new
 same_kept rows old new kept same shelved = record {
   consistent = kept_consistent old new kept.consistent same shelved;
   sized = subst (λ (s : State). AreSized s.tables) (sym same) kept.sized;
@@ -56,9 +56,11 @@ same_kept rows old new kept same shelved = record {
 }
 
 pub decided_kept : (rows : Option (List KeptRow)) (old new : Parts) → AreKept rows old → state_of new ≡ state_of old
-    → new.shelf ≡ old.shelf → AreKept rows new
-decided_kept rows old new kept same shelf =
-    same_kept rows old new kept same (subst IsValidShelf (sym shelf) kept.consistent.shelved)
+    → new.shelf ≡ old.shelf → new.indexes ≡ old.indexes → AreKept rows new
+decided_kept rows old new kept same shelf indexes =
+    same_kept rows old new kept same
+    (subst (λ (s : ShelfState). IsIndexed s new.indexes) (sym shelf)
+    (subst (IsIndexed old.shelf) (sym indexes) kept.consistent.shelved))
 
 -- What is fit on the caller's view is fit on the state.
 pub fit_there : (planned : PlannedChange) (call : Call) (parts : Parts) → IsConsistent parts
@@ -85,7 +87,7 @@ made_planned planned call prepared state before after same change charge made =
 
 -- Where the keeper refused, the parts are kept over its rows.
 pub refused_kept : (old new : Option (List KeptRow)) (before after : Parts) → AreKept old before
-    → state_of after ≡ state_of before → IsValidShelf after.shelf → KeepsRows old new → AreKept new after
+    → state_of after ≡ state_of before → IsIndexed after.shelf after.indexes → KeepsRows old new → AreKept new after
 refused_kept old new before after kept same shelved rows =
     let there = same_kept old before after kept same shelved in
     record {
@@ -99,7 +101,7 @@ pub applied_kept : (planned : PlannedChange) (call : Call) (before after : Parts
     → AreKept old before → IsFit call (view_of call.caller (state_of before)) planned
     → AreUnused (state_of before) (claims_of planned)
     → AreSized (changed planned (state_of before)).tables
-    → state_of after ≡ with_planned call planned (state_of before) → IsValidShelf after.shelf
+    → state_of after ≡ with_planned call planned (state_of before) → IsIndexed after.shelf after.indexes
     → ChangesRows old (planned_row_changes planned (state_of before)) new → AreKept new after
 applied_kept planned call before after old new kept fit unused sized is shelved rows =
     let state : State = state_of before in

@@ -26,6 +26,7 @@ use Rattle.portal_core.specs.State.{State, accepted_bytes_of}
 use Rattle.portal_core.specs.Change.{Change}
 use Rattle.portal_core.specs.Planned.{PlannedChange, People, Datasets, Tables, change_of}
 use Rattle.portal_core.specs.Queries.{answer_to_query}
+use Rattle.portal_core.specs.Search.{answer_to_search}
 use Rattle.portal_core.specs.declared.quota.QuotaUsed.{QuotaUsed}
 
 -- ---- the call's view
@@ -77,6 +78,7 @@ of_tables (Answered (Accepted json change)) = Accepted json (Tables change)
 abbrev pub answer_on : Topic → CallView → List ResourceTable → Answer PlannedChange
 answer_on (topic.Organizations action) view tables = of_people (organization.answer_to_action action view)
 answer_on (topic.Datasets action) view tables = of_datasets (dataset.answer_to_action action view (summaries_of tables))
+answer_on topic.Search view tables = answer_to_search view (summaries_of tables)
 answer_on (topic.Tables action) view tables = of_tables (table.answer_to_action action view tables)
 answer_on (topic.Queries action) view tables = of_tables (answer_to_query action view tables)
 

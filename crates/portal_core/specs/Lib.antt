@@ -9,6 +9,7 @@ pub mod Faults
 pub mod Fit
 pub mod Hidden
 pub mod History
+pub mod Indexes
 pub mod KeptRows
 pub mod Known
 pub mod Opened
@@ -20,6 +21,7 @@ pub mod PortalValue
 pub mod Queries
 pub mod Restored
 pub mod RowChanges
+pub mod Search
 pub mod SearchBody
 pub mod State
 pub mod Step

@@ -1,13 +1,14 @@
 -- The portal's parts, and changes that are prepared on them.
-use Rattle.std.specs.Prelude.{◌≡◌, ℕ, ⊤, IsTrue, IsSome, List, Option, Some, None, is_none}
+use Rattle.std.specs.Prelude.{◌≡◌, ℕ, ⊤, IsTrue, List, Option, Some, None, is_none}
 use Rattle.std.specs.Option.{option_map}
 use Rattle.org_roles.specs.Changed.{IsReady, org_fault}
-use Rattle.packages.specs.Shelf.{ShelfState, IsValidShelf, package_at, number_in, datasets_of}
+use Rattle.packages.specs.Shelf.{ShelfState, package_at, number_in, datasets_of}
 use Rattle.packages.specs.declared.package.Package.{Package}
 use Rattle.dataset_answers.specs.Sound.{IsSound}
 use Rattle.dataset_answers.specs.declared.change.DatasetChange.{DatasetChange}
 use Rattle.dataset_answers.specs.declared.change.DatasetChange.TheVariants as dataset
 use Rattle.portal_core.specs.Changed.{changed, with_charge}
+use Rattle.portal_core.specs.Indexes.{IsIndexed, IsReadyIn}
 use Rattle.portal_core.specs.Planned.{PlannedChange}
 use Rattle.portal_core.specs.State.{State}
 use Rattle.portal_core.specs.Valid.{IsValid}
@@ -16,6 +17,7 @@ use Rattle.datastore_answers.specs.Plan as table
 use Rattle.datastore_answers.specs.Tables.{Stored, tables_of}
 use Rattle.portal_core.specs.Planned as planned
 use Rattle.portal_core.specs.declared.change.Plan.{Plan}
+use Rattle.portal_core.specs.declared.indexes.PreparedDataset.{PreparedDataset}
 use Rattle.portal_core.specs.declared.change.Plan.TheVariants as plan
 use Rattle.portal_core.specs.declared.parts.Parts.{Parts}
 use Rattle.portal_core.specs.declared.parts.Prepared.{Prepared}
@@ -32,10 +34,10 @@ state_of parts = record {
   quota_used = parts.quota_used.used;
 }
 
--- The parts make up a valid state, and the shelf's indexes are right.
+-- The parts make up a valid state, and the indexes are those of the shelf.
 pub record IsConsistent (parts : Parts) : Type 0 where
   pub valid : IsValid (state_of parts)
-  pub shelved : IsValidShelf parts.shelf
+  pub shelved : IsIndexed parts.shelf parts.indexes
 
 -- a new dataset is sound
 abbrev pub MakesSound : PlannedChange → Parts → Type 0
@@ -89,8 +91,8 @@ IsPlanned p parts = IsPlannedOn p parts.tables
 -- the change that is prepared
 abbrev pub planned_in : PreparedChange → PlannedChange
 planned_in (People change) = planned.People change
-planned_in (Put d) = planned.Datasets (dataset.Create d)
-planned_in (Replace number d) = planned.Datasets (dataset.Replace d)
+planned_in (Put prepared) = planned.Datasets (dataset.Create prepared.dataset)
+planned_in (Replace prepared) = planned.Datasets (dataset.Replace prepared.dataset)
 planned_in (Remove number id) = planned.Datasets (dataset.Remove id)
 planned_in (Tables change) = planned.Tables (table.change_of change)
 
@@ -98,10 +100,11 @@ planned_in (Tables change) = planned.Tables (table.change_of change)
 abbrev pub with_prepared : Prepared → State → State
 with_prepared prepared state = with_charge prepared.charge (changed (planned_in prepared.change) state)
 
--- There is room for the new dataset, and its id and name are free.
-pub record IsPutReady (shelf : ShelfState) (dataset : Package) : Type 0 where
-  pub room : IsSome shelf.room
-  pub free : IsFree shelf dataset
+-- There is room for the new dataset at its number, and its id and name are free.
+pub record IsPutReady (prepared : PreparedDataset) (parts : Parts) : Type 0 where
+  pub room : parts.shelf.room ≡ Some prepared.number
+  pub free : IsFree parts.shelf prepared.dataset
+  pub indexes : IsReadyIn prepared parts.indexes
 
 -- The dataset at the number has this one's id and name.
 pub record IsReplaceReady (shelf : ShelfState) (number : ℕ) (dataset : Package) : Type 0 where
@@ -111,8 +114,9 @@ pub record IsReplaceReady (shelf : ShelfState) (number : ℕ) (dataset : Package
 -- there is room for the change
 abbrev pub IsChangeReady : PreparedChange → Parts → Type 0
 IsChangeReady (People change) parts = IsReady change parts.people
-IsChangeReady (Put dataset) parts = IsPutReady parts.shelf dataset
-IsChangeReady (Replace number dataset) parts = IsReplaceReady parts.shelf number dataset
+IsChangeReady (Put prepared) parts = IsPutReady prepared parts
+IsChangeReady (Replace prepared) parts =
+    IsReplaceReady parts.shelf prepared.number prepared.dataset × IsReadyIn prepared parts.indexes
 IsChangeReady (Remove number id) parts = option_map (λ d. d.id) (package_at number parts.shelf) ≡ Some id
 IsChangeReady (Tables change) parts = table.IsReadyPlan change parts.tables
 

@@ -1,37 +1,12 @@
 -- The search that the body of a `datastore_search` asks for (CKAN 2.10), and the body's errors. Limits and messages are
 -- the portal's own.
-use Rattle.std.specs.Prelude.{ℕ, ◌-◌, ◌^◌, min, Bool, true, false, List, [], codes, Option, Some, None, Result, Ok, Err}
-use Rattle.portal_base.specs.KeyErrors.{KeyError, found_value, kind_message, error_if}
+use Rattle.std.specs.Prelude.{ℕ, min, true, false, List, [], codes}
+use Rattle.portal_base.specs.KeyErrors.{KeyError, kind_message, error_if}
 use Rattle.portal_base.specs.Kinds.{count_at, dictionary_at, text_at, texts_at, truth_at}
 use Rattle.portal_base.specs.declared.json_value.Json.{Json}
-use Rattle.portal_base.specs.declared.json_value.Json as json
-use Rattle.portal_base.specs.declared.kinds.KindFault.{KindFault}
+use Rattle.portal_calls.specs.BodyValues.{count_or, dictionary_or_empty, text_or, texts_or_none, truth_or}
 use Rattle.datastore_query.specs.declared.parts.Parts.{Parts}
 use Rattle.portal_core.specs.declared.search_body.Search.{Search}
-
--- ---- values, or their defaults
-
--- the value at a key, where it is there and of its kind, else the default
-abbrev pub value_or : {A : Type 0} → A → Result (Option A) KindFault → A
-value_or default (Ok (Some value)) = value
-value_or default (Ok None) = default
-value_or default (Err fault) = default
-
--- No body that is read as JSON has a larger count than the last of a u64.
-abbrev pub count_or : ℕ → List ℕ → Json → ℕ
-count_or default key body = min (value_or default (count_at key body)) (2 ^ 64 - 1)
-
-abbrev pub truth_or : Bool → List ℕ → Json → Bool
-truth_or default key body = value_or default (truth_at key body)
-
-abbrev pub text_or : List ℕ → Json → List ℕ
-text_or key body = value_or [] (text_at key body)
-
-abbrev pub texts_or : List ℕ → Json → Option (List (List ℕ))
-texts_or key body = found_value (texts_at key body)
-
-abbrev pub dictionary_or : List ℕ → Json → Json
-dictionary_or key body = json.Map (value_or [] (dictionary_at key body))
 
 -- ---- a search
 
@@ -42,11 +17,11 @@ page_limit body = min (count_or 100 (codes "limit") body) 32000
 -- the parts of its query
 abbrev pub parts_in : Json → Parts
 parts_in body = record {
-  filters = dictionary_or (codes "filters") body;
-  q = text_or (codes "q") body;
+  filters = dictionary_or_empty (codes "filters") body;
+  q = text_or [] (codes "q") body;
   distinct = truth_or false (codes "distinct") body;
-  fields = texts_or (codes "fields") body;
-  sort = text_or (codes "sort") body;
+  fields = texts_or_none (codes "fields") body;
+  sort = text_or [] (codes "sort") body;
   limit = page_limit body;
   offset = count_or 0 (codes "offset") body;
 }

@@ -15,6 +15,7 @@ ghost use Rattle.portal_core.specs.Parts.{IsConsistent, state_of};
 ghost use Rattle.portal_core.specs.PortalValue.{AreKept, AreOfNoState, IsOpenedOver, IsReopened};
 ghost use Rattle.portal_core.specs.declared.opening.OpenFault.TheVariants.{BadRows};
 
+use crate::indexes::Indexes;
 use crate::parts::Parts;
 use crate::quota::QuotaLedger;
 use crate::restored::parts_of_rows;
@@ -131,6 +132,7 @@ fn parts_of_opening(alloc: Global, opening: &Opening) -> Result<Parts, AllocErro
     Ok(Parts {
         people: People::of_lists(users, orgs, roles),
         shelf: Shelf::new(alloc),
+        indexes: Indexes::new(alloc),
         tables: Tables::new(alloc),
         quota_used: QuotaLedger::new(alloc),
     })

@@ -3,12 +3,12 @@
 ghost use Rattle.std.specs.Prelude.{◌≡◌, ◌≤◌, IfNone, IfOk, OnErr, OnOk, IsErrOf, IsTrue, is_none, find};
 ghost use Rattle.std.specs.Option.{option_map, option_copied};
 ghost use Rattle.org_roles.specs.Changed.{org_fault, IsReady};
-ghost use Rattle.packages.specs.Shelf.{IsValidShelf};
 ghost use Rattle.datastore_answers.specs.Linked.{AreLinked};
 ghost use Rattle.dataset_answers.specs.Sound.{IsSound};
 ghost use Rattle.portal_core.specs.Planned.{planned_of, Datasets, claims_of};
 ghost use Rattle.portal_core.specs.Changed.{AreUnused, changed, charge_of, is_in_use, key_of, with_charge, with_planned};
 ghost use Rattle.portal_core.specs.Fit.{IsFit};
+ghost use Rattle.portal_core.specs.Indexes.{IsIndexed};
 ghost use Rattle.portal_core.specs.Parts.{state_of, planned_in, with_prepared, IsConsistent, MakesSound, IsTakenBy};
 ghost use Rattle.portal_core.specs.Parts.{IsUnrefused, IsPlanned, IsPrepared, IsChangeReady, IsChargeReady};
 ghost use Rattle.portal_base.specs.Outside.{Rose};
@@ -18,6 +18,7 @@ ghost use Rattle.portal_core.specs.View.{view_of};
 
 use crate::act_fault::ActFault;
 use crate::change::Plan;
+use crate::indexes::{Indexes, PreparedDataset};
 use crate::quota::{QuotaLedger, QuotaUsed};
 use dataset_answers::change::DatasetChange;
 use datastore_answers::plan::TablePlan;
@@ -39,6 +40,7 @@ use std::alloc::{AllocError, Global};
 pub struct Parts {
     pub people: People,
     pub shelf: Shelf,
+    pub indexes: Indexes,
     pub tables: Tables,
     pub quota_used: QuotaLedger,
 }
@@ -48,9 +50,9 @@ pub struct Parts {
 enum PreparedChange {
     People(PreparedOrg),
     /// A new dataset.
-    Put(Package),
-    /// The dataset that replaces the one at the number.
-    Replace(u32, Package),
+    Put(PreparedDataset),
+    /// The dataset that replaces the one at its number.
+    Replace(PreparedDataset),
     /// Removal of the dataset at the number, which has this id.
     Remove(u32, Text),
     /// A change of a table.
@@ -148,7 +150,7 @@ impl Parts {
         requires planned { IsPlanned plan self.old }
         requires unused { AreUnused (state_of self.old) (claims_of (planned_of plan)) }
         ensures same { state_of self.new ≡ state_of self.old }
-        ensures shelved { IsValidShelf self.new.shelf }
+        ensures shelved { IsIndexed self.new.shelf self.new.indexes }
         ensures ready { IfOk result (λ prepared. IsPrepared prepared self.new) }
         ensures change { IfOk result (λ prepared. planned_in prepared.change ≡ planned_of plan) }
         ensures charge { IfOk result (λ prepared.
@@ -161,11 +163,11 @@ impl Parts {
 
     /// Prepares a change that no part refuses.
     fn prepare_change(&mut self, plan: Plan) -> Result<PreparedChange, AllocError>
-        requires shelved { IsValidShelf self.old.shelf }
+        requires shelved { IsIndexed self.old.shelf self.old.indexes }
         requires unrefused { IsUnrefused (planned_of plan) self.old }
         requires planned { IsPlanned plan self.old }
         ensures same { state_of self.new ≡ state_of self.old }
-        ensures shelved { IsValidShelf self.new.shelf }
+        ensures shelved { IsIndexed self.new.shelf self.new.indexes }
         ensures quota_used { self.new.quota_used ≡ self.old.quota_used }
         ensures change { IfOk result (λ prepared. planned_in prepared ≡ planned_of plan) }
         ensures ready { IfOk result (λ prepared. IsChangeReady prepared self.new) }
@@ -184,22 +186,27 @@ impl Parts {
     }
 
     /// Prepares a change of a dataset. A dataset that is replaced or removed is found by its id.
+    #[tactic(auto, using(crate::proofs::IndexLemmas::same_indexed))]
     fn prepare_dataset(&mut self, change: DatasetChange) -> Result<PreparedChange, AllocError>
-        requires shelved { IsValidShelf self.old.shelf }
+        requires shelved { IsIndexed self.old.shelf self.old.indexes }
         requires taken { IsTakenBy change self.old.shelf }
         ensures same { state_of self.new ≡ state_of self.old }
-        ensures shelved { IsValidShelf self.new.shelf }
+        ensures shelved { IsIndexed self.new.shelf self.new.indexes }
         ensures quota_used { self.new.quota_used ≡ self.old.quota_used }
         ensures change { IfOk result (λ prepared. planned_in prepared ≡ Datasets change) }
         ensures ready { IfOk result (λ prepared. IsChangeReady prepared self.new) }
     {
         match change {
             DatasetChange::Create(dataset) => {
-                self.shelf.prepare()?;
-                Ok(PreparedChange::Put(dataset))
+                let number = self.shelf.prepare()?;
+                let prepared = self.indexes.prepare(number, dataset)?;
+                Ok(PreparedChange::Put(prepared))
             }
             DatasetChange::Replace(dataset) => match self.shelf.number_of(dataset.id.as_str()) {
-                Some(number) => Ok(PreparedChange::Replace(number, dataset)),
+                Some(number) => {
+                    let prepared = self.indexes.prepare(number, dataset)?;
+                    Ok(PreparedChange::Replace(prepared))
+                }
                 None => unreachable!(),
             },
             DatasetChange::Remove(id) => match self.shelf.number_of(id.as_str()) {
@@ -218,6 +225,7 @@ impl Parts {
         ensures same { state_of self.new ≡ state_of self.old }
         ensures people { self.new.people ≡ self.old.people }
         ensures shelf { self.new.shelf ≡ self.old.shelf }
+        ensures indexes { self.new.indexes ≡ self.old.indexes }
         ensures tables { self.new.tables ≡ self.old.tables }
         ensures charge { IfOk result (λ charge.
             charge ≡ charge_of call.now.caller call.now.size self.old.quota_used.used) }
@@ -241,9 +249,9 @@ impl Parts {
     /// Makes a prepared change, and charges it. It takes no memory and can't fail.
     fn commit(&mut self, prepared: Prepared)
         requires ready { IsPrepared prepared self.old }
-        requires shelved { IsValidShelf self.old.shelf }
+        requires shelved { IsIndexed self.old.shelf self.old.indexes }
         ensures state { state_of self.new ≡ with_prepared prepared (state_of self.old) }
-        ensures shelved { IsValidShelf self.new.shelf }
+        ensures shelved { IsIndexed self.new.shelf self.new.indexes }
     {
         let Prepared { change, charge } = prepared;
         self.commit_change(change);
@@ -254,23 +262,22 @@ impl Parts {
     fn commit_change(&mut self, change: PreparedChange)
         requires ready { IsChangeReady change self.old }
         requires linked { AreLinked (changed (planned_in change) (state_of self.old)).tables }
-        requires shelved { IsValidShelf self.old.shelf }
+        requires shelved { IsIndexed self.old.shelf self.old.indexes }
         ensures state { state_of self.new ≡ changed (planned_in change) (state_of self.old) }
-        ensures shelved { IsValidShelf self.new.shelf }
+        ensures shelved { IsIndexed self.new.shelf self.new.indexes }
         ensures quota_used { self.new.quota_used ≡ self.old.quota_used }
     {
         match change {
             PreparedChange::People(change) => self.people.commit(change),
-            PreparedChange::Put(dataset) => {
-                self.shelf.put(dataset);
-            }
-            PreparedChange::Replace(number, dataset) => {
+            PreparedChange::Put(prepared) => self.indexes.put(&mut self.shelf, prepared),
+            PreparedChange::Replace(prepared) => {
+                let dataset = &prepared.dataset;
                 self.tables.keep(&dataset.id, dataset.resources.as_slice());
-                self.shelf.replace(number, dataset);
+                self.indexes.replace(&mut self.shelf, prepared);
             }
             PreparedChange::Remove(number, id) => {
                 self.tables.keep(&id, &[]);
-                self.shelf.remove(number);
+                self.indexes.remove(&mut self.shelf, number);
             }
             PreparedChange::Tables(plan) => self.tables.commit(plan),
         }
@@ -281,6 +288,7 @@ impl Parts {
         requires ready { IsChargeReady charge self.old }
         ensures state { state_of self.new ≡ with_charge charge (state_of self.old) }
         ensures shelf { self.new.shelf ≡ self.old.shelf }
+        ensures indexes { self.new.indexes ≡ self.old.indexes }
     {
         if let Some(entry) = charge {
             self.quota_used.set(entry);

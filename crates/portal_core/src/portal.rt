@@ -11,6 +11,8 @@ ghost use Rattle.portal_core.specs.PortalValue.{AreKept};
 ghost use Rattle.portal_core.specs.Step.{known_step, planned_outcome};
 ghost use Rattle.portal_core.specs.View.{view_of};
 
+mod reading;
+
 use crate::act_fault::ActFault;
 use crate::change::Plan;
 use crate::decide::decide;
@@ -136,7 +138,7 @@ impl<K: Keeper> Portal<K> {
     }
 
     /// Whether the caller is nobody, or a user of this portal.
-    fn is_known(&self, caller: &Caller) -> bool
+    pub fn is_known(&self, caller: &Caller) -> bool
         ensures { result ≡ is_known self.now.state.people caller.now }
     {
         match caller {

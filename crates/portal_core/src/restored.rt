@@ -12,7 +12,7 @@ ghost use Rattle.portal_core.specs.Values.{IsStateOf, values_of};
 
 use crate::parts::Parts;
 use crate::quota::QuotaLedger;
-use crate::restored_datasets::shelf_of_values;
+use crate::restored_datasets::indexed_shelf_of_values;
 use crate::restored_people::people_of_values;
 use crate::restored_tables::tables_of_values;
 use org_roles::entry::User;
@@ -48,13 +48,14 @@ pub(crate) fn parts_of_values(
     let Some(people) = people_of_values(alloc, users, orgs)? else {
         return Ok(None);
     };
-    let Some(shelf) = shelf_of_values(alloc, &people, datasets)? else {
+    let Some((shelf, indexes)) = indexed_shelf_of_values(alloc, &people, datasets)? else {
         return Ok(None);
     };
     match tables_of_values(alloc, &shelf, tables)? {
         Some(tables) => Ok(Some(Parts {
             people,
             shelf,
+            indexes,
             tables,
             quota_used: QuotaLedger::new(alloc),
         })),

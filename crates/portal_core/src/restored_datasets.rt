@@ -4,8 +4,10 @@ ghost use Rattle.dataset_answers.specs.Sound.{IsSound};
 ghost use Rattle.packages.specs.Order.{dataset_cmp};
 ghost use Rattle.packages.specs.Shelf.{IsValidShelf, datasets_of};
 ghost use Rattle.portal_base.specs.Ordered.{IsAscending};
+ghost use Rattle.portal_core.specs.Indexes.{IsIndexed};
 ghost use Rattle.portal_core.specs.Restored.{AreShelvable};
 
+use crate::indexes::Indexes;
 use dataset_answers::sound::is_sound;
 use org_roles::people::People;
 use packages::package::Package;
@@ -13,9 +15,31 @@ use packages::shelf::Shelf;
 use portal_base::seq::Seq;
 use std::alloc::{AllocError, Global};
 
+/// The shelf with these datasets, and its indexes. The result is `None` exactly if one of them may not exist among these
+/// people, or two have one name.
+pub(crate) fn indexed_shelf_of_values(
+    alloc: Global,
+    people: &People,
+    datasets: Seq<Package>,
+) -> Result<Option<(Shelf, Indexes)>, AllocError>
+    requires { IsAscending dataset_cmp datasets }
+    ensures shelvable { IfOk result (λ found. IfSome found (λ shelf. AreShelvable people.now.people datasets)) }
+    ensures datasets { IfOk result (λ found. IfSome found (λ shelf. datasets_of shelf.0 ≡ datasets)) }
+    ensures indexed { IfOk result (λ found. IfSome found (λ shelf. IsIndexed shelf.0 shelf.1)) }
+    ensures none { IfOk result (λ found. IfNone found (AreShelvable people.now.people datasets → ⊥)) }
+{
+    match shelf_of_values(alloc, people, datasets)? {
+        Some(shelf) => {
+            let indexes = Indexes::of(alloc, &shelf)?;
+            Ok(Some((shelf, indexes)))
+        }
+        None => Ok(None),
+    }
+}
+
 /// The shelf with these datasets. The result is `None` exactly if one of them may not exist among these people, or two
 /// have one name.
-pub(crate) fn shelf_of_values(
+fn shelf_of_values(
     alloc: Global,
     people: &People,
     datasets: Seq<Package>,

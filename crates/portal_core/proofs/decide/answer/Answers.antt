@@ -8,6 +8,9 @@ use Rattle.datastore_answers.specs.TableAnswers.{map_answer}
 use Rattle.datastore_answers.specs.Tables.{tables_of}
 use Rattle.portal_core.specs.Answer.{of_datasets}
 use Rattle.portal_core.specs.Planned.{planned_of}
+use Rattle.portal_core.specs.Search.{search_outcome}
+use Rattle.portal_calls.specs.Answer.{answer_if_found}
+use Rattle.portal_calls.specs.declared.answer.Answer.TheVariants.{Shown}
 use Rattle.portal_core.proofs.Deciding.{answer_on_same}
 use Rattle.portal_core.proofs.TableViewing.{held_there}
 use Rattle.portal_core.proofs.decide.answer.Goals as goal
@@ -29,6 +32,18 @@ returns-in-Datasets-clause-answer c =
 
 pub returns-in-Datasets-clause-planned : goal.returns-in-Datasets-clause-planned
 returns-in-Datasets-clause-planned c = c.on_datasets.ensures.planned _
+
+pub returns-in-Search-clause-answer : goal.returns-in-Search-clause-answer
+returns-in-Search-clause-answer c =
+    let view = context_view c.args.context.now in
+    answer_on_same _ _ _ _ c.of.ensures c.in-Search.is
+    (subst (λ (summaries : List TableSummary). IfOk c.on_search.result (λ answer. map_answer planned_of answer
+    ≡ answer_if_found (search_outcome view.call.request.body view.people view.datasets summaries) Shown))
+    (held_there view.datasets (tables_of c.args.tables.now))
+    (c.on_search.ensures.answer _ c.answer_to_search.ensures))
+
+pub returns-in-Search-clause-planned : goal.returns-in-Search-clause-planned
+returns-in-Search-clause-planned c = c.on_search.ensures.planned _
 
 pub returns-in-Tables-clause-answer : goal.returns-in-Tables-clause-answer
 returns-in-Tables-clause-answer c =

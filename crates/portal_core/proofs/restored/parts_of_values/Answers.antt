@@ -30,12 +30,13 @@ returns-in-Some-3-clause-consistent c =
     parts-consistent c.args.values (record {
       people = c.in-Some.people;
       shelf = c.in-Some-2.shelf;
+      indexes = c.in-Some-2.indexes;
       tables = c.in-Some-3.tables;
       quota_used = c.new.result;
     })
     c.requires.values (rw c.in-Some.is at c.in_ok-people.ensures.people)
     (rw c.in-Some-2.is at c.in_ok-shelf.ensures.shelvable) (rw c.in-Some-2.is at c.in_ok-shelf.ensures.datasets)
-    (rw c.in-Some-2.is at c.in_ok-shelf.ensures.valid) (rw c.in-Some-3.is at c.in_ok-tables.ensures.tables)
+    (rw c.in-Some-2.is at c.in_ok-shelf.ensures.indexed) (rw c.in-Some-3.is at c.in_ok-tables.ensures.tables)
     c.new.ensures
 
 pub returns-in-Some-3-clause-values : goal.returns-in-Some-3-clause-values
@@ -43,6 +44,7 @@ returns-in-Some-3-clause-values c =
     parts-values c.args.values (record {
       people = c.in-Some.people;
       shelf = c.in-Some-2.shelf;
+      indexes = c.in-Some-2.indexes;
       tables = c.in-Some-3.tables;
       quota_used = c.new.result;
     })
@@ -54,6 +56,7 @@ returns-in-Some-3-clause-typed c =
     parts-typed c.args.values (record {
       people = c.in-Some.people;
       shelf = c.in-Some-2.shelf;
+      indexes = c.in-Some-2.indexes;
       tables = c.in-Some-3.tables;
       quota_used = c.new.result;
     })
