@@ -1,7 +1,10 @@
 //! The words of the command line: the command that they say, or `bad words`.
 use cases::{Buffer, Case};
+use portal_base::caller::Caller;
 use portal_base::text::Text;
-use portal_words::{Command, LoadOptions, PlayOptions, ServeOptions, WordsFault};
+use portal_words::{
+    Command, LoadOptions, PlayOptions, ReportKind, ReportOptions, ServeOptions, WordsFault,
+};
 use std::alloc::{AllocError, Global};
 use std::io;
 
@@ -48,6 +51,24 @@ fn push_serve(answer: &mut Buffer, options: &ServeOptions) {
     answer.push_value(&options.links);
 }
 
+fn kind_name(kind: ReportKind) -> &'static str {
+    match kind {
+        ReportKind::Datasets => "datasets",
+        ReportKind::Tables => "tables",
+    }
+}
+
+fn push_report(answer: &mut Buffer, options: &ReportOptions) {
+    push_command(answer, "report", options.portal.as_ref());
+    answer.push(" kind ");
+    answer.push(kind_name(options.kind));
+    if let Caller::Named(name) = &options.caller {
+        answer.push(" as [");
+        answer.push(name.as_str());
+        answer.push("]");
+    }
+}
+
 /// Words with a space between them: the command that they say, with its options, or why there is none.
 pub fn command(alloc: Global, case: &Case, answer: &mut Buffer) -> io::Result<()> {
     let words = words_in(alloc, case.text(0)?)?;
@@ -55,6 +76,7 @@ pub fn command(alloc: Global, case: &Case, answer: &mut Buffer) -> io::Result<()
         Ok(Command::Play(options)) => push_play(answer, &options),
         Ok(Command::Load(options)) => push_load(answer, &options),
         Ok(Command::Serve(options)) => push_serve(answer, &options),
+        Ok(Command::Report(options)) => push_report(answer, &options),
         Err(WordsFault::BadWords) => answer.push("bad words"),
         Err(WordsFault::OutOfMemory) => answer.push("out of memory"),
     }

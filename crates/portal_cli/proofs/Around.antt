@@ -20,6 +20,11 @@ store_reports None status why no_command = inr (no_command refl)
 store_reports (Some command) status (inl failed) no_command = λ is. absurd (cc)
 store_reports (Some command) status (inr memory) no_command = λ is. absurd (cc)
 
+-- and where memory ran out afterwards
+pub memory_reports : (command : Option Command) → ReportsWords command OutOfMemory
+memory_reports None = inr refl
+memory_reports (Some command) = λ is. absurd (cc)
+
 -- what was done with the one item of a list
 pub holds_of_only : {X : Type 0} (P : X → X → Type 0) (xs : List X) (x y : X) → length xs ≡ 1 → x ≡ get_or xs 0 x
     → P x y

@@ -1,6 +1,7 @@
 //! The portal's program: `portal play` plays the script on standard input and writes its transcript to standard output,
-//! `portal load` loads the CSV on standard input, and `portal serve` serves HTTP on this machine. On every status but 0
-//! it writes a line on standard error. What the portal keeps is in the file that `PORTAL_STORE` names, or in memory.
+//! `portal load` loads the CSV on standard input, `portal serve` serves HTTP on this machine, and `portal report` writes a
+//! report to standard output. On every status but 0 it writes a line on standard error. What the portal keeps is in the file
+//! that `PORTAL_STORE` names, or in memory.
 #![tactic(auto)]
 
 ghost use Rattle.std.specs.Prelude.{◌≡◌, ◌≢◌, [], ◌∷◌, false, map, string_bytes, All, Ok};

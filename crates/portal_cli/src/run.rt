@@ -5,7 +5,7 @@ ghost use Rattle.std.specs.Prelude.{string_bytes, All, IsTrue};
 ghost use Rattle.portal_base.specs.Outside.{Rose};
 ghost use Rattle.portal_words.specs.Commands.{command_of};
 ghost use Rattle.portal_load.specs.SchemaFile.{LoadsFrom};
-ghost use Rattle.portal_cli.specs.Run.{NamesNoFile, HoldsOfOnly, PlaysNone, Runs, ServesNone};
+ghost use Rattle.portal_cli.specs.Run.{NamesNoFile, HoldsOfOnly, PlaysNone, Runs, ServesNone, WritesNone};
 ghost use Rattle.portal_cli.specs.Run.{portal_of, run_trace};
 ghost use Rattle.portal_core.specs.Opened.{is_opening};
 ghost use Rattle.portal_start.specs.OverStore.{BeginsOver, WorksOver, store_trace};
@@ -20,7 +20,7 @@ use portal_base::outside::{Clock, Desk, Fetcher, Listener, Nonces, Sink, Source}
 use portal_core::portal::Opening;
 use portal_keeper::keeper::Keeper;
 use portal_load::schema_file::load_csv;
-use portal_start::commands::{play_from, serve_from};
+use portal_start::commands::{play_from, report_from, serve_from};
 pub use portal_start::over_store::Ended;
 use portal_start::over_store::{end_with, open_portal};
 use portal_start::start::start_of;
@@ -150,7 +150,8 @@ fn carry_out<S: Source, O: Sink, P: Keeper, F: Fetcher, L: Listener, C: Clock, N
     ensures rule { ReportsRule (fetch_trace (F.held fetcher.old) (F.faults fetcher.old) (F.faults fetcher.new))
         (portal_of (command_of (map string_bytes words.now))) result.status }
     ensures no_script { PlaysNone (command_of (map string_bytes words.now)) →
-        (input.new ≡ input.old) × (output.new ≡ output.old) × (clock.new ≡ clock.old) × (nonces.new ≡ nonces.old) }
+        (input.new ≡ input.old) × (clock.new ≡ clock.old) × (nonces.new ≡ nonces.old) }
+    ensures no_output { WritesNone (command_of (map string_bytes words.now)) → output.new ≡ output.old }
     ensures no_store { command_of (map string_bytes words.now) ≡ None → result.keeper ≡ keeper }
     ensures no_links { ServesNone (command_of (map string_bytes words.now)) → desk.new ≡ desk.old }
     ensures no_file { NamesNoFile (command_of (map string_bytes words.now)) → fetcher.new ≡ fetcher.old }
@@ -171,6 +172,7 @@ fn carry_out<S: Source, O: Sink, P: Keeper, F: Fetcher, L: Listener, C: Clock, N
             alloc, options, input, output, keeper, fetcher, clock, nonces,
         ),
         Ok(Command::Serve(options)) => serve_from(alloc, &options, keeper, fetcher, desk),
+        Ok(Command::Report(options)) => report_from(alloc, &options, output, keeper, fetcher),
         Err(WordsFault::BadWords) => Ended {
             status: Status::Words,
             keeper,
@@ -185,9 +187,9 @@ fn carry_out<S: Source, O: Sink, P: Keeper, F: Fetcher, L: Listener, C: Clock, N
 /// Carries out the command of the words, which are those after the program's name. `play` plays the script on `input`
 /// and writes its transcript to `output`. It holds one line of the input and the bytes of one read, at most 65,536.
 /// `load` loads the CSV on `input` into a new table, by the schema that is fetched from its location, and writes a line
-/// to `output` for each call. `serve` serves the links of the desk, one after another. The commands work on the portal
-/// of the portal file that the words name, which the fetcher fetches, or on the default portal. It is opened over the keeper,
-/// which is handed back. Every status but 0 writes its line to `faults`.
+/// to `output` for each call. `serve` serves the links of the desk, one after another. `report` writes a report to `output`.
+/// The commands work on the portal of the portal file that the words name, which the fetcher fetches, or on the default
+/// portal. It is opened over the keeper, which is handed back. Every status but 0 writes its line to `faults`.
 pub fn run<S: Source, O: Sink, E: Sink, P: Keeper, F: Fetcher, L: Listener, C: Clock, N: Nonces>(
     alloc: Global,
     words: &[String],
@@ -210,7 +212,7 @@ pub fn run<S: Source, O: Sink, E: Sink, P: Keeper, F: Fetcher, L: Listener, C: C
     ensures words { result.status ≡ Status.Words → command_of (map string_bytes words.now) ≡ None }
     ensures no_command { command_of (map string_bytes words.now) ≡ None →
         (result.status ≡ Status.Words) ⊎ (result.status ≡ Status.OutOfMemory) }
-    // What was played, loaded or served, by the command and the status: the portal that the run began with, or why it
+    // What was played, loaded, served or reported, by the command and the status: the portal that the run began with, or why it
     // began with none; what was read, written and drawn; each link that came, was served and was given back, at most
     // `--links`; and, where the rows of the keeper are observable, that they are those of the portal's state in the end.
     ensures runs { HoldsOfOnly fetchers.old.items fetchers.new.items (λ before after.
@@ -231,7 +233,8 @@ pub fn run<S: Source, O: Sink, E: Sink, P: Keeper, F: Fetcher, L: Listener, C: C
         (portal_of (command_of (map string_bytes words.now))) result.status) }
     // Devices that the command doesn't use stay as they were: the fetcher, if the words name no file.
     ensures no_script { PlaysNone (command_of (map string_bytes words.now)) →
-        (input.new ≡ input.old) × (output.new ≡ output.old) × (clock.new ≡ clock.old) × (nonces.new ≡ nonces.old) }
+        (input.new ≡ input.old) × (clock.new ≡ clock.old) × (nonces.new ≡ nonces.old) }
+    ensures no_output { WritesNone (command_of (map string_bytes words.now)) → output.new ≡ output.old }
     ensures no_store { command_of (map string_bytes words.now) ≡ None → result.keeper ≡ keeper }
     ensures no_links { ServesNone (command_of (map string_bytes words.now)) → desks.new.items ≡ desks.old.items }
     ensures no_file { NamesNoFile (command_of (map string_bytes words.now))

@@ -9,7 +9,7 @@ use portal_base::text::Text;
 use portal_keeper::keeper::Keeper;
 use portal_keeper::memory::MemoryKeeper;
 use portal_load::schema_file::load_csv;
-use portal_start::commands::{play_from, serve_from};
+use portal_start::commands::{play_from, report_from, serve_from};
 use portal_start::over_store::{Ended, end_with, open_portal};
 use portal_start::start::start_of;
 use portal_status::status::{Status, report};
@@ -304,6 +304,13 @@ fn carry_out(
             keeper,
             &mut devices.fetcher,
             &mut devices.desk,
+        ),
+        Ok(Command::Report(options)) => report_from(
+            alloc,
+            &options,
+            &mut devices.output,
+            keeper,
+            &mut devices.fetcher,
         ),
         Err(WordsFault::BadWords) => Ended {
             status: Status::Words,

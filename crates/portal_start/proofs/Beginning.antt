@@ -5,7 +5,7 @@ use Rattle.std.specs.Prelude.{◌↔◌, IfSome, codes}
 use Rattle.portal_base.specs.Outside.{Rose}
 use Rattle.portal_base.specs.declared.outside.Failed.{Failed}
 use Rattle.portal_core.specs.State.{State}
-use Rattle.portal_start.specs.Commands.{Plays, status_for, status_for_desk}
+use Rattle.portal_start.specs.Commands.{Plays, WritesWith, status_for, status_for_desk}
 use Rattle.portal_core.specs.PortalValue.{AreOfNoState}
 use Rattle.portal_core.specs.declared.opening.OpenFault.{OpenFault}
 use Rattle.portal_core.specs.declared.opening.OpenFault.TheVariants as opening
@@ -131,3 +131,12 @@ fails_by before after (Err failed) rose is = rose
 pub no_keeper_by : (served : Result Unit Failed) → status_for_desk served ≢ status.KeeperFault
 no_keeper_by (Ok done) = λ is. absurd (cc)
 no_keeper_by (Err failed) = λ is. absurd (cc)
+
+-- ---- a report that was written
+
+-- No report ends by a fault of the store.
+pub report_is : (text : List ℕ) (old new : Option (List ℕ)) (ended : Status) → WritesWith text old new ended
+    → ended ≢ status.KeeperFault
+report_is text old new ended (inl (done, all)) = λ is. absurd (cc)
+report_is text old new ended (inr (inl (failed, part))) = λ is. absurd (cc)
+report_is text old new ended (inr (inr (memory, none))) = λ is. absurd (cc)

@@ -1,7 +1,11 @@
--- What playing a script and serving links did, by how they ended.
-use Rattle.std.specs.Prelude.{◌≡◌, ℕ, List, Some, Ok, Err, codes, Result}
+-- What playing a script, serving links and printing a report did, by how they ended.
+use Rattle.std.specs.Prelude.{◌≡◌, ◌⊎◌, ℕ, List, Option, Some, Ok, Err, codes, Result}
+use Rattle.portal_base.specs.Outside.{Takes, TakesPrefix}
 use Rattle.portal_base.specs.declared.outside.Failed.{Failed}
+use Rattle.portal_core.specs.Known.{known_caller}
 use Rattle.portal_core.specs.State.{State}
+use Rattle.portal_core.specs.View.{view_of}
+use Rattle.portal_reports.specs.Report.{report_text}
 use Rattle.portal_status.specs.declared.status.Status.{Status}
 use Rattle.portal_status.specs.declared.status.Status.TheVariants.{Done, ReadFault, WriteFault, KeeperFault, OutOfMemory}
 use Rattle.portal_status.specs.declared.status.Status.TheVariants.{DataFault, ListenFault}
@@ -11,6 +15,7 @@ use Rattle.portal_serve.specs.Served.{LinkTrace}
 use Rattle.portal_serve.specs.Tokens.{Digests}
 use Rattle.portal_serve.specs.declared.play.PlayEnd.{PlayEnd}
 use Rattle.portal_serve.specs.declared.play.PlayEnd.TheVariants as play_end
+use Rattle.portal_words.specs.declared.command.ReportOptions.{ReportOptions}
 
 -- the status for the end of playing
 abbrev pub status_for : PlayEnd → Status
@@ -66,3 +71,22 @@ abbrev pub ServesWith : {Peer : Type 0} → (Peer → LinkTrace) → Digests →
 ServesWith trace digests state after links old new status =
     (served : Result Unit Failed) × (status ≡ status_for_desk served)
     × ServesDesk trace digests state links old new after served
+
+-- ---- report
+
+-- the report that the options ask for, on what its caller sees of the state; a caller whom no user has is nobody
+abbrev pub report_for : ReportOptions → State → List ℕ
+report_for options state =
+    report_text options.kind (view_of (known_caller state.people options.caller) state)
+
+-- How the writing of a text ended, by the status. All of it was written; or some bytes from its start, and output failed;
+-- or none, as memory ran out before.
+abbrev pub WritesWith : List ℕ → Option (List ℕ) → Option (List ℕ) → Status → Type 0
+WritesWith text old new status =
+    ((status ≡ Done) × Takes old text new)
+    ⊎ (((status ≡ WriteFault) × TakesPrefix old text new) ⊎ ((status ≡ OutOfMemory) × (new ≡ old)))
+
+-- The report on a state was written to output, by the status, and the state stays.
+abbrev pub ReportsWith : ReportOptions → State → State → Option (List ℕ) → Option (List ℕ) → Status → Type 0
+ReportsWith options state after old new status =
+    (after ≡ state) × WritesWith (report_for options state) old new status

@@ -1,8 +1,9 @@
-//! The commands that play a script and serve links, on a portal that is opened over the store for it.
+//! The commands that play a script, serve links and print a report, on a portal that is opened over the store for it.
 ghost use Rattle.std.specs.Prelude.{◌≡◌, ◌↔◌, ◌≤◌, ℕ, List, Some, None, false, codes, IsTrue};
 ghost use Rattle.portal_base.specs.Outside.{Rose};
 ghost use Rattle.portal_core.specs.Opened.{is_opening};
-ghost use Rattle.portal_start.specs.Commands.{PlaysWith, ServesWith, status_for, status_for_desk};
+ghost use Rattle.portal_start.specs.Commands.{PlaysWith, ReportsWith, ServesWith, WritesWith, report_for};
+ghost use Rattle.portal_start.specs.Commands.{status_for, status_for_desk};
 ghost use Rattle.portal_start.specs.OverStore.{BeginsOver, WorksOver, store_trace};
 ghost use Rattle.portal_status.specs.Fetch.{fetch_trace};
 ghost use Rattle.portal_serve.specs.Desk.{desk_trace};
@@ -13,11 +14,14 @@ use crate::over_store::{Ended, end_with, open_portal};
 use crate::start::{Start, start_of};
 use portal_base::outside::{Clock, Desk, Failed, Fetcher, Listener, Nonces, Sink, Source};
 use portal_base::text::Text;
+use portal_core::portal::Portal;
 use portal_keeper::keeper::Keeper;
+use portal_lines::write::write_whole;
+use portal_reports::report::report;
 use portal_serve::desk::serve_desk;
 use portal_serve::play::{PlayEnd, play};
 use portal_status::status::Status;
-use portal_words::{PlayOptions, ServeOptions};
+use portal_words::{PlayOptions, ReportOptions, ServeOptions};
 use std::alloc::Global;
 
 fn status_of_end(end: PlayEnd) -> Status
@@ -180,6 +184,77 @@ pub fn serve_from<P: Keeper, F: Fetcher, L: Listener, C: Clock, N: Nonces>(
 {
     match start_of(alloc, fetcher, &options.portal) {
         Ok(start) => serve_links(alloc, &start, keeper, desk, options.links),
+        Err(status) => Ended { status, keeper },
+    }
+}
+
+/// Writes the report that the options ask for.
+fn write_report<O: Sink, P: Keeper>(
+    alloc: Global,
+    portal: &Portal<P>,
+    options: &ReportOptions,
+    output: &mut O,
+) -> Status
+    ensures writes { WritesWith (report_for options.now portal.now.state) (O.taken output.old) (O.taken output.new)
+        result }
+    ensures write_fault { result ≡ Status.WriteFault → Rose (O.faults output.old) (O.faults output.new) }
+{
+    let Ok(text) = report(alloc, portal, &options.caller, options.kind) else {
+        return Status::OutOfMemory;
+    };
+    match write_whole(output, text.as_bytes()) {
+        Ok(()) => Status::Done,
+        Err(_failed) => Status::WriteFault,
+    }
+}
+
+/// Writes the report on the portal that `start` opens over the keeper.
+fn report_over<O: Sink, P: Keeper>(
+    alloc: Global,
+    start: &Start,
+    options: &ReportOptions,
+    output: &mut O,
+    keeper: P,
+) -> Ended<P>
+    requires { IsTrue (is_opening start.now.opening) }
+    ensures reports { WorksOver start.now.opening
+        (store_trace (P.rows keeper) (P.faults keeper) (P.rows result.keeper) (P.faults result.keeper)) result.status
+        (λ state after. ReportsWith options.now state after (O.taken output.old) (O.taken output.new) result.status)
+        (O.taken output.new ≡ O.taken output.old) }
+    ensures write_fault { result.status ≡ Status.WriteFault → Rose (O.faults output.old) (O.faults output.new) }
+    ensures keeper_fault { result.status ≡ Status.KeeperFault → Rose (P.faults keeper) (P.faults result.keeper) }
+    ensures counts { P.faults keeper ≤ P.faults result.keeper }
+{
+    match open_portal(alloc, keeper, &start.opening) {
+        Ok(portal) => {
+            let status = write_report(alloc, &portal, options, output);
+            end_with(portal, status)
+        }
+        Err(ended) => ended,
+    }
+}
+
+/// Carries out `report`: writes the report that the options ask for, on the portal that they name, over the keeper.
+pub fn report_from<O: Sink, P: Keeper, F: Fetcher>(
+    alloc: Global,
+    options: &ReportOptions,
+    output: &mut O,
+    keeper: P,
+    fetcher: &mut F,
+) -> Ended<P>
+    ensures reports { BeginsOver (fetch_trace (F.held fetcher.old) (F.faults fetcher.old) (F.faults fetcher.new))
+        options.now.portal
+        (store_trace (P.rows keeper) (P.faults keeper) (P.rows result.keeper) (P.faults result.keeper)) result.status
+        (λ beginning state after. ReportsWith options.now state after (O.taken output.old) (O.taken output.new)
+        result.status)
+        (O.taken output.new ≡ O.taken output.old) }
+    ensures no_file { options.now.portal ≡ None → fetcher.new ≡ fetcher.old }
+    ensures write_fault { result.status ≡ Status.WriteFault → Rose (O.faults output.old) (O.faults output.new) }
+    ensures keeper_fault { result.status ≡ Status.KeeperFault → Rose (P.faults keeper) (P.faults result.keeper) }
+    ensures counts { P.faults keeper ≤ P.faults result.keeper }
+{
+    match start_of(alloc, fetcher, &options.portal) {
+        Ok(start) => report_over(alloc, &start, options, output, keeper),
         Err(status) => Ended { status, keeper },
     }
 }

@@ -1,5 +1,5 @@
 //! What a run begins with: the default portal or that of a portal file. The portal of a run, which is opened over the store.
-//! And the commands that play a script on it or serve links from it.
+//! And the commands that play a script on it, serve links from it or print a report on it.
 #![tactic(auto)]
 
 pub mod commands;

@@ -1,7 +1,9 @@
 -- Worked examples, by computation.
 use Rattle.std.specs.Prelude.{◌≡◌, codes, [], ◌∷◌, Some, None}
 use Rattle.std.proofs.Common.{refl}
-use Rattle.portal_words.specs.declared.command.Command.TheVariants.{Play, Load, Serve}
+use Rattle.portal_words.specs.declared.command.Command.TheVariants.{Play, Load, Serve, Report}
+use Rattle.portal_words.specs.declared.command.ReportKind.TheVariants.{Tables}
+use Rattle.portal_base.specs.declared.caller.Caller.TheVariants.{Named}
 use Rattle.portal_words.specs.Commands.{command_of}
 
 -- `play` alone
@@ -39,3 +41,11 @@ loads = refl
 
 loads_by_nobody : command_of (codes "load" ∷ codes "--schema=s" ∷ codes "--resource=air.1" ∷ []) ≡ None
 loads_by_nobody = refl
+
+-- a report of a kind that is there, and one of another
+reports : command_of (codes "report" ∷ codes "--as" ∷ codes "ann" ∷ codes "--kind=tables" ∷ [])
+    ≡ Some (Report (record { portal = None; kind = Tables; caller = Named (codes "ann") }))
+reports = refl
+
+reports_other : command_of (codes "report" ∷ codes "--kind=harvest" ∷ []) ≡ None
+reports_other = refl

@@ -10,8 +10,12 @@ use Rattle.std.specs.Str.{bytes_eq}
 use Rattle.std.specs.Str.Parse.{digits_value}
 use Rattle.std.specs.declared.cmp.Ordering.{Ordering}
 use Rattle.portal_base.specs.Ordered.{are_apart}
+use Rattle.portal_base.specs.declared.caller.Caller.{Caller}
+use Rattle.portal_base.specs.declared.caller.Caller.TheVariants.{Anonymous, Named}
 use Rattle.portal_words.specs.declared.command.Command.{Command}
-use Rattle.portal_words.specs.declared.command.Command.TheVariants.{Play, Load, Serve}
+use Rattle.portal_words.specs.declared.command.Command.TheVariants.{Play, Load, Serve, Report}
+use Rattle.portal_words.specs.declared.command.ReportKind.{ReportKind}
+use Rattle.portal_words.specs.declared.command.ReportKind.TheVariants.{Datasets, Tables}
 use Rattle.portal_words.specs.Grammar.{Setting, options_in}
 
 -- ---- which options are given
@@ -79,6 +83,22 @@ number_for least most default (Some value) = number_in least most value
 abbrev pub number_of : List ℕ → ℕ → ℕ → ℕ → List Setting → Option ℕ
 number_of name least most default given = number_for least most default (value_of name given)
 
+-- what is reported; the value has to be there, and to be one of these words
+abbrev pub kind_for : Option (List ℕ) → Option ReportKind
+kind_for None = None
+kind_for (Some value) =
+    if bytes_eq value (codes "datasets") then Some Datasets
+    else if bytes_eq value (codes "tables") then Some Tables
+    else None
+
+abbrev pub kind_of : List ℕ → List Setting → Option ReportKind
+kind_of name given = kind_for (value_of name given)
+
+-- who calls: the user of the name, or nobody where no name is given
+abbrev pub caller_for : Option (List ℕ) → Caller
+caller_for None = Anonymous
+caller_for (Some name) = Named name
+
 -- ---- commands
 
 -- `play`: `--portal`
@@ -112,12 +132,22 @@ serve_with given =
     (text_of (codes "portal") given)
     else None
 
+-- `report`: `--portal`, the required `--kind`, which is `datasets` or `tables`, and `--as`, by default nobody
+abbrev pub report_with : List Setting → Option Command
+report_with given =
+    if are_allowed (codes "portal" ∷ codes "kind" ∷ codes "as" ∷ []) given
+    then option_and_then (λ portal. option_and_then (λ kind. option_map
+    (λ caller. Report (record { portal = portal; kind = kind; caller = caller_for caller }))
+    (text_of (codes "as") given)) (kind_of (codes "kind") given)) (text_of (codes "portal") given)
+    else None
+
 -- the command of this name with these options
 abbrev pub command_with : List ℕ → List Setting → Option Command
 command_with name given =
     if bytes_eq name (codes "play") then play_with given
     else if bytes_eq name (codes "load") then load_with given
     else if bytes_eq name (codes "serve") then serve_with given
+    else if bytes_eq name (codes "report") then report_with given
     else None
 
 -- The command that the words after the program's name are: the first word names it, and the others are its options.

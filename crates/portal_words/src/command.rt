@@ -1,11 +1,12 @@
 //! Commands, read from words.
-ghost use Rattle.std.specs.Prelude.{◌≡◌, map, string_bytes, option_and_then, Some, None, IfOk, IsErrOf};
-ghost use Rattle.portal_words.specs.Commands.{command_of, load_with, play_with, serve_with};
+ghost use Rattle.std.specs.Prelude.{◌≡◌, map, string_bytes, option_and_then, option_map, Some, None, IfOk, IsErrOf};
+ghost use Rattle.portal_words.specs.Commands.{caller_for, command_of, kind_for, load_with, play_with, report_with, serve_with};
 ghost use Rattle.portal_words.specs.Grammar.{options_in};
 
 use crate::options::options_in;
 use crate::values::{number_of, required_text_of, text_of};
 use clap::error::ErrorKind;
+use portal_base::caller::Caller;
 use portal_base::text::Text;
 use std::alloc::{AllocError, Global};
 use thiserror::Error;
@@ -19,6 +20,8 @@ pub enum Command {
     Load(LoadOptions),
     /// Serves links.
     Serve(ServeOptions),
+    /// Prints a report.
+    Report(ReportOptions),
 }
 
 /// The options of `play`.
@@ -48,6 +51,26 @@ pub struct ServeOptions {
     pub portal: Option<Text>,
     /// The most links to serve, from 1 to 1,000,000,000.
     pub links: u64,
+}
+
+/// What is reported.
+#[derive(Clone, Copy, Debug, PartialEq, Eq)]
+pub enum ReportKind {
+    /// The organizations, with the numbers of their datasets.
+    Datasets,
+    /// The tables, with the numbers of their rows and columns.
+    Tables,
+}
+
+/// The options of `report`. The kind is required.
+#[derive(Drop)]
+pub struct ReportOptions {
+    /// The location of the portal file.
+    pub portal: Option<Text>,
+    /// What is reported.
+    pub kind: ReportKind,
+    /// Who asks for the report: the user of this name, known or not, or nobody.
+    pub caller: Caller,
 }
 
 /// Why words name no command. `OutOfMemory` says nothing about the words.
@@ -90,6 +113,8 @@ static OPTIONS_OF_PLAY: [&str; 1] = ["portal"];
 static OPTIONS_OF_LOAD: [&str; 4] = ["portal", "as", "resource", "schema"];
 
 static OPTIONS_OF_SERVE: [&str; 2] = ["portal", "links"];
+
+static OPTIONS_OF_REPORT: [&str; 3] = ["portal", "kind", "as"];
 
 /// The largest value of `--links`, which is also its default.
 const MOST_LINKS: u64 = 1_000_000_000;
@@ -141,6 +166,47 @@ fn serve(alloc: Global, words: &[String]) -> Result<Command, WordsFault>
     }
 }
 
+/// What is reported, by the value of `--kind`.
+fn kind_of(value: Option<&str>) -> Option<ReportKind>
+    ensures { result ≡ kind_for (option_map (λ v. v.now) value.entry) }
+{
+    match value? {
+        "datasets" => Some(ReportKind::Datasets),
+        "tables" => Some(ReportKind::Tables),
+        _ => None,
+    }
+}
+
+/// Who calls, by the name of a user.
+fn caller_of(name: Option<Text>) -> Caller
+    ensures { result ≡ caller_for name }
+{
+    match name {
+        Some(name) => Caller::Named(name),
+        None => Caller::Anonymous,
+    }
+}
+
+/// The command `report` with the options in the words.
+fn report(alloc: Global, words: &[String]) -> Result<Command, WordsFault>
+    ensures ok { IfOk result (λ command. option_and_then report_with (options_in (map string_bytes words.now))
+        ≡ Some command) }
+    ensures bad { IsErrOf result WordsFault.BadWords
+        → option_and_then report_with (options_in (map string_bytes words.now)) ≡ None }
+{
+    let given = options_in(alloc, OPTIONS_OF_REPORT.as_slice(), words)?;
+    let portal = text_of(alloc, given.get_str("portal"))?;
+    let Some(kind) = kind_of(given.get_str("kind")) else {
+        return Err(WordsFault::BadWords);
+    };
+    let caller = caller_of(text_of(alloc, given.get_str("as"))?);
+    Ok(Command::Report(ReportOptions {
+        portal,
+        kind,
+        caller,
+    }))
+}
+
 impl Command {
     /// Reads the command from the words after the program's name. If they name no command, the fault is `BadWords`,
     /// unless memory runs out.
@@ -155,6 +221,7 @@ impl Command {
             "play" => play(alloc, words),
             "load" => load(alloc, words),
             "serve" => serve(alloc, words),
+            "report" => report(alloc, words),
             _ => Err(WordsFault::BadWords),
         }
     }

@@ -6,4 +6,6 @@ pub mod first_word;
 mod options;
 mod values;
 
-pub use command::{Command, LoadOptions, PlayOptions, ServeOptions, WordsFault};
+pub use command::{
+    Command, LoadOptions, PlayOptions, ReportKind, ReportOptions, ServeOptions, WordsFault,
+};

@@ -1,4 +1,5 @@
 -- The one fetcher and the one desk are all of their lists.
+use Rattle.std.proofs.Common.{◌∙◌, sym}
 use Rattle.portal_cli.proofs.Around.{holds_of_only}
 use Rattle.portal_cli.proofs.run.run.Goals as goal
 
@@ -12,3 +13,6 @@ pub returns-clause-rule : goal.returns-clause-rule
 returns-clause-rule g c =
     holds_of_only _ _ _ _ c.requires.fetcher c.index_mut.ensures.value
     (rw c.report.ensures.status c.carry_out-status.ensures.rule)
+
+pub returns-clause-read_fault : goal.returns-clause-read_fault
+returns-clause-read_fault g c = λ is. c.carry_out-status.ensures.read_fault (sym c.report.ensures.status ∙ is)

@@ -1,0 +1,4 @@
+mod CountLemmas
+mod Examples
+mod SeenLemmas
+mod TotalLemmas
