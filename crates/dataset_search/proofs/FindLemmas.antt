@@ -21,7 +21,7 @@ use Rattle.portal_base.proofs.Unique.{IsIn, below_in}
 use Rattle.portal_base.proofs.Upserted.{All-each}
 use Rattle.packages.specs.Named.{is_named}
 use Rattle.packages.specs.Order.{dataset_cmp}
-use Rattle.packages.specs.Shelf.{IsValidShelf, ShelfState, datasets_of, number_cmp, package_at}
+use Rattle.packages.specs.Shelf.{IsValidShelf, ShelfState, datasets_at, datasets_of, number_cmp, package_at}
 use Rattle.packages.specs.declared.package.Package.{Package}
 use Rattle.packages.proofs.EntryLemmas.{nat_cmp-same, package_at-IsIn}
 use Rattle.packages.proofs.FindLemmas.{map-IsIn, none-list_any}
@@ -32,7 +32,7 @@ use Rattle.search_index.specs.Index.{numbers_found}
 use Rattle.search_index.specs.Items.{matches}
 use Rattle.search_index.specs.Reading.{items_of}
 use Rattle.search_index.specs.declared.item.Item.{Item}
-use Rattle.dataset_search.specs.Found.{datasets_at, found, is_found, numbers_with, takes}
+use Rattle.dataset_search.specs.Found.{found, is_found, numbers_matching, numbers_with, takes}
 use Rattle.dataset_search.specs.Order.{have_distinct_names, name_cmp}
 use Rattle.dataset_search.specs.declared.search.Search.{Search}
 
@@ -111,7 +111,7 @@ numbers_with-entries test shelf (e ∷ es) has =
 
 -- ---- filters
 
-map-filtered : {X Y : Type 0} (f : X → Y) (p : Y → Bool) (xs : List X)
+pub map-filtered : {X Y : Type 0} (f : X → Y) (p : Y → Bool) (xs : List X)
     → map f (filter (λ x. p (f x)) xs) ≡ filter p (map f xs)
 map-filtered f p [] = refl
 map-filtered {X} f p (x ∷ xs) = by (p (f x)) (map-filtered f p xs)
@@ -159,7 +159,7 @@ filter-inserted-permutes {X} cmp p x (y ∷ ys) = by (is_lt (cmp y x)) (filter-i
     by false more = IsPermutation-refl (filter p (x ∷ y ∷ ys))
 
 -- What is kept of the sorted list is what is kept of the list, in another order.
-filter-ascending-permutes : {X : Type 0} (cmp : X → X → Ordering) (p : X → Bool) (xs : List X)
+pub filter-ascending-permutes : {X : Type 0} (cmp : X → X → Ordering) (p : X → Bool) (xs : List X)
     → IsPermutation (filter p xs) (filter p (ascending cmp xs))
 filter-ascending-permutes cmp p [] = IsPermutation-refl []
 filter-ascending-permutes cmp p (x ∷ xs) =
@@ -293,15 +293,19 @@ matching-exist search shelf valid q fq numbers same also are =
     subst (All (λ number. IsSome (package_at number shelf))) (sym are)
     (entries-exist shelf (filter (λ e. first e.1) shelf.entries) (first-entries first shelf valid))
 
+-- They are the numbers that match both texts of the search.
+pub matching-are : (search : Search) (shelf : ShelfState) (q fq numbers : List ℕ) → q ≡ search.q → fq ≡ search.fq
+    → numbers ≡ numbers_found (items_of q ++ items_of fq) shelf → numbers ≡ numbers_matching search shelf
+matching-are search shelf q fq numbers same also are =
+    are ∙ ap₂ (λ (s t : List ℕ). numbers_found (items_of s ++ items_of t) shelf) same also
+
 -- The numbers among these that the search takes are those that it finds.
 pub taken-are : (search : Search) (viewer : ViewerState) (shelf : ShelfState) (q fq numbers taken : List ℕ)
     → q ≡ search.q → fq ≡ search.fq → numbers ≡ numbers_found (items_of q ++ items_of fq) shelf
     → taken ≡ numbers_with (wanted search viewer) shelf numbers
     → taken ≡ numbers_with (wanted search viewer) shelf (numbers_found (searched search) shelf)
 taken-are search viewer shelf q fq numbers taken same also are is =
-    is
-    ∙ ap (numbers_with (wanted search viewer) shelf)
-    (are ∙ ap₂ (λ (s t : List ℕ). numbers_found (items_of s ++ items_of t) shelf) same also)
+    is ∙ ap (numbers_with (wanted search viewer) shelf) (matching-are search shelf q fq numbers same also are)
 
 tests-exchanged : (a b c : Bool) → ((a && b) && c) ≡ ((b && c) && a)
 tests-exchanged true true true = refl

@@ -1,3 +1,4 @@
 mod FindLemmas
+pub mod KeyLemmas
 pub mod LawLemmas
 pub mod PageLemmas

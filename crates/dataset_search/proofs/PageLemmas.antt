@@ -4,33 +4,29 @@ use Rattle.std.proofs.Common.{ap₂, drop, get_or, length, min, take}
 use Rattle.std.specs.Prelude.{IsPermutation, IsTrue}
 use Rattle.std.specs.declared.cmp.Ordering.{Ordering}
 use Rattle.std.specs.declared.cmp.Ordering.TheVariants.{Less, Equal, Greater}
-use Rattle.std.specs.List.{cons_option, list_any}
+use Rattle.std.specs.List.{list_any}
 use Rattle.std.specs.Ordering.{is_eq, ordering_then}
-use Rattle.std.proofs.lemmas.List.{take_more}
-use Rattle.std.proofs.lemmas.List.Elements.{filter_map-append}
 use Rattle.portal_base.specs.Ordered.{are_apart, ascending}
 use Rattle.portal_base.proofs.Inserted.{AreApart, both_false}
 use Rattle.portal_base.proofs.Removed.{AreApart-are_apart}
-use Rattle.packages.specs.Shelf.{ShelfState, package_at}
+use Rattle.packages.proofs.ShelfLemmas.{datasets_at-more}
+use Rattle.packages.specs.Shelf.{ShelfState, datasets_at, package_at}
 use Rattle.packages.specs.declared.package.Package.{Package}
 use Rattle.sorted_pages.proofs.PageLemmas.{page_of_first}
 use Rattle.sorted_pages.proofs.SelectLemmas.{ascending-length, ascending-permutation}
-use Rattle.dataset_search.specs.Found.{datasets_at}
 use Rattle.dataset_search.specs.Order.{have_distinct_names, key_cmp, name_cmp, search_cmp, search_cmp_total}
 use Rattle.dataset_search.specs.declared.sort.SortKey.{SortKey}
 
 -- ---- the datasets at some numbers
 
 -- One number more adds the dataset there.
-pub datasets_at-more : (shelf : ShelfState) (numbers : List ℕ) (i : ℕ) (there lent : Package)
+pub datasets_at-lent : (shelf : ShelfState) (numbers : List ℕ) (i : ℕ) (there lent : Package)
     (before after : List Package) → i < length numbers → package_at (get_or numbers i 0) shelf ≡ Some there
     → lent ≡ there → before ≡ datasets_at shelf (take i numbers) → after ≡ before ++ lent ∷ []
     → after ≡ datasets_at shelf (take (i + 1) numbers)
-datasets_at-more shelf numbers i there lent before after within found same so_far added =
+datasets_at-lent shelf numbers i there lent before after within found same so_far added =
     added ∙ ap₂ (λ (ds : List Package) (d : Package). ds ++ d ∷ []) so_far same
-    ∙ sym (ap (datasets_at shelf) (take_more numbers i 0 within)
-    ∙ filter_map-append (λ number. package_at number shelf) (take i numbers) (get_or numbers i 0 ∷ [])
-    ∙ ap (λ o. datasets_at shelf (take i numbers) ++ cons_option o []) found)
+    ∙ sym (datasets_at-more shelf numbers i there within found)
 
 -- ---- datasets of which no two are equal
 

@@ -1,13 +1,13 @@
 -- What a search finds (CKAN 2.10, package_search): datasets that match its texts and that its flags don't leave out, in
 -- order, a page of them.
 use Rattle.std.specs.Prelude.{ℕ, Bool, true, false, not, ◌&&◌, ◌||◌, List, ◌++◌, drop, filter, take}
-use Rattle.std.specs.List.{filter_map}
 use Rattle.std.specs.Option.{option_map_or}
 use Rattle.portal_base.specs.Ordered.{ascending}
 use Rattle.packages.specs.Shelf.{ShelfState, package_at}
 use Rattle.packages.specs.declared.package.Package.{Package}
 use Rattle.packages.specs.declared.package.State.{State}
 use Rattle.packages.specs.declared.package.State.TheVariants.{Active, Deleted, Draft}
+use Rattle.search_index.specs.Index.{numbers_found}
 use Rattle.search_index.specs.Items.{matches}
 use Rattle.search_index.specs.Reading.{items_of}
 use Rattle.dataset_search.specs.Order.{search_cmp}
@@ -35,10 +35,10 @@ found search datasets = filter (is_found search) datasets
 abbrev pub page : Search → List Package → List Package
 page search datasets = take search.page.limit (drop search.page.offset (ascending (search_cmp search.sort) datasets))
 
--- the datasets of the shelf at these numbers
-abbrev pub datasets_at : ShelfState → List ℕ → List Package
-datasets_at shelf numbers = filter_map (λ number. package_at number shelf) numbers
-
 -- the numbers whose datasets pass a test
 abbrev pub numbers_with : (Package → Bool) → ShelfState → List ℕ → List ℕ
 numbers_with test shelf numbers = filter (λ number. option_map_or test (package_at number shelf) false) numbers
+
+-- the numbers of the shelf's datasets that match both texts of the search, whoever sees them
+abbrev pub numbers_matching : Search → ShelfState → List ℕ
+numbers_matching search shelf = numbers_found (items_of search.q ++ items_of search.fq) shelf

@@ -1,11 +1,11 @@
 //! What a search finds among the datasets that its caller sees.
 ghost use Rattle.std.specs.Prelude.{◌≡◌, ◌+◌, ◌≤◌, ◌&&◌, IfOk, IsPermutation, IsSome, IsTrue, OnOk, length};
 ghost use Rattle.std.specs.List.{All};
-ghost use Rattle.packages.specs.Shelf.{IsValidShelf, datasets_of, package_at};
+ghost use Rattle.packages.specs.Shelf.{IsValidShelf, datasets_at, datasets_of, package_at};
 ghost use Rattle.visibility.specs.Viewer.{datasets_for};
 ghost use Rattle.visibility.specs.Visibility.{sees_in};
 ghost use Rattle.search_index.specs.Index.{StandsFor};
-ghost use Rattle.dataset_search.specs.Found.{datasets_at, found, numbers_with, takes};
+ghost use Rattle.dataset_search.specs.Found.{found, numbers_matching, numbers_with, takes};
 ghost use Rattle.dataset_search.specs.Order.{have_distinct_names};
 
 use crate::search::Search;
@@ -83,6 +83,8 @@ pub fn find_datasets<L: Ledger>(
     ensures found { IfOk result (λ numbers.
         IsPermutation (datasets_at shelf.now numbers) (found search.now (datasets_for viewer.now))) }
     ensures names { IfOk result (λ numbers. IsTrue (have_distinct_names (datasets_at shelf.now numbers))) }
+    ensures steps { OnOk result (steps.new ≡ steps.old + length (numbers_matching search.now shelf.now)) }
+    ensures bound { steps.new ≤ steps.old + length (numbers_matching search.now shelf.now) }
 {
     let query = SearchQuery::read(alloc, search.q.as_str(), search.fq.as_str())?;
     let numbers = index.find(&query, shelf, steps)?;

@@ -1,9 +1,9 @@
 //! A page of the datasets that a search found.
 ghost use Rattle.std.specs.Prelude.{◌≡◌, ◌+◌, ◌≤◌, IfOk, IsPermutation, IsSome, IsTrue, OnOk, List, length};
 ghost use Rattle.std.specs.List.{All};
-ghost use Rattle.packages.specs.Shelf.{package_at};
+ghost use Rattle.packages.specs.Shelf.{datasets_at, package_at};
 ghost use Rattle.packages.specs.declared.package.Package.{Package};
-ghost use Rattle.dataset_search.specs.Found.{datasets_at, page};
+ghost use Rattle.dataset_search.specs.Found.{page};
 ghost use Rattle.dataset_search.specs.Order.{have_distinct_names};
 
 use crate::lent_dataset::LentDataset;

@@ -8,14 +8,15 @@ use Rattle.std.proofs.lemmas.List.{append-nil, take_more}
 use Rattle.std.proofs.lemmas.List.Elements.{filter_map-append}
 use Rattle.portal_base.specs.Ordered.{ascending, dropped, inserted, upserted}
 use Rattle.packages.specs.Order.{dataset_cmp}
-use Rattle.packages.specs.Shelf.{ShelfState, package_at}
+use Rattle.packages.proofs.ShelfLemmas.{datasets_at-more}
+use Rattle.packages.specs.Shelf.{ShelfState, datasets_at, package_at}
 use Rattle.packages.specs.Tags.{text_set}
 use Rattle.packages.specs.declared.package.Package.{Package}
 use Rattle.visibility.specs.Visibility.{class_for}
 use Rattle.visibility.specs.declared.class.Class.{Class}
 use Rattle.facets.specs.Counters.{at_id, entry_cmp, entry_of}
 use Rattle.facets.specs.Counts.{counts_by, count_with, facet_cmp, has_text, is_value, values_among}
-use Rattle.facets.specs.Facets.{datasets_at, texts_in}
+use Rattle.facets.specs.Facets.{texts_in}
 use Rattle.facets.specs.Facts.{facts_of, texts_at}
 use Rattle.facets.specs.Tally.{own_values}
 use Rattle.facets.specs.declared.field.FacetField.{FacetField}
@@ -116,15 +117,6 @@ counts_by-map f texts others same xs =
     (λ value. ap (λ (n : ℕ). (value, n)) (count_with-map f texts others same value xs)) (values_among others xs))
 
 -- ---- the datasets at some numbers
-
--- One number more adds the dataset there.
-pub datasets_at-more : (shelf : ShelfState) (numbers : List ℕ) (i : ℕ) (d : Package) → i < length numbers
-    → package_at (get_or numbers i 0) shelf ≡ Some d
-    → datasets_at shelf (take (i + 1) numbers) ≡ datasets_at shelf (take i numbers) ++ d ∷ []
-datasets_at-more shelf numbers i d within there =
-    ap (datasets_at shelf) (take_more numbers i 0 within)
-    ∙ filter_map-append (λ number. package_at number shelf) (take i numbers) (get_or numbers i 0 ∷ [])
-    ∙ ap (λ o. datasets_at shelf (take i numbers) ++ cons_option o []) there
 
 -- The values of one dataset more follow the others.
 pub values-more : (field : FacetField) (shelf : ShelfState) (numbers : List ℕ) (i : ℕ) (d : Package)

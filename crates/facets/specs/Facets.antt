@@ -29,7 +29,3 @@ values_of field datasets = values_among (texts_in field) datasets
 -- Each value with the count of datasets that have it. Higher counts come first, and equal counts by value.
 abbrev pub facet_counts : FacetField → List Package → List Facet
 facet_counts field datasets = counts_by (texts_in field) datasets
-
--- the datasets of the shelf at these numbers
-abbrev pub datasets_at : ShelfState → List ℕ → List Package
-datasets_at shelf numbers = filter_map (λ number. package_at number shelf) numbers

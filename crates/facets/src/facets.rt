@@ -1,8 +1,8 @@
 //! The facets of datasets of a shelf, which are looked at one after the other.
 ghost use Rattle.std.specs.Prelude.{◌≡◌, ◌+◌, ◌≤◌, ◌++◌, IfOk, OnOk, IsSome, flat_map, length, ℕ, Option, Some};
 ghost use Rattle.std.specs.List.{All};
-ghost use Rattle.packages.specs.Shelf.{package_at};
-ghost use Rattle.facets.specs.Facets.{datasets_at, facet_counts, texts_in};
+ghost use Rattle.packages.specs.Shelf.{datasets_at, package_at};
+ghost use Rattle.facets.specs.Facets.{facet_counts, texts_in};
 ghost use Rattle.facets.specs.Tally.{own_values};
 
 use crate::field::FacetField;

@@ -1,8 +1,7 @@
 //! The facets in the reply of a search (CKAN's package_search).
 ghost use Rattle.std.specs.Prelude.{◌≡◌, ◌≤◌, ◌+◌, ◌*◌, IfOk, IsSome, OnOk, length, map};
 ghost use Rattle.std.specs.List.{All};
-ghost use Rattle.packages.specs.Shelf.{package_at};
-ghost use Rattle.facets.specs.Facets.{datasets_at};
+ghost use Rattle.packages.specs.Shelf.{datasets_at, package_at};
 ghost use Rattle.facets.specs.Request.{field_named};
 ghost use Rattle.facets.specs.SearchFacets.{counted_names, display_name, field_dictionary, field_items, item_dictionary};
 ghost use Rattle.facets.specs.SearchFacets.{looks_for, search_facets};

@@ -1,11 +1,15 @@
 -- What a shelf's contracts imply about its datasets by id, for the crates above.
-use Rattle.std.proofs.Common.{◌≡◌, ℕ, Bool, true, false, List, Option, Some, None, refl, sym, ap, ◌∙◌}
+use Rattle.std.proofs.Common.{◌≡◌, ℕ, ◌+◌, ◌<◌, Bool, true, false, List, [], ◌∷◌, ◌++◌, Option, Some, None, refl, sym, ap, ◌∙◌}
+use Rattle.std.proofs.Common.{get_or, length, take}
 use Rattle.std.specs.Bool.{then_some}
 use Rattle.std.specs.Prelude.{filter, find, is_some, IsTrue}
 use Rattle.std.specs.Option.{option_and_then, option_map}
+use Rattle.std.specs.List.{cons_option}
+use Rattle.std.proofs.lemmas.List.{take_more}
+use Rattle.std.proofs.lemmas.List.Elements.{filter_map-append}
 use Rattle.portal_base.proofs.Unique.{IsIn}
 use Rattle.packages.specs.Named.{has_address, is_named, position_of, located_at, resource_in, resource_named}
-use Rattle.packages.specs.Shelf.{ShelfState, IsValidShelf, package_at, number_in, datasets_of}
+use Rattle.packages.specs.Shelf.{ShelfState, IsValidShelf, package_at, datasets_at, number_in, datasets_of}
 use Rattle.packages.specs.declared.package.Package.{Package}
 use Rattle.packages.proofs.DatasetLemmas.{datasets-IsIn, IsIn-datasets}
 use Rattle.packages.proofs.FindLemmas.{IsIn-find, find-none, none-find, find-alone, find-kept_alone, find-narrowed}
@@ -79,3 +83,12 @@ pub resource_by_name : (address key : List ℕ) (q : Package → Bool) (s : Shel
 resource_by_name address key q s valid named =
     find-narrowed (has_address address) (is_named key) (resource_in address) (filter q (datasets_of s))
     (IsAlone-filter (is_named key) q (datasets_of s) (named_alone key s valid)) named (no_resource_in address)
+
+-- One number more adds the dataset there.
+pub datasets_at-more : (shelf : ShelfState) (numbers : List ℕ) (i : ℕ) (d : Package) → i < length numbers
+    → package_at (get_or numbers i 0) shelf ≡ Some d
+    → datasets_at shelf (take (i + 1) numbers) ≡ datasets_at shelf (take i numbers) ++ d ∷ []
+datasets_at-more shelf numbers i d within there =
+    ap (datasets_at shelf) (take_more numbers i 0 within)
+    ∙ filter_map-append (λ number. package_at number shelf) (take i numbers) (get_or numbers i 0 ∷ [])
+    ∙ ap (λ o. datasets_at shelf (take i numbers) ++ cons_option o []) there

@@ -1,5 +1,6 @@
 -- The shelf: datasets by number, found by their ids and names.
 use Rattle.std.specs.Prelude.{◌≡◌, ℕ, ◌<◌, ◌^◌, true, List, map, find, Option, Some, None, IfSome}
+use Rattle.std.specs.List.{filter_map}
 use Rattle.std.specs.Option.{option_map}
 use Rattle.std.specs.declared.cmp.Ordering.{Ordering}
 use Rattle.std.specs.Ordering.{nat_cmp}
@@ -24,6 +25,10 @@ pub record ShelfState : Type 0 where
 -- the dataset at the number
 abbrev pub package_at : ℕ → ShelfState → Option Package
 package_at n s = option_map (λ e. e.1) (found (at_number n) s.entries)
+
+-- the datasets at these numbers
+abbrev pub datasets_at : ShelfState → List ℕ → List Package
+datasets_at s numbers = filter_map (λ n. package_at n s) numbers
 
 -- the number of the dataset whose id or name this is
 abbrev pub number_in : List ℕ → ShelfState → Option ℕ

@@ -7,7 +7,7 @@ use Rattle.std.proofs.lemmas.List.Sorted.{length_permutation}
 use Rattle.portal_base.specs.declared.json_value.Json.{Json}
 use Rattle.portal_base.specs.declared.json_value.Json as json
 use Rattle.org_roles.specs.PeopleLists.{PeopleLists}
-use Rattle.packages.specs.Shelf.{ShelfState, package_at}
+use Rattle.packages.specs.Shelf.{ShelfState, datasets_at, package_at}
 use Rattle.visibility.specs.TableSummary.{TableSummary}
 use Rattle.dataset_answers.specs.Dictionary.{package_dictionary}
 use Rattle.facets.specs.SearchFacets.{search_facets}
@@ -19,7 +19,7 @@ use Rattle.portal_base.proofs.Filtered.{IsIn-filter}
 use Rattle.portal_base.proofs.Unique.{IsIn, Contains-IsIn, ascending-IsIn}
 use Rattle.portal_base.proofs.Upserted.{All-each}
 use Rattle.packages.specs.declared.package.Package.{Package}
-use Rattle.dataset_search.specs.Found.{datasets_at, found, is_found, page}
+use Rattle.dataset_search.specs.Found.{found, is_found, page}
 use Rattle.dataset_search.specs.Order.{search_cmp}
 use Rattle.dataset_search.specs.declared.search.Search.{Search}
 

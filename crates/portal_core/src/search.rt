@@ -2,11 +2,11 @@
 ghost use Rattle.std.specs.Prelude.{◌≡◌, IfOk, IsPermutation, IsSome, IsTrue, map};
 ghost use Rattle.std.specs.List.{All};
 ghost use Rattle.dataset_answers.specs.Dictionary.{package_dictionary};
-ghost use Rattle.dataset_search.specs.Found.{datasets_at, found, page};
+ghost use Rattle.packages.specs.Shelf.{datasets_at, datasets_of, package_at};
+ghost use Rattle.dataset_search.specs.Found.{found, page};
 ghost use Rattle.dataset_search.specs.Order.{have_distinct_names};
 ghost use Rattle.datastore_answers.specs.Summaries.{summaries_of};
 ghost use Rattle.datastore_answers.specs.Tables.{tables_of};
-ghost use Rattle.packages.specs.Shelf.{datasets_of, package_at};
 ghost use Rattle.portal_calls.specs.Stop.{Finds};
 ghost use Rattle.visibility.specs.TableSummary.{summaries_seen};
 ghost use Rattle.visibility.specs.Viewer.{datasets_for, people_for};

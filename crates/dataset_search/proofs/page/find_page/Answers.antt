@@ -1,7 +1,7 @@
 use Rattle.std.proofs.Common.{◌≡◌, ◌∙◌, ◌+◌, List, ap, length, min, subst, sym}
 use Rattle.std.specs.Prelude.{IfOk, IsTrue}
 use Rattle.packages.specs.declared.package.Package.{Package}
-use Rattle.dataset_search.specs.Found.{datasets_at}
+use Rattle.packages.specs.Shelf.{datasets_at}
 use Rattle.dataset_search.specs.Order.{have_distinct_names}
 use Rattle.dataset_search.proofs.PageLemmas.{distinct-search, page_of_lent}
 use Rattle.dataset_search.proofs.page.find_page.Goals as goal

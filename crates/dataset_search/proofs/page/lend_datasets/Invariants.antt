@@ -1,5 +1,5 @@
 use Rattle.std.proofs.Common.{◌≡◌, ◌+◌, take}
-use Rattle.dataset_search.specs.Found.{datasets_at}
+use Rattle.packages.specs.Shelf.{datasets_at}
 use Rattle.dataset_search.proofs.page.lend_datasets.Given as goal
 
 -- the datasets so far, each of which was looked at once

@@ -1,7 +1,8 @@
 use Rattle.std.proofs.Common.{◌≡◌, ◌∙◌, List, ap, subst}
 use Rattle.std.specs.Prelude.{IfOk}
 use Rattle.facets.specs.Counts.{Facet}
-use Rattle.facets.specs.Facets.{datasets_at, facet_counts, texts_in}
+use Rattle.packages.specs.Shelf.{datasets_at}
+use Rattle.facets.specs.Facets.{facet_counts, texts_in}
 use Rattle.facets.specs.Tally.{tallied}
 use Rattle.facets.proofs.TallyLemmas.{tallied-counts}
 use Rattle.facets.proofs.facets.facets_of.Goals as goal

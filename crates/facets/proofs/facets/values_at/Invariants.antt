@@ -1,5 +1,6 @@
 use Rattle.std.proofs.Common.{◌≡◌, ◌+◌, flat_map, take}
-use Rattle.facets.specs.Facets.{datasets_at, texts_in}
+use Rattle.packages.specs.Shelf.{datasets_at}
+use Rattle.facets.specs.Facets.{texts_in}
 use Rattle.facets.specs.Tally.{own_values}
 use Rattle.facets.proofs.facets.values_at.Given as goal
 

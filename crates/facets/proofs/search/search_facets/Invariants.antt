@@ -1,5 +1,5 @@
 use Rattle.std.proofs.Common.{◌≡◌, ◌+◌, drop, length, map, take}
-use Rattle.facets.specs.Facets.{datasets_at}
+use Rattle.packages.specs.Shelf.{datasets_at}
 use Rattle.facets.specs.SearchFacets.{field_dictionary}
 use Rattle.facets.proofs.LookLemmas.{looks_for_all}
 use Rattle.facets.proofs.search.search_facets.Given as goal

@@ -3,7 +3,8 @@ use Rattle.std.proofs.Common.{◌≡◌, ◌∙◌, IfOk, subst}
 use Rattle.portal_base.specs.declared.json_value.Json.{Json}
 use Rattle.datastore_answers.specs.Summaries.{summaries_of}
 use Rattle.datastore_answers.specs.Tables.{tables_of}
-use Rattle.dataset_search.specs.Found.{datasets_at, found}
+use Rattle.packages.specs.Shelf.{datasets_at}
+use Rattle.dataset_search.specs.Found.{found}
 use Rattle.visibility.specs.TableSummary.{summaries_seen}
 use Rattle.visibility.specs.Viewer.{datasets_for, people_for}
 use Rattle.portal_core.proofs.SearchLemmas.{count_of_found, made_of_found}
