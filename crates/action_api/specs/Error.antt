@@ -9,6 +9,7 @@ use Rattle.portal_base.specs.declared.json_value.Json.{Json, Map, Text}
 use Rattle.portal_base.specs.declared.json_value.Json as json
 use Rattle.portal_calls.specs.declared.answer.Kind.{Kind}
 use Rattle.portal_calls.specs.declared.answer.Kind.TheVariants.{Dataset, Resource, Organization, Table}
+use Rattle.portal_calls.specs.declared.answer.Kind.TheVariants.{HarvestSource, HarvestJob}
 use Rattle.portal_calls.specs.declared.answer.Right.{Right}
 use Rattle.portal_calls.specs.declared.answer.Right.TheVariants.{CreateDataset, EditDataset, PurgeDataset}
 use Rattle.portal_calls.specs.declared.answer.Right.TheVariants.{CreateOrganization, AdministerOrganization}
@@ -24,6 +25,8 @@ kind_name Dataset = codes "Dataset"
 kind_name Resource = codes "Resource"
 kind_name Organization = codes "Organization"
 kind_name Table = codes "Table"
+kind_name HarvestSource = codes "Harvest source"
+kind_name HarvestJob = codes "Harvest job"
 
 abbrev pub right_name : Right → List ℕ
 right_name CreateDataset = codes "create dataset"

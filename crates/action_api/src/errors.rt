@@ -26,6 +26,8 @@ fn name_of_kind(kind: Kind) -> &'static str
         Kind::Resource => "Resource",
         Kind::Organization => "Organization",
         Kind::Table => "Table",
+        Kind::HarvestSource => "Harvest source",
+        Kind::HarvestJob => "Harvest job",
     }
 }
 

@@ -19,6 +19,8 @@ pub enum Kind {
     Resource,
     Organization,
     Table,
+    HarvestSource,
+    HarvestJob,
 }
 
 /// A right that a caller lacks.

@@ -35,6 +35,18 @@ pub enum DatasetAction {
     ResourceShow,
 }
 
+/// An action on sources of harvests and their jobs. No action has this topic yet.
+#[derive(Clone, Copy)]
+pub enum HarvestAction {
+    HarvestSourceCreate,
+    HarvestSourceUpdate,
+    HarvestSourceDelete,
+    HarvestSourceShow,
+    HarvestSourceList,
+    HarvestJobCreate,
+    HarvestJobShow,
+}
+
 /// An action on the tables of resources whose body holds no query.
 #[derive(Clone, Copy)]
 pub enum TableAction {

@@ -61,6 +61,8 @@ fn kind_text(kind: Kind) -> &'static str {
         Kind::Resource => "resource",
         Kind::Organization => "organization",
         Kind::Table => "table",
+        Kind::HarvestSource => "harvest source",
+        Kind::HarvestJob => "harvest job",
     }
 }
 
