@@ -1,7 +1,8 @@
--- Locations with a scheme, which are no files of the host.
-use Rattle.std.specs.Prelude.{ℕ, ◌==◌, Bool, false, ◌&&◌, ◌||◌, List, [], ◌∷◌, take, Option, Some, None, position}
+-- Locations with a scheme, which are no files of the host, and those that are elsewhere.
+use Rattle.std.specs.Prelude.{ℕ, ◌==◌, Bool, false, ◌&&◌, ◌||◌, List, [], ◌∷◌, take, is_none, Option, Some, None, position}
 use Rattle.std.specs.Char.{is_ascii_alphabetic, is_ascii_alphanumeric}
 use Rattle.std.specs.List.{list_all}
+use Rattle.http_front.specs.Location.{loopback_endpoint}
 
 -- a letter, a digit, `+`, `-` or `.`
 abbrev pub is_scheme_byte : ℕ → Bool
@@ -23,3 +24,7 @@ has_scheme_before location (Some colon) = is_scheme (take colon location)
 -- the location begins with a scheme and a colon
 abbrev pub has_scheme : List ℕ → Bool
 has_scheme location = has_scheme_before location (position (λ b. b == 58) location)
+
+-- the location has a scheme and isn't that of a server on this machine
+abbrev pub is_elsewhere : List ℕ → Bool
+is_elsewhere location = has_scheme location && is_none (loopback_endpoint location)

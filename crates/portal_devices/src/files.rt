@@ -1,20 +1,30 @@
-//! Files of the host.
-ghost use Rattle.std.specs.Prelude.{◌≡◌, ◌≢◌, ◌≤◌, ◌==◌, length, position, true, Err, IfOk, IsErrOf};
+//! Files of the host, and what its servers give.
+ghost use Rattle.std.specs.Prelude.{◌≡◌, ◌≢◌, ◌≤◌, ◌==◌, ◌⊎◌, length, position, true, None, Err, IfOk, IsErrOf};
 ghost use Rattle.std.specs.List.{list_all};
 ghost use Rattle.portal_base.specs.Outside.{Rose};
-ghost use Rattle.portal_devices.specs.Location.{begins_with_letter, has_scheme, is_scheme, is_scheme_byte};
+ghost use Rattle.http_front.specs.Location.{loopback_endpoint};
+ghost use Rattle.portal_devices.specs.Location.{begins_with_letter, has_scheme, is_elsewhere, is_scheme, is_scheme_byte};
 
+use crate::net::TcpLink;
+use http_front::fetch::get_over;
+use http_front::loopback::loopback;
+use portal_base::copy::TryClone;
 use portal_base::outside::{FetchFault, Fetcher};
-use std::alloc::Global;
+use portal_base::text::Text;
+use std::alloc::{AllocError, Global};
 use std::io::Read;
 use std::marker::Model;
+use std::net::{Ipv4Addr, Net, TcpStream};
 use std::rt::Files;
+use std::time::Clock;
 use std::{fs, io};
 
-/// Fetches the host's files. A location without a scheme (RFC 3986, section 3.1) is a path, relative to the current
-/// folder. A location with a scheme is `Missing`. A file that doesn't exist is `Missing`. A location of another kind than
-/// a regular file, as a folder, a FIFO or a device, is a fault, and so is every other error of the host but out of memory. In contracts a fetcher is its count of faults, which stays at the last number of
-/// a `u64`. What it holds isn't observable.
+/// Fetches the host's files, and from servers on this machine. A location without a scheme (RFC 3986, section 3.1) is a path,
+/// relative to the current folder. A file that doesn't exist is `Missing`. A location of another kind than a regular file, as a
+/// folder, a FIFO or a device, is a fault. An `http` location whose host is 127.0.0.1 or localhost is asked for over TCP, and its
+/// answer is `Missing` where its status isn't 200. Any other location with a scheme is `Missing`. Every other error of the host
+/// but out of memory is a fault, and so is a connection that fails or is too slow. In contracts a fetcher is its count of faults,
+/// which stays at the last number of a `u64`. What it holds isn't observable.
 #[derive(Drop)]
 pub struct HostFetcher<R> {
     host: R,
@@ -29,7 +39,7 @@ impl<R> Model for HostFetcher<R> {
     ghost view = { λ f. f.faults };
 }
 
-impl<R: Files> HostFetcher<R> {
+impl<R> HostFetcher<R> {
     pub fn new(host: R) -> HostFetcher<R>
         ensures { result ≡ 0 }
     {
@@ -130,7 +140,74 @@ fn read_file<R: Files>(
     Ok(bytes)
 }
 
-impl<R: Files> Fetcher for HostFetcher<R> {
+/// The `Host` field of a request (RFC 9110, section 7.2), which has no port where it is 80.
+fn host_field(alloc: Global, host: &Text, port: u16) -> Result<Text, AllocError> {
+    if port == 80 {
+        return host.try_clone(alloc);
+    }
+    let string = format!(in alloc; "{}:{port}", host.as_str())?;
+    Ok(Text::from(string))
+}
+
+/// The body of what a server on this machine answers, if it is at most `limit` bytes.
+fn get<R: Net<Stream = TcpStream> + Clock + Copy + Drop>(
+    alloc: Global,
+    host: R,
+    endpoint: (Text, u16, Text),
+    limit: usize,
+) -> Result<Vec<u8>, FetchFault>
+    ensures within { IfOk result (λ bytes. length bytes.items ≤ limit) }
+{
+    let (name, port, target) = endpoint;
+    let Ok(field) = host_field(alloc, &name, port) else {
+        return Err(FetchFault::OutOfMemory);
+    };
+    let Ok(stream) = TcpStream::connect(&host, (Ipv4Addr::LOCALHOST, port)) else {
+        return Err(FetchFault::Failed);
+    };
+    match TcpLink::from_stream(host, stream) {
+        Ok(mut link) => get_over(alloc, &mut link, field.as_str(), target.as_str(), limit),
+        Err(_) => Err(FetchFault::Failed),
+    }
+}
+
+/// What is at a location with a scheme. Only servers on this machine are asked.
+fn get_here<R: Net<Stream = TcpStream> + Clock + Copy + Drop>(
+    alloc: Global,
+    host: R,
+    location: &str,
+    limit: usize,
+) -> Result<Vec<u8>, FetchFault>
+    ensures within { IfOk result (λ bytes. length bytes.items ≤ limit) }
+    ensures elsewhere { loopback_endpoint location.now ≡ None →
+        (result ≡ Err FetchFault.Missing) ⊎ (result ≡ Err FetchFault.OutOfMemory) }
+{
+    match loopback(alloc, location) {
+        Ok(Some(endpoint)) => get(alloc, host, endpoint, limit),
+        Ok(None) => Err(FetchFault::Missing),
+        Err(AllocError) => Err(FetchFault::OutOfMemory),
+    }
+}
+
+/// The bytes at a location, if they are at most `limit`.
+fn bytes_at<R: Files + Net<Stream = TcpStream> + Clock + Copy + Drop>(
+    alloc: Global,
+    host: R,
+    location: &str,
+    limit: usize,
+) -> Result<Vec<u8>, FetchFault>
+    ensures within { IfOk result (λ bytes. length bytes.items ≤ limit) }
+    ensures elsewhere { is_elsewhere location.now ≡ true →
+        (result ≡ Err FetchFault.Missing) ⊎ (result ≡ Err FetchFault.OutOfMemory) }
+{
+    if has_scheme(location) {
+        get_here(alloc, host, location, limit)
+    } else {
+        read_file(alloc, &host, location, limit)
+    }
+}
+
+impl<R: Files + Net<Stream = TcpStream> + Clock + Copy + Drop> Fetcher for HostFetcher<R> {
     ghost use Rattle.std.specs.Prelude.{None};
 
     ghost held = { λ _. None };
@@ -141,13 +218,11 @@ impl<R: Files> Fetcher for HostFetcher<R> {
         ensures within { IfOk result (λ bytes. length bytes.items ≤ limit) }
         ensures failed { IsErrOf result FetchFault.Failed → Rose self.old self.new }
         ensures counts { self.old ≤ self.new }
-        ensures scheme { has_scheme location.now ≡ true → result ≡ Err FetchFault.Missing }
+        ensures elsewhere { is_elsewhere location.now ≡ true →
+            (result ≡ Err FetchFault.Missing) ⊎ (result ≡ Err FetchFault.OutOfMemory) }
         ensures quiet { result ≢ Err FetchFault.Failed → self.new ≡ self.old }
     {
-        if has_scheme(location) {
-            return Err(FetchFault::Missing);
-        }
-        match read_file(alloc, &self.host, location, limit) {
+        match bytes_at(alloc, self.host, location, limit) {
             Err(FetchFault::Failed) => {
                 self.faults = self.faults.saturating_add(1);
                 Err(FetchFault::Failed)

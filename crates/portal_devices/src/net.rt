@@ -50,8 +50,8 @@ impl<R> Model for TcpLink<R> {
 }
 
 impl<R: std::time::Clock + Drop> TcpLink<R> {
-    /// A link over a connection that was just accepted.
-    fn from_stream(host: R, stream: TcpStream) -> io::Result<TcpLink<R>> {
+    /// A link over a connection that was just made.
+    pub(crate) fn from_stream(host: R, stream: TcpStream) -> io::Result<TcpLink<R>> {
         let patience = Some(Duration::from_secs(TRANSFER_TIMEOUT));
         stream.set_read_timeout(patience)?;
         stream.set_write_timeout(patience)?;

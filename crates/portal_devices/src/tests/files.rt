@@ -25,7 +25,9 @@ fn files_are_fetched(rt: HostRuntime) -> Result<(), Fail> {
         ("/dev/nothing", Came::Missing),
         ("/dev/null/file", Came::Missing),
         ("/dev", Came::Failed),
-        ("http://127.0.0.1/", Came::Missing),
+        ("http://127.0.0.1:1/", Came::Failed),
+        ("http://city.example/", Came::Missing),
+        ("https://127.0.0.1/", Came::Missing),
         ("file:/dev/null", Came::Missing),
     ] {
         let came = match fetcher.fetch(alloc, location, 100) {
