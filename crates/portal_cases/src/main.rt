@@ -1,5 +1,5 @@
-//! Worked examples of a portal: who sees and edits which dataset, the replies to calls, the transcripts of scripts, and
-//! what is written to links.
+//! Worked examples of a portal: who sees and edits which dataset, the replies to calls, the transcripts of scripts, reports,
+//! and what is written to links.
 //!
 //! By one of the words `create`, `show_by_name`, `show_by_id` and `patch` and a number it makes that many datasets
 //! instead, works one more call of the kind on each (none for `create`), and prints how many were made and how many
@@ -14,6 +14,7 @@ mod load;
 mod opening;
 mod people;
 mod reply_text;
+mod reports;
 mod rights;
 mod scripts;
 mod session;
@@ -77,6 +78,7 @@ fn main(rt: HostRuntime) -> io::Result<ExitCode> {
     tally.check(&rt, "loaded_rows", 3, load::rows);
     calls::check_calls(&rt, &mut tally)?;
     scripts::check_scripts(&rt, &mut tally)?;
+    reports::check_reports(&rt, &mut tally)?;
     links::check_links(&rt, &mut tally)?;
     tally.end(&rt)
 }

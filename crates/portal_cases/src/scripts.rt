@@ -8,6 +8,8 @@ use portal_base::counted::{CountNonces, ScriptClock};
 use portal_base::memory::{MemorySink, MemorySource};
 use portal_base::seq::Seq;
 use portal_core::event::{Refusal, Reply};
+use portal_core::portal::Portal;
+use portal_keeper::memory::MemoryKeeper;
 use portal_serve::defaults::default_portal;
 use portal_serve::play::{PlayEnd, play};
 use std::alloc::{AllocError, Global};
@@ -28,28 +30,22 @@ fn status_of(end: PlayEnd) -> u8 {
     }
 }
 
-/// Plays what input gives on the default portal, and gives the status.
-fn play_default(
+/// Plays the script on the portal: the transcript, and after it the status where that isn't 0.
+pub fn play_on(
     alloc: Global,
-    input: &mut MemorySource,
-    output: &mut MemorySink,
-) -> Result<u8, AllocError> {
-    let mut portal = default_portal(alloc)?;
-    Ok(status_of(play(
-        alloc,
-        &mut portal,
-        input,
-        output,
-        &mut ScriptClock::new(),
-        &mut CountNonces::new(),
-    )))
-}
-
-/// The transcript of a script, and after it the status where that isn't 0.
-fn transcript_of(alloc: Global, script: Vec<u8>) -> Result<Buffer, AllocError> {
+    portal: &mut Portal<MemoryKeeper>,
+    script: Vec<u8>,
+) -> Result<Buffer, AllocError> {
     let mut input = MemorySource::new(Seq::from(script), Seq::new(alloc));
     let mut output = MemorySink::new(alloc, ROOM, Seq::new(alloc))?;
-    let status = play_default(alloc, &mut input, &mut output)?;
+    let status = status_of(play(
+        alloc,
+        portal,
+        &mut input,
+        &mut output,
+        &mut ScriptClock::new(),
+        &mut CountNonces::new(),
+    ));
     let mut transcript = Buffer::new(alloc);
     transcript.push_bytes(output.taken());
     if status != 0 {
@@ -103,7 +99,8 @@ pub fn content_of(rt: &HostRuntime, name: &str, ending: &str) -> io::Result<Vec<
 /// Plays the script of this name, and compares what it writes with its transcript.
 fn check_script(rt: &HostRuntime, tally: &mut Tally, name: &str) -> io::Result<()> {
     let script = content_of(rt, name, ".script")?;
-    let found = transcript_of(rt.alloc(), script)?;
+    let mut portal = default_portal(rt.alloc())?;
+    let found = play_on(rt.alloc(), &mut portal, script)?;
     compare_with(rt, tally, name, ".transcript", found.bytes()?)
 }
 
