@@ -23,7 +23,7 @@ use Rattle.harvest_results.proofs.CountLemmas.{list_any-IsIn}
 use Rattle.harvest_results.proofs.LookupLemmas.{name_cmp}
 use Rattle.harvest_results.proofs.ResultLemmas.{after-ascending}
 
-any-found : {X : Type 0} (p : X → Bool) (xs : List X) → list_any p xs ≡ true → (x : X) × IsIn x xs × (p x ≡ true)
+pub any-found : {X : Type 0} (p : X → Bool) (xs : List X) → list_any p xs ≡ true → (x : X) × IsIn x xs × (p x ≡ true)
 any-found p [] h = absurd (cc)
 any-found {X} p (x ∷ xs) h = by (p x) refl h (any-found p xs)
   where
@@ -60,7 +60,7 @@ in-both ds es name m =
     subst (λ (n : List ℕ). IsIn n (map name_of (filter (has_name_of ds) es))) (like ∙ sym w.2)
     (IsIn-map name_of e.0 (filter (has_name_of ds) es) (filter-IsIn (has_name_of ds) e.0 es e.1 back))
 
-same-count : (ds es : List Package) → IsAscending name_cmp ds → IsAscending name_cmp es
+pub same-count : (ds es : List Package) → IsAscending name_cmp ds → IsAscending name_cmp es
     → count_by (has_name_of es) ds ≡ count_by (has_name_of ds) es
 same-count ds es up_d up_e =
     let names : map name_of (filter (has_name_of es) ds) ≡ map name_of (filter (has_name_of ds) es) =
@@ -76,7 +76,7 @@ same-count ds es up_d up_e =
     let lengths = ap length names in
     sym first ∙ sym m ∙ lengths ∙ n ∙ second
 
-count-rest : {X : Type 0} (p : X → Bool) (xs : List X) → count_by p xs + count_by (λ x. not (p x)) xs ≡ length xs
+pub count-rest : {X : Type 0} (p : X → Bool) (xs : List X) → count_by p xs + count_by (λ x. not (p x)) xs ≡ length xs
 count-rest p xs =
     let parts = length-filter_both p (λ x. not (p x)) (λ x. refl) xs in
     let first = length-filter p xs in

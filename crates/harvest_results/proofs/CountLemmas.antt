@@ -13,9 +13,9 @@ use Rattle.harvest_results.specs.Readings.{CatalogueReading, ListedIri, least_na
 use Rattle.harvest_results.specs.Readings.CatalogueReading.{Broken, Listed}
 use Rattle.harvest_results.specs.Results.{dataset_left, dataset_of_item, datasets_after, datasets_afresh, harvested_or}
 use Rattle.harvest_results.specs.Results.{kept_dataset}
-use Rattle.harvest_results.specs.declared.reading.Reading.{Reading}
-use Rattle.harvest_results.specs.declared.reading.Reading.TheVariants.{Good, Bad}
-use Rattle.harvest_results.specs.declared.source.HarvestSource.{HarvestSource}
+use Rattle.harvest_sources.specs.declared.reading.Reading.{Reading}
+use Rattle.harvest_sources.specs.declared.reading.Reading.TheVariants.{Good, Bad}
+use Rattle.harvest_sources.specs.declared.source.HarvestSource.{HarvestSource}
 use Rattle.harvest_results.proofs.EqualityLemmas.{Decides-dataset}
 use Rattle.harvest_results.proofs.ResultLemmas.{after-again, filter_map-IsIn}
 
@@ -31,7 +31,7 @@ list_any-IsIn p x [] m passes = absurd m
 list_any-IsIn p x (y ∷ ys) (inl same) passes = ap (λ b. b || list_any p ys) (ap p (sym same) ∙ passes)
 list_any-IsIn p x (y ∷ ys) (inr m) passes = or_right (p y) (list_any p ys) (list_any-IsIn p x ys m passes)
 
-filtered-IsIn : {X Y : Type 0} (f : X → Option Y) (x : X) (y : Y) (xs : List X) → IsIn x xs → f x ≡ Some y
+pub filtered-IsIn : {X Y : Type 0} (f : X → Option Y) (x : X) (y : Y) (xs : List X) → IsIn x xs → f x ≡ Some y
     → IsIn y (filter_map f xs)
 filtered-IsIn f x y [] m is = absurd m
 filtered-IsIn {X} {Y} f x y (z ∷ zs) (inl same) is = by (f z) (ap f (sym same) ∙ is)
@@ -45,7 +45,7 @@ filtered-IsIn {X} {Y} f x y (z ∷ zs) (inr m) is = by (f z) (filtered-IsIn f x 
     by None n = n
     by (Some v) n = inr n
 
-has_name : (d : Package) (ds : List Package) → IsIn d ds → has_name_of ds d ≡ true
+pub has_name : (d : Package) (ds : List Package) → IsIn d ds → has_name_of ds d ≡ true
 has_name d ds m =
     list_any-IsIn (λ (e : Package). bytes_eq e.name d.name) d ds m ((bytes_eq-Decides d.name d.name).1 refl)
 

@@ -7,15 +7,15 @@ use Rattle.packages.specs.declared.package.State.TheVariants.{Active}
 use Rattle.harvest_records.specs.declared.record.Distribution.{Distribution}
 use Rattle.harvest_records.specs.declared.record.HarvestRecord.{HarvestRecord}
 use Rattle.harvest_records.proofs.Examples.{name_of_abc, name_of_hello}
-use Rattle.harvest_results.specs.Causes.{cause_text}
+use Rattle.harvest_sources.specs.Causes.{cause_text}
 use Rattle.harvest_results.specs.Counts.{Counts, counts_of}
 use Rattle.harvest_results.specs.Harvested.{harvested_dataset}
 use Rattle.harvest_results.specs.Readings.{CatalogueReading, ListedIri, is_whole}
 use Rattle.harvest_results.specs.Readings.CatalogueReading.{Listed}
 use Rattle.harvest_results.specs.Results.{datasets_after}
-use Rattle.harvest_results.specs.declared.cause.Cause.TheVariants.{NoTitle, NotNTriples}
-use Rattle.harvest_results.specs.declared.reading.Reading.TheVariants.{Good, Bad}
-use Rattle.harvest_results.specs.declared.source.HarvestSource.{HarvestSource}
+use Rattle.harvest_sources.specs.declared.cause.Cause.TheVariants.{NoTitle, NotNTriples}
+use Rattle.harvest_sources.specs.declared.reading.Reading.TheVariants.{Good, Bad}
+use Rattle.harvest_sources.specs.declared.source.HarvestSource.{HarvestSource}
 
 abbrev aa : HarvestSource
 aa = record {

@@ -2,6 +2,7 @@
 use Rattle.std.proofs.Common.{◌≡◌, ℕ, Bool, true, false, List, [], ◌∷◌, Option, Some, None, refl, sym, ap, ◌∙◌}
 use Rattle.std.proofs.Common.{inl, inr, ◌||◌, ◌⊎◌, cond, subst, ◌≢◌, Contains}
 use Rattle.std.specs.Prelude.{All, IfSome}
+use Rattle.std.specs.declared.cmp.Ordering.{Ordering}
 use Rattle.std.specs.declared.cmp.Ordering.TheVariants.{Less}
 use Rattle.std.specs.Ordering.{is_eq, nat_cmp, ordering_reverse}
 use Rattle.std.specs.Cmp.{IsTotalOrder}
@@ -19,7 +20,7 @@ use Rattle.packages.proofs.FindLemmas.{IsIn-find, find-none}
 use Rattle.harvest_records.specs.Names.{harvested_name}
 use Rattle.harvest_results.specs.Readings.{ListedIri, is_listed, iri_cmp, item_name, items_by_iri, least_named}
 use Rattle.harvest_results.specs.Readings.{listed_names}
-use Rattle.harvest_results.specs.declared.source.HarvestSource.{HarvestSource}
+use Rattle.harvest_sources.specs.declared.source.HarvestSource.{HarvestSource}
 
 pub items_by_iri-IsIn : (z : ListedIri) (items : List ListedIri) → IsIn z (items_by_iri items) → IsIn z items
 items_by_iri-IsIn z [] m = m
@@ -98,28 +99,27 @@ IsIn-items_by_iri z (i ∷ is) (inr m) = let w = IsIn-items_by_iri z is m in by 
         (w.0, upserted-IsIn_other iri_cmp i w.0 (items_by_iri is) w.1 (is_eq-slice_cmp w.0.iri i.iri ∙ unlike), w.2)
 
 -- No item is below one that is below it.
-not_both : (x y : ListedIri) → iri_cmp x y ≡ Less → iri_cmp y x ≡ Less → ⊥
-not_both x y less more =
-    let back : iri_cmp x y ≡ ordering_reverse (iri_cmp y x) = iri_cmp_total.antisymm x y in
+not_both : {X : Type 0} (cmp : X → X → Ordering) (o : IsTotalOrder cmp) (x y : X) → cmp x y ≡ Less → cmp y x ≡ Less → ⊥
+not_both cmp o x y less more =
+    let back : cmp x y ≡ ordering_reverse (cmp y x) = o.antisymm x y in
     let greater = back ∙ ap ordering_reverse more in absurd (cc)
 
 -- The first item that passes is the least.
-first-least : (p : ListedIri → Bool) (x y : ListedIri) (xs : List ListedIri) → IsAscending iri_cmp xs
-    → find p xs ≡ Some x → IsIn y xs → p y ≡ true → iri_cmp y x ≡ Less → ⊥
-first-least p x y [] up found m passes below = absurd m
-first-least p x y (z ∷ zs) up found m passes below = by (p z) refl found m (first-least p x y zs up.1)
+pub first-least : {X : Type 0} (cmp : X → X → Ordering) (o : IsTotalOrder cmp) (p : X → Bool) (x y : X) (xs : List X)
+    → IsAscending cmp xs → find p xs ≡ Some x → IsIn y xs → p y ≡ true → cmp y x ≡ Less → ⊥
+first-least cmp o p x y [] up found m passes below = absurd m
+first-least {X} cmp o p x y (z ∷ zs) up found m passes below =
+    by (p z) refl found m (first-least cmp o p x y zs up.1)
   where
     by : (b : Bool) → p z ≡ b → cond b (Some z) (find p zs) ≡ Some x → IsIn y (z ∷ zs)
-        → (find p zs ≡ Some x → IsIn y zs → p y ≡ true → iri_cmp y x ≡ Less → ⊥) → ⊥
+        → (find p zs ≡ Some x → IsIn y zs → p y ≡ true → cmp y x ≡ Less → ⊥) → ⊥
     by true is e (inl same) go =
         let first : z ≡ x = cc in
-        not_below_itself iri_cmp iri_cmp_total x
-        (subst (λ (v : ListedIri). iri_cmp v x ≡ Less) (same ∙ first) below)
+        not_below_itself cmp o x (subst (λ (v : X). cmp v x ≡ Less) (same ∙ first) below)
     by true is e (inr n) go =
         let first : z ≡ x = cc in
-        let above : iri_cmp x y ≡ Less =
-        subst (λ (v : ListedIri). iri_cmp v y ≡ Less) first (below_in iri_cmp z y zs up.0 n) in
-        not_both x y above below
+        let above : cmp x y ≡ Less = subst (λ (v : X). cmp v y ≡ Less) first (below_in cmp z y zs up.0 n) in
+        not_both cmp o x y above below
     by false is e (inl same) go =
         let no : p y ≡ false = ap p same ∙ is in absurd (cc)
     by false is e (inr n) go = go e n passes below
@@ -133,7 +133,8 @@ none-below source items name item other found m named below =
     let test : ListedIri → Bool = λ i. bytes_eq (item_name source i) name in
     let passes : test w.0 ≡ true =
     (bytes_eq-Decides (item_name source w.0) name).1 (ap (harvested_name source.name) w.2 ∙ named) in
-    first-least test item w.0 (items_by_iri items) (IsAscending-items_by_iri items) found w.1 passes
+    first-least iri_cmp iri_cmp_total test item w.0 (items_by_iri items) (IsAscending-items_by_iri items) found w.1
+    passes
     (ap (λ (iri : List ℕ). slice_cmp nat_cmp iri item.iri) w.2 ∙ below)
 
 pub least-found : (source : HarvestSource) (items : List ListedIri) (name : List ℕ)

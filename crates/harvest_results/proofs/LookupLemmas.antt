@@ -17,14 +17,14 @@ use Rattle.packages.proofs.FindLemmas.{IsIn-find}
 use Rattle.harvest_results.specs.Readings.{ListedIri}
 use Rattle.harvest_results.specs.Readings.CatalogueReading.{Listed}
 use Rattle.harvest_results.specs.Results.{dataset_left, datasets_after}
-use Rattle.harvest_results.specs.declared.source.HarvestSource.{HarvestSource}
+use Rattle.harvest_sources.specs.declared.source.HarvestSource.{HarvestSource}
 use Rattle.harvest_results.proofs.ResultLemmas.{after-ascending, find-after}
 
 -- by the bytes of the name
 abbrev pub name_cmp : Package → Package → Ordering
 name_cmp d e = slice_cmp nat_cmp d.name e.name
 
-name_cmp_total : IsTotalOrder name_cmp
+pub name_cmp_total : IsTotalOrder name_cmp
 name_cmp_total = on_total (λ (d : Package). d.name) nat_list_cmp_total
 
 -- A dataset is found under its own name.

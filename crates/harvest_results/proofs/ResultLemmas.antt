@@ -24,9 +24,9 @@ use Rattle.harvest_results.specs.Readings.{item_name, least_named, listed_names}
 use Rattle.harvest_results.specs.Readings.CatalogueReading.{Broken, Listed}
 use Rattle.harvest_results.specs.Results.{dataset_left, dataset_of_item, datasets_after, datasets_afresh}
 use Rattle.harvest_results.specs.Results.{IsOwn, IsRead, harvested_or, kept_dataset}
-use Rattle.harvest_results.specs.declared.reading.Reading.{Reading}
-use Rattle.harvest_results.specs.declared.reading.Reading.TheVariants.{Good, Bad}
-use Rattle.harvest_results.specs.declared.source.HarvestSource.{HarvestSource}
+use Rattle.harvest_sources.specs.declared.reading.Reading.{Reading}
+use Rattle.harvest_sources.specs.declared.reading.Reading.TheVariants.{Good, Bad}
+use Rattle.harvest_sources.specs.declared.source.HarvestSource.{HarvestSource}
 use Rattle.harvest_results.proofs.ItemLemmas.{IsAscending-listed_names, IsIn-listed, IsIn-listed_names, found-name}
 
 -- ---- what is left at each name
@@ -297,7 +297,7 @@ after-origin old source items unnamed =
 
 -- ---- a source's own datasets
 
-IsOwn-harvested : (source : HarvestSource) (iri : List ℕ) (r : HarvestRecord)
+pub IsOwn-harvested : (source : HarvestSource) (iri : List ℕ) (r : HarvestRecord)
     → IsOwn source (harvested_dataset source iri r)
 unfolding harvested_dataset
 IsOwn-harvested source iri r = record { of_source = refl; of_org = refl; named = refl; id_is_name = refl }

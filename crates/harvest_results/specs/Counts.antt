@@ -1,10 +1,14 @@
--- How many datasets a harvest adds, changes and deletes.
-use Rattle.std.specs.Prelude.{ℕ, Bool, not, ◌&&◌, List}
-use Rattle.std.specs.List.{count_by, list_any}
+-- How many datasets a harvest adds, changes and deletes, and which IRIs are bad.
+use Rattle.std.specs.Prelude.{ℕ, Bool, not, ◌&&◌, List, [], Option, Some, None}
+use Rattle.std.specs.List.{count_by, filter_map, list_any}
 use Rattle.std.specs.Str.{bytes_eq}
 use Rattle.packages.specs.declared.package.Package.{Package}
 use Rattle.harvest_results.specs.Equality.{equal_datasets}
-use Rattle.harvest_results.specs.Readings.{CatalogueReading}
+use Rattle.harvest_sources.specs.declared.cause.Cause.{Cause}
+use Rattle.harvest_sources.specs.declared.job.SourceReport.{SourceReport}
+use Rattle.harvest_sources.specs.declared.reading.Reading.{Reading}
+use Rattle.harvest_sources.specs.declared.reading.Reading.TheVariants.{Good, Bad}
+use Rattle.harvest_results.specs.Readings.{CatalogueReading, ListedIri, items_by_iri}
 use Rattle.harvest_results.specs.Readings.CatalogueReading.{Broken, Listed}
 use Rattle.harvest_results.specs.Results.{datasets_after, datasets_afresh}
 
@@ -38,3 +42,28 @@ counts_of old (Listed source items unnamed) =
       deleted = count_by (λ d. not (has_name_of (datasets_after old reading) d)) old;
       unnamed = unnamed;
     }
+
+-- ---- reports
+
+-- what the report counts
+abbrev pub counts_in : SourceReport → Counts
+counts_in report = record {
+  added = report.added;
+  updated = report.updated;
+  unchanged = report.unchanged;
+  deleted = report.deleted;
+  unnamed = report.unnamed;
+}
+
+-- the IRI with the cause, if there is no record
+abbrev pub bad_reading : List ℕ → Reading → Option (List ℕ × Cause)
+bad_reading iri (Good r) = None
+bad_reading iri (Bad cause) = Some (iri, cause)
+
+abbrev pub bad_item : ListedIri → Option (List ℕ × Cause)
+bad_item item = bad_reading item.iri item.reading
+
+-- The IRIs that have no record, ascending, each with the cause.
+abbrev pub bad_of : CatalogueReading → List (List ℕ × Cause)
+bad_of (Broken cause) = []
+bad_of (Listed source items unnamed) = filter_map bad_item (items_by_iri items)

@@ -7,7 +7,7 @@ use Rattle.packages.specs.declared.package.Resource.{Resource}
 use Rattle.harvest_records.specs.Names.{harvested_name}
 use Rattle.harvest_records.specs.declared.record.Distribution.{Distribution}
 use Rattle.harvest_records.specs.declared.record.HarvestRecord.{HarvestRecord}
-use Rattle.harvest_results.specs.declared.source.HarvestSource.{HarvestSource}
+use Rattle.harvest_sources.specs.declared.source.HarvestSource.{HarvestSource}
 
 -- the most resources of a harvested dataset
 abbrev pub max_resources : ℕ

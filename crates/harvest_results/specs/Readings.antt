@@ -7,10 +7,10 @@ use Rattle.std.specs.List.{list_all, list_any}
 use Rattle.std.specs.Str.{bytes_eq}
 use Rattle.portal_base.specs.Ordered.{upserted}
 use Rattle.harvest_records.specs.Names.{harvested_name}
-use Rattle.harvest_results.specs.declared.cause.Cause.{Cause}
-use Rattle.harvest_results.specs.declared.reading.Reading.{Reading}
-use Rattle.harvest_results.specs.declared.reading.Reading.TheVariants.{Good, Bad}
-use Rattle.harvest_results.specs.declared.source.HarvestSource.{HarvestSource}
+use Rattle.harvest_sources.specs.declared.cause.Cause.{Cause}
+use Rattle.harvest_sources.specs.declared.reading.Reading.{Reading}
+use Rattle.harvest_sources.specs.declared.reading.Reading.TheVariants.{Good, Bad}
+use Rattle.harvest_sources.specs.declared.source.HarvestSource.{HarvestSource}
 
 -- an IRI that the catalogue lists, with what was read of its dataset
 pub record ListedIri : Type 0 where

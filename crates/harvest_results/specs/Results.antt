@@ -8,9 +8,9 @@ use Rattle.harvest_records.specs.declared.record.HarvestRecord.{HarvestRecord}
 use Rattle.harvest_results.specs.Harvested.{harvested_dataset}
 use Rattle.harvest_results.specs.Readings.{CatalogueReading, ListedIri, is_listed, least_named, listed_names}
 use Rattle.harvest_results.specs.Readings.CatalogueReading.{Broken, Listed}
-use Rattle.harvest_results.specs.declared.reading.Reading.{Reading}
-use Rattle.harvest_results.specs.declared.reading.Reading.TheVariants.{Good, Bad}
-use Rattle.harvest_results.specs.declared.source.HarvestSource.{HarvestSource}
+use Rattle.harvest_sources.specs.declared.reading.Reading.{Reading}
+use Rattle.harvest_sources.specs.declared.reading.Reading.TheVariants.{Good, Bad}
+use Rattle.harvest_sources.specs.declared.source.HarvestSource.{HarvestSource}
 
 -- the old dataset of the name, if its IRI is listed
 abbrev pub kept_dataset : List Package → List ListedIri → List ℕ → Option Package

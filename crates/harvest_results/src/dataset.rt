@@ -5,8 +5,8 @@ ghost use Rattle.packages.specs.Tags.{text_set};
 ghost use Rattle.harvest_records.specs.Names.{harvested_name};
 ghost use Rattle.harvest_results.specs.Harvested.{harvested_dataset, harvested_resource, numbered_from, max_resources};
 
-use crate::source::HarvestSource;
 use harvest_records::{Distribution, HarvestRecord, name_of};
+use harvest_sources::HarvestSource;
 use packages::package::{Package, Resource};
 use packages::tags::sort_and_dedup;
 use portal_base::copy::TryClone;

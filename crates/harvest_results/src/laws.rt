@@ -13,8 +13,8 @@ ghost use Rattle.harvest_results.specs.Readings.{CatalogueReading, ListedIri, is
 ghost use Rattle.harvest_results.specs.Readings.{least_named};
 ghost use Rattle.harvest_results.specs.Readings.CatalogueReading.{Broken, Listed};
 ghost use Rattle.harvest_results.specs.Results.{IsOwn, IsRead, dataset_left, datasets_after, datasets_afresh};
-ghost use Rattle.harvest_results.specs.declared.cause.Cause.{Cause};
-ghost use Rattle.harvest_results.specs.declared.source.HarvestSource.{HarvestSource};
+ghost use Rattle.harvest_sources.specs.declared.cause.Cause.{Cause};
+ghost use Rattle.harvest_sources.specs.declared.source.HarvestSource.{HarvestSource};
 
 /// A whole reading leaves the same datasets, whatever was there before.
 pub fn a_whole_reading_leaves_the_same_datasets()

@@ -1,6 +1,6 @@
 //! Why a catalogue or a dataset of it can't be read.
 ghost use Rattle.std.specs.Prelude.{◌≡◌, IfOk};
-ghost use Rattle.harvest_results.specs.Causes.{bad_line_text, cause_text};
+ghost use Rattle.harvest_sources.specs.Causes.{bad_line_text, cause_text};
 
 use portal_base::text::Text;
 use std::alloc::{AllocError, Global};

@@ -1,8 +1,8 @@
 -- The texts of causes.
 use Rattle.std.specs.Prelude.{ℕ, List, ◌++◌, codes, decimal}
-use Rattle.harvest_results.specs.declared.cause.Cause.{Cause}
-use Rattle.harvest_results.specs.declared.cause.Cause.TheVariants.{ReadFault, Missing, TooLong, NotNTriples, NoCatalog}
-use Rattle.harvest_results.specs.declared.cause.Cause.TheVariants.{NotDescribed, NoTitle, SameName}
+use Rattle.harvest_sources.specs.declared.cause.Cause.{Cause}
+use Rattle.harvest_sources.specs.declared.cause.Cause.TheVariants.{ReadFault, Missing, TooLong, NotNTriples, NoCatalog}
+use Rattle.harvest_sources.specs.declared.cause.Cause.TheVariants.{NotDescribed, NoTitle, SameName}
 
 -- the text for a document whose first bad line has this number
 abbrev pub bad_line_text : ℕ → List ℕ

@@ -1,0 +1,6 @@
+mod Examples
+pub mod JobIds
+mod JobLemmas
+pub mod ListLemmas
+mod ObjectLemmas
+mod PlaceLemmas
