@@ -1,0 +1,5 @@
+pub mod DocumentLemmas
+mod Examples
+pub mod FailureLemmas
+pub mod FoundLemmas
+pub mod HarvestLemmas

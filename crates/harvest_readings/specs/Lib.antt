@@ -1,0 +1,3 @@
+pub mod Catalogues
+pub mod Documents
+pub mod Harvests
