@@ -1,0 +1,6 @@
+pub mod Answers
+pub mod Bodies
+pub mod Dictionary
+pub mod Fit
+pub mod Lookup
+pub mod View
