@@ -1,0 +1,4 @@
+pub mod Groups
+pub mod Ready
+pub mod Restored
+pub mod Stages

@@ -1,0 +1,48 @@
+//! The sources with their jobs as one value.
+ghost use Rattle.std.specs.Prelude.{◌≡◌, []};
+ghost use Rattle.harvest_sources.specs.Sources.{states};
+ghost use Rattle.harvest_stages.specs.Stages.{sources_in};
+
+use harvest_sources::SourceJobs;
+use std::alloc::Global;
+use std::marker::Model;
+
+/// The sources of a portal, ascending by name, each with its jobs. In contracts, `stored` is the list of them, and `room`
+/// says whether one more source fits without an allocation.
+#[derive(Drop)]
+pub struct Stages {
+    pub(crate) sources: Vec<SourceJobs>,
+}
+
+impl Model for Stages {
+    ghost use Rattle.std.specs.Prelude.{nat_lt, vec_len, vec_capacity};
+    ghost use Rattle.harvest_sources.specs.Sources.{AreSources, states};
+    ghost use Rattle.harvest_stages.specs.Stages.{StagesWithRoom};
+
+    ghost Value = { StagesWithRoom };
+
+    ghost view = { λ s. record {
+      stored = s.sources.items;
+      room = nat_lt (vec_len s.sources) (vec_capacity s.sources);
+    } };
+
+    ghost invariant = { λ s. AreSources (states s.sources.items) };
+}
+
+impl Stages {
+    /// Stages without a source. It takes no memory.
+    pub fn new(alloc: Global) -> Stages
+        ensures { sources_in result ≡ [] }
+    {
+        Stages {
+            sources: Vec::new(alloc),
+        }
+    }
+
+    /// The sources with their jobs, ascending by name.
+    pub fn sources(&self) -> &[SourceJobs]
+        ensures { states result.now ≡ sources_in self.now }
+    {
+        self.sources.as_slice()
+    }
+}
