@@ -14,6 +14,9 @@ use Rattle.portal_calls.specs.declared.action.Action.TheVariants.{OrganizationLi
 use Rattle.portal_calls.specs.declared.action.Action.TheVariants.{OrganizationMemberDelete, MemberList}
 use Rattle.portal_calls.specs.declared.action.Action.TheVariants.{UserList, DatastoreCreate, DatastoreUpsert}
 use Rattle.portal_calls.specs.declared.action.Action.TheVariants.{DatastoreDelete, DatastoreSearch, DatastoreInfo}
+use Rattle.portal_calls.specs.declared.action.Action.TheVariants.{HarvestSourceCreate, HarvestSourceUpdate}
+use Rattle.portal_calls.specs.declared.action.Action.TheVariants.{HarvestSourceDelete, HarvestSourceShow}
+use Rattle.portal_calls.specs.declared.action.Action.TheVariants.{HarvestSourceList, HarvestJobCreate, HarvestJobShow}
 
 abbrev pub action_name : Action → List ℕ
 action_name PackageCreate = codes "package_create"
@@ -43,6 +46,13 @@ action_name DatastoreUpsert = codes "datastore_upsert"
 action_name DatastoreDelete = codes "datastore_delete"
 action_name DatastoreSearch = codes "datastore_search"
 action_name DatastoreInfo = codes "datastore_info"
+action_name HarvestSourceCreate = codes "harvest_source_create"
+action_name HarvestSourceUpdate = codes "harvest_source_update"
+action_name HarvestSourceDelete = codes "harvest_source_delete"
+action_name HarvestSourceShow = codes "harvest_source_show"
+action_name HarvestSourceList = codes "harvest_source_list"
+action_name HarvestJobCreate = codes "harvest_job_create"
+action_name HarvestJobShow = codes "harvest_job_show"
 
 abbrev pub all_actions : List Action
 all_actions =
@@ -55,7 +65,9 @@ all_actions =
     ∷ OrganizationList ∷ OrganizationListForUser ∷ OrganizationMemberCreate
     ∷ OrganizationMemberDelete ∷ MemberList ∷ UserList
     ∷ DatastoreCreate ∷ DatastoreUpsert ∷ DatastoreDelete
-    ∷ DatastoreSearch ∷ DatastoreInfo
+    ∷ DatastoreSearch ∷ DatastoreInfo ∷ HarvestSourceCreate
+    ∷ HarvestSourceUpdate ∷ HarvestSourceDelete ∷ HarvestSourceShow
+    ∷ HarvestSourceList ∷ HarvestJobCreate ∷ HarvestJobShow
     ∷ []
 
 -- The action of that name. None where no action has it.
@@ -91,3 +103,10 @@ is_reading DatastoreUpsert = false
 is_reading DatastoreDelete = false
 is_reading DatastoreSearch = true
 is_reading DatastoreInfo = true
+is_reading HarvestSourceCreate = false
+is_reading HarvestSourceUpdate = false
+is_reading HarvestSourceDelete = false
+is_reading HarvestSourceShow = true
+is_reading HarvestSourceList = true
+is_reading HarvestJobCreate = false
+is_reading HarvestJobShow = true

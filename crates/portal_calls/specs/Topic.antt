@@ -11,12 +11,16 @@ use Rattle.portal_calls.specs.declared.action.Action.TheVariants.{ResourceCreate
 use Rattle.portal_calls.specs.declared.action.Action.TheVariants.{ResourceUpdate, ResourceDelete, ResourceShow}
 use Rattle.portal_calls.specs.declared.action.Action.TheVariants.{DatastoreCreate, DatastoreUpsert, DatastoreInfo}
 use Rattle.portal_calls.specs.declared.action.Action.TheVariants.{DatastoreSearch, DatastoreDelete}
+use Rattle.portal_calls.specs.declared.action.Action.TheVariants.{HarvestSourceCreate, HarvestSourceUpdate}
+use Rattle.portal_calls.specs.declared.action.Action.TheVariants.{HarvestSourceDelete, HarvestSourceShow}
+use Rattle.portal_calls.specs.declared.action.Action.TheVariants.{HarvestSourceList, HarvestJobCreate, HarvestJobShow}
 use Rattle.portal_calls.specs.declared.topic.OrganizationAction.TheVariants as organization
 use Rattle.portal_calls.specs.declared.topic.DatasetAction.TheVariants as dataset
 use Rattle.portal_calls.specs.declared.topic.TableAction.TheVariants as table
 use Rattle.portal_calls.specs.declared.topic.QueryAction.TheVariants as query
+use Rattle.portal_calls.specs.declared.topic.HarvestAction.TheVariants as harvest
 use Rattle.portal_calls.specs.declared.topic.Topic.{Topic}
-use Rattle.portal_calls.specs.declared.topic.Topic.TheVariants.{Organizations, Datasets, Search, Tables, Queries}
+use Rattle.portal_calls.specs.declared.topic.Topic.TheVariants.{Organizations, Datasets, Search, Tables, Queries, Harvests}
 
 abbrev pub topic_of : Action → Topic
 topic_of OrganizationCreate = Organizations organization.OrganizationCreate
@@ -46,3 +50,10 @@ topic_of DatastoreUpsert = Tables table.DatastoreUpsert
 topic_of DatastoreInfo = Tables table.DatastoreInfo
 topic_of DatastoreSearch = Queries query.DatastoreSearch
 topic_of DatastoreDelete = Queries query.DatastoreDelete
+topic_of HarvestSourceCreate = Harvests harvest.HarvestSourceCreate
+topic_of HarvestSourceUpdate = Harvests harvest.HarvestSourceUpdate
+topic_of HarvestSourceDelete = Harvests harvest.HarvestSourceDelete
+topic_of HarvestSourceShow = Harvests harvest.HarvestSourceShow
+topic_of HarvestSourceList = Harvests harvest.HarvestSourceList
+topic_of HarvestJobCreate = Harvests harvest.HarvestJobCreate
+topic_of HarvestJobShow = Harvests harvest.HarvestJobShow

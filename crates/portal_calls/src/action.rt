@@ -32,11 +32,18 @@ pub enum Action {
     DatastoreDelete,
     DatastoreSearch,
     DatastoreInfo,
+    HarvestSourceCreate,
+    HarvestSourceUpdate,
+    HarvestSourceDelete,
+    HarvestSourceShow,
+    HarvestSourceList,
+    HarvestJobCreate,
+    HarvestJobShow,
 }
 
 impl Action {
     /// Every action.
-    pub const ALL: [Action; 27] = [
+    pub const ALL: [Action; 34] = [
         Action::PackageCreate,
         Action::PackageUpdate,
         Action::PackagePatch,
@@ -64,6 +71,13 @@ impl Action {
         Action::DatastoreDelete,
         Action::DatastoreSearch,
         Action::DatastoreInfo,
+        Action::HarvestSourceCreate,
+        Action::HarvestSourceUpdate,
+        Action::HarvestSourceDelete,
+        Action::HarvestSourceShow,
+        Action::HarvestSourceList,
+        Action::HarvestJobCreate,
+        Action::HarvestJobShow,
     ];
 
     /// The action's name in a call.
@@ -98,6 +112,13 @@ impl Action {
             Action::DatastoreDelete => "datastore_delete",
             Action::DatastoreSearch => "datastore_search",
             Action::DatastoreInfo => "datastore_info",
+            Action::HarvestSourceCreate => "harvest_source_create",
+            Action::HarvestSourceUpdate => "harvest_source_update",
+            Action::HarvestSourceDelete => "harvest_source_delete",
+            Action::HarvestSourceShow => "harvest_source_show",
+            Action::HarvestSourceList => "harvest_source_list",
+            Action::HarvestJobCreate => "harvest_job_create",
+            Action::HarvestJobShow => "harvest_job_show",
         }
     }
 
@@ -128,6 +149,9 @@ impl Action {
                 | Action::UserList
                 | Action::DatastoreSearch
                 | Action::DatastoreInfo
+                | Action::HarvestSourceShow
+                | Action::HarvestSourceList
+                | Action::HarvestJobShow
         )
     }
 }

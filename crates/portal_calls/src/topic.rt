@@ -35,7 +35,7 @@ pub enum DatasetAction {
     ResourceShow,
 }
 
-/// An action on sources of harvests and their jobs. No action has this topic yet.
+/// An action on sources of harvests and their jobs.
 #[derive(Clone, Copy)]
 pub enum HarvestAction {
     HarvestSourceCreate,
@@ -70,6 +70,7 @@ pub enum Topic {
     Search,
     Tables(TableAction),
     Queries(QueryAction),
+    Harvests(HarvestAction),
 }
 
 impl Topic {
@@ -117,6 +118,13 @@ impl Topic {
             Action::DatastoreInfo => Topic::Tables(TableAction::DatastoreInfo),
             Action::DatastoreSearch => Topic::Queries(QueryAction::DatastoreSearch),
             Action::DatastoreDelete => Topic::Queries(QueryAction::DatastoreDelete),
+            Action::HarvestSourceCreate => Topic::Harvests(HarvestAction::HarvestSourceCreate),
+            Action::HarvestSourceUpdate => Topic::Harvests(HarvestAction::HarvestSourceUpdate),
+            Action::HarvestSourceDelete => Topic::Harvests(HarvestAction::HarvestSourceDelete),
+            Action::HarvestSourceShow => Topic::Harvests(HarvestAction::HarvestSourceShow),
+            Action::HarvestSourceList => Topic::Harvests(HarvestAction::HarvestSourceList),
+            Action::HarvestJobCreate => Topic::Harvests(HarvestAction::HarvestJobCreate),
+            Action::HarvestJobShow => Topic::Harvests(HarvestAction::HarvestJobShow),
         }
     }
 }
