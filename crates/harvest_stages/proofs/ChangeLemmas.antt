@@ -70,11 +70,11 @@ ready_so items after name place result created up there within made =
 
 -- ---- a source in place of that of its name
 
-found_named : (sources : List SourceState) (name : List ℕ)
+pub found_named : (sources : List SourceState) (name : List ℕ)
     → found (source_at name) sources ≡ source_named sources name
 found_named sources name = find-same _ _ (λ s. is_eq-slice_cmp s.source.name name) sources
 
-AreSources-upserted : (sources : List SourceState) (s : SourceState) → AreSources sources → s.source.name ≢ []
+pub AreSources-upserted : (sources : List SourceState) (s : SourceState) → AreSources sources → s.source.name ≢ []
     → HasItsJobs s → AreSources (upserted source_cmp s sources)
 AreSources-upserted sources s was named holds = record {
   ascending = IsAscending-upserted source_cmp source_cmp_total s sources was.ascending;
@@ -83,7 +83,7 @@ AreSources-upserted sources s was named holds = record {
 }
 
 -- With an item of the same name in its place, the sources are those with its state.
-set_upserted : (items : List SourceWithRoom) (place : ℕ) (old new : SourceWithRoom) → IsAscending source_cmp (states items)
+pub set_upserted : (items : List SourceWithRoom) (place : ℕ) (old new : SourceWithRoom) → IsAscending source_cmp (states items)
     → place < length items → get_or items place old ≡ old → new.state.source.name ≡ old.state.source.name
     → states (set items place new) ≡ upserted source_cmp new.state (states items)
 set_upserted items place old new up within read alike =

@@ -32,7 +32,7 @@ adjacent-ascends cmp o (x ∷ rest) false at = (
   λ up. at.2 x ∙ ap is_lt (ascending_at cmp x (x ∷ rest) up at.0 (at.0 + 1) (omega arith) at.1),
 )
 
-distinct-apart : {X : Type 0} (cmp : X → X → Ordering) (xs : List X) → AreApart cmp xs → are_apart cmp xs ≡ true
+pub distinct-apart : {X : Type 0} (cmp : X → X → Ordering) (xs : List X) → AreApart cmp xs → are_apart cmp xs ≡ true
 distinct-apart cmp [] apart = refl
 distinct-apart cmp (x ∷ xs) apart =
     ap (λ b. not b && are_apart cmp xs) apart.0 ∙ distinct-apart cmp xs apart.1

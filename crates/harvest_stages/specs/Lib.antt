@@ -1,4 +1,6 @@
+pub mod AtRest
 pub mod Groups
+pub mod Prepared
 pub mod Ready
 pub mod Restored
 pub mod Stages

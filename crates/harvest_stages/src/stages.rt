@@ -1,9 +1,11 @@
 //! The sources with their jobs as one value.
-ghost use Rattle.std.specs.Prelude.{◌≡◌, []};
-ghost use Rattle.harvest_sources.specs.Sources.{states};
+ghost use Rattle.std.specs.Prelude.{◌≡◌, [], option_map};
+ghost use Rattle.harvest_sources.specs.Sources.{AreSources, source_named, states};
 ghost use Rattle.harvest_stages.specs.Stages.{sources_in};
 
+use crate::places::find_source;
 use harvest_sources::SourceJobs;
+use portal_base::text::Text;
 use std::alloc::Global;
 use std::marker::Model;
 
@@ -41,8 +43,16 @@ impl Stages {
 
     /// The sources with their jobs, ascending by name.
     pub fn sources(&self) -> &[SourceJobs]
-        ensures { states result.now ≡ sources_in self.now }
+        ensures sources { states result.now ≡ sources_in self.now }
+        ensures valid { AreSources (states result.now) }
     {
         self.sources.as_slice()
+    }
+
+    /// The source of that name with its jobs, by a binary search.
+    pub fn source(&self, name: &Text) -> Option<&SourceJobs>
+        ensures { option_map (λ s. s.now.state) result ≡ source_named (sources_in self.now) name.now }
+    {
+        find_source(self.sources.as_slice(), name)
     }
 }
