@@ -1,2 +1,3 @@
+pub mod KeptHarvests
 pub mod Readings
 pub mod Rows

@@ -32,10 +32,9 @@ pub struct KeptValues {
 
 /// Reads all rows of a store. The result is some values exactly if the rows are those of these values. So it is none if
 /// the rows are out of order, if they lack the row of the version, or if one of them is the row of no value.
-pub fn read_rows(alloc: Global, rows: &Seq<KeptRow>) -> Result<Option<KeptValues>, AllocError>
+pub fn read_rows(alloc: Global, rows: &[KeptRow]) -> Result<Option<KeptValues>, AllocError>
     ensures { IfOk result (λ found. (values : KeptValues) → (found ≡ Some values) ↔ IsKeptOf values rows.now) }
 {
-    let rows = rows.as_slice();
     if !are_in_order(rows) {
         return Ok(None);
     }
