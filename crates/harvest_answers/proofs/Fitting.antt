@@ -5,6 +5,7 @@ use Rattle.std.proofs.Common.{is_some, sym, ap, ◌∙◌, refl, true≢false}
 use Rattle.std.specs.Prelude.{codes, is_none}
 use Rattle.std.specs.Option.{option_and_then, option_map}
 use Rattle.std.specs.Str.{bytes_eq, chars}
+use Rattle.std.proofs.lemmas.Option.{same_Some}
 use Rattle.std.proofs.lemmas.Slice.Eq.{bytes_eq-Decides}
 use Rattle.portal_base.specs.declared.json_value.Json.{Json}
 use Rattle.portal_base.specs.declared.kinds.KindFault.{KindFault}
@@ -26,7 +27,7 @@ use Rattle.portal_calls.specs.declared.topic.HarvestAction.TheVariants.{HarvestS
 use Rattle.portal_calls.specs.declared.topic.HarvestAction.TheVariants.{HarvestSourceList, HarvestJobCreate}
 use Rattle.portal_calls.specs.declared.topic.HarvestAction.TheVariants.{HarvestJobShow}
 use Rattle.portal_calls.proofs.Answering.{AcceptsOnly-answer_if_authorized, AcceptsOnly-answer_if_found}
-use Rattle.portal_calls.proofs.Answering.{AcceptsOnly-answer_if_valid, error_if-none, thing_at-ok}
+use Rattle.portal_calls.proofs.Answering.{AcceptsOnly-answer_if_valid, authorized_thing-ok, error_if-none, thing_at-ok}
 use Rattle.visibility.specs.CallView.{CallView}
 use Rattle.visibility.specs.View.{administers}
 use Rattle.harvest_sources.specs.Entries.{fault_if_open}
@@ -41,7 +42,7 @@ use Rattle.harvest_answers.specs.Bodies.{created_source, creation_errors, locati
 use Rattle.harvest_answers.specs.Bodies.{longest_source_name, organization_error, source_name_error}
 use Rattle.harvest_answers.specs.Bodies.{text_or_empty, title_read, unfinished_error, unfinished_errors, update_errors}
 use Rattle.harvest_answers.specs.Fit.{IsFitCreation, IsFitSource}
-use Rattle.harvest_answers.specs.Lookup.{job_given, source_at}
+use Rattle.harvest_answers.specs.Lookup.{administered_source, job_given, source_at}
 
 -- ---- what holds without errors
 
@@ -163,16 +164,38 @@ creation-fit view sources =
 
 -- ---- a source that the caller sees
 
--- The source that a key names is found under its own name, and has no fault if it has no open job.
-source-fault : (key : List ℕ) (view : CallView) (sources : List SourceState) (s : SourceState)
-    → source_at key view sources ≡ Ok s → unfinished_error s ≡ None
-    → fault_if_open (source_named sources s.source.name) ≡ None
-source-fault key view sources s is none =
-    let found = thing_at-ok key view.call.request.body source_kind (source_named sources) s is in
+-- Where a source is found and its organization is administered, both hold.
+record IsAdministered (key : List ℕ) (view : CallView) (sources : List SourceState) (s : SourceState) : Type 0 where
+  own : administers view.people view.caller s.source.owner_org ≡ true
+  looked : source_named sources s.source.name ≡ Some s
+
+-- The source that a key names is found under its own name.
+source-own : (key : List ℕ) (view : CallView) (sources : List SourceState) (s : SourceState)
+    → administered_source key view sources ≡ Ok s → IsAdministered key view sources s
+source-own key view sources s is =
+    let given = authorized_thing-ok (λ (t : SourceState). administers view.people view.caller t.source.owner_org)
+    AdministerOrganization (source_at key view sources) s is in
+    let found = thing_at-ok key view.call.request.body source_kind (source_named sources) s given.1 in
     let same : s.source.name ≡ found.name =
     (bytes_eq-Decides s.source.name found.name).0
     (IsIn-find (λ t. bytes_eq t.source.name found.name) s sources found.looked).1 in
-    ap fault_if_open (ap (source_named sources) same ∙ found.looked)
+    record { own = given.0; looked = ap (source_named sources) same ∙ found.looked }
+
+-- It is the one that its name finds.
+own-only : (view : CallView) (sources : List SourceState) (s : SourceState)
+    → administers view.people view.caller s.source.owner_org ≡ true → source_named sources s.source.name ≡ Some s
+    → (t : SourceState) → source_named sources s.source.name ≡ Some t
+    → administers view.people view.caller t.source.owner_org ≡ true
+own-only view sources s own looked t also =
+    let same : s ≡ t = same_Some s t (sym looked ∙ also) in
+    ap (λ (u : SourceState). administers view.people view.caller u.source.owner_org) (sym same) ∙ own
+
+-- It has no fault if it has no open job.
+source-fault : (key : List ℕ) (view : CallView) (sources : List SourceState) (s : SourceState)
+    → IsAdministered key view sources s → unfinished_error s ≡ None
+    → fault_if_open (source_named sources s.source.name) ≡ None
+source-fault key view sources s is none =
+    ap fault_if_open is.looked
     ∙ ended (is_some (open_job s)) (rule-no_error _ _ none)
   where
     ended : (b : Bool) → not b ≡ true → cond {A = Option StageFault} b (Some NotFinished) None ≡ None
@@ -190,27 +213,42 @@ update-finished s body none =
 update-fit : (view : CallView) (sources : List SourceState)
     → AcceptsOnly (IsFitSource view sources) (answer_to_source_update view sources)
 update-fit view sources =
-    AcceptsOnly-answer_if_found (IsFitSource view sources) (source_at (codes "id") view sources) _
+    AcceptsOnly-answer_if_found (IsFitSource view sources) (administered_source (codes "id") view sources) _
     (λ s is. AcceptsOnly-answer_if_valid (IsFitSource view sources) view.quota
     (update_errors s view.call.request.body) _
-    (λ none. source-fault (codes "id") view sources s is (update-finished s view.call.request.body none)))
+    (λ none.
+    let given = source-own (codes "id") view sources s is in
+    record {
+      possible = source-fault (codes "id") view sources s given (update-finished s view.call.request.body none);
+      administered = own-only view sources s given.own given.looked;
+    }))
 
 removal-fit : (view : CallView) (sources : List SourceState)
     → AcceptsOnly (IsFitSource view sources) (answer_to_source_delete view sources)
 removal-fit view sources =
-    AcceptsOnly-answer_if_found (IsFitSource view sources) (source_at (codes "id") view sources) _
+    AcceptsOnly-answer_if_found (IsFitSource view sources) (administered_source (codes "id") view sources) _
     (λ s is. AcceptsOnly-answer_if_valid (IsFitSource view sources) view.quota (unfinished_errors (codes "id") s) _
-    (λ none. source-fault (codes "id") view sources s is
-    (error_if-none (codes "id") (unfinished_error s) [] none).1))
+    (λ none.
+    let given = source-own (codes "id") view sources s is in
+    record {
+      possible = source-fault (codes "id") view sources s given
+          (error_if-none (codes "id") (unfinished_error s) [] none).1;
+      administered = own-only view sources s given.own given.looked;
+    }))
 
 job-fit : (view : CallView) (sources : List SourceState)
     → AcceptsOnly (IsFitSource view sources) (answer_to_job_create view sources)
 job-fit view sources =
-    AcceptsOnly-answer_if_found (IsFitSource view sources) (source_at (codes "source_id") view sources) _
+    AcceptsOnly-answer_if_found (IsFitSource view sources) (administered_source (codes "source_id") view sources) _
     (λ s is. AcceptsOnly-answer_if_valid (IsFitSource view sources) view.quota
     (unfinished_errors (codes "source_id") s) _
-    (λ none. source-fault (codes "source_id") view sources s is
-    (error_if-none (codes "source_id") (unfinished_error s) [] none).1))
+    (λ none.
+    let given = source-own (codes "source_id") view sources s is in
+    record {
+      possible = source-fault (codes "source_id") view sources s given
+          (error_if-none (codes "source_id") (unfinished_error s) [] none).1;
+      administered = own-only view sources s given.own given.looked;
+    }))
 
 -- ---- reads, which accept no change
 

@@ -1,6 +1,6 @@
 -- What a caller sees of the sources of harvests.
 use Rattle.std.proofs.Common.{◌≡◌, ℕ, ◌+◌, ◌<◌, Bool, true, false, cond, List, [], ◌∷◌, ◌++◌, Option, Some, None, map}
-use Rattle.std.proofs.Common.{length, take, get_or, refl, sym, ap, ◌∙◌, arith}
+use Rattle.std.proofs.Common.{length, take, get_or, refl, sym, ap, ◌∙◌, arith, Result, Ok, Err}
 use Rattle.std.specs.Prelude.{filter, find}
 use Rattle.std.specs.List.{cons_option, filter_map}
 use Rattle.std.specs.Option.{option_and_then, option_map}
@@ -11,15 +11,24 @@ use Rattle.std.proofs.lemmas.List.Elements.{filter_map-append}
 use Rattle.std.proofs.lemmas.Map.Text.{is_eq-slice_cmp}
 use Rattle.portal_base.specs.Ordered.{IsAscending, IsBelowAll, found}
 use Rattle.portal_base.specs.declared.caller.Caller.{Caller}
-use Rattle.portal_base.proofs.Filtered.{find-same, found-filter, kept_item}
+use Rattle.portal_base.proofs.Filtered.{IsIn-filter, find-same, found-filter, kept_item}
+use Rattle.portal_base.proofs.Unique.{IsIn}
 use Rattle.org_roles.specs.PeopleLists.{PeopleLists}
-use Rattle.visibility.specs.View.{people_seen}
+use Rattle.packages.proofs.FindLemmas.{IsIn-find, map-IsIn}
+use Rattle.portal_calls.specs.Answer.{authorized, authorized_thing}
+use Rattle.portal_calls.specs.declared.answer.Denial.{Denial}
+use Rattle.portal_calls.specs.declared.answer.Kind.TheVariants.{HarvestSource as source_kind}
+use Rattle.portal_calls.specs.declared.answer.Right.TheVariants.{AdministerOrganization}
+use Rattle.portal_calls.proofs.Answering.{thing_at-ok}
+use Rattle.visibility.specs.CallView.{CallView}
+use Rattle.visibility.specs.View.{administers, people_seen}
 use Rattle.visibility.proofs.ViewLemmas.{administers_seen}
 use Rattle.harvest_sources.specs.Entries.{fault_if_open}
 use Rattle.harvest_sources.specs.Sources.{SourceState, SourceWithRoom, IsKey-source_at, source_at, source_cmp}
 use Rattle.harvest_sources.specs.Sources.{source_cmp_total}
 use Rattle.harvest_sources.specs.Sources.{source_named, states, stored_at, stored_cmp}
 use Rattle.harvest_answers.specs.Dictionary.{seen_dictionary, source_dictionary}
+use Rattle.harvest_answers.specs.Lookup.{administered_source, source_at as source_of_key}
 use Rattle.harvest_answers.specs.View.{seen_part, sees_source, sources_seen, without_listing}
 
 -- ---- seeing twice
@@ -161,3 +170,38 @@ pub one_more : {X Y : Type 0} (h : X → Option Y) (xs : List X) (i : ℕ) (x : 
     → i < length xs → x ≡ get_or xs i x → made ≡ filter_map h (take i xs) → item ≡ h x
     → made ++ cons_option item [] ≡ filter_map h (take (i + 1) xs)
 one_more h xs i x made item within is as_made as_given = grind (arith, common_steps, filter_map-append)
+
+-- ---- a source of an organization that the caller administers
+
+-- Each source that the caller sees is one of an organization that it administers.
+pub seen_administered : (caller : Caller) (people : PeopleLists) (sources : List SourceState) (s : SourceState)
+    → IsIn s (sources_seen caller people sources) → administers (people_seen caller people) caller s.source.owner_org ≡ true
+seen_administered caller people sources s within =
+    let listed = map-IsIn without_listing s (filter (sees_source people caller) sources) within in
+    administers_seen caller people s.source.owner_org
+    ∙ ap (λ (t : SourceState). administers people caller t.source.owner_org) listed.2
+    ∙ (IsIn-filter (sees_source people caller) listed.0 sources listed.1).1
+
+-- So the right to change a source refuses nobody who sees it.
+pub administered_seen : (key : List ℕ) (view : CallView) (caller : Caller) (people : PeopleLists)
+    (sources : List SourceState)
+    → view.people ≡ people_seen caller people → view.caller ≡ caller
+    → administered_source key view (sources_seen caller people sources)
+    ≡ source_of_key key view (sources_seen caller people sources)
+administered_seen key view caller people sources same_people same_caller =
+    by (source_of_key key view (sources_seen caller people sources)) refl
+  where
+    right : (s : SourceState) → source_of_key key view (sources_seen caller people sources) ≡ Ok s
+        → administers view.people view.caller s.source.owner_org ≡ true
+    right s is =
+        let found = thing_at-ok key view.call.request.body source_kind (source_named (sources_seen caller people sources))
+        s is in
+        rw (same_people, same_caller)
+        (seen_administered caller people sources s
+        (IsIn-find (λ t. bytes_eq t.source.name found.name) s (sources_seen caller people sources) found.looked).0)
+
+    by : (found : Result SourceState Denial) → source_of_key key view (sources_seen caller people sources) ≡ found
+        → authorized_thing (λ s. administers view.people view.caller s.source.owner_org) AdministerOrganization found
+        ≡ found
+    by (Err denial) is = refl
+    by (Ok s) is = ap (λ b. authorized b AdministerOrganization s) (right s is)

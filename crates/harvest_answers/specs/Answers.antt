@@ -25,7 +25,7 @@ use Rattle.harvest_sources.specs.declared.source.HarvestSource.{HarvestSource}
 use Rattle.harvest_answers.specs.Bodies.{created_source, creation_errors, organization_given, unfinished_errors}
 use Rattle.harvest_answers.specs.Bodies.{update_errors, edited_source}
 use Rattle.harvest_answers.specs.Dictionary.{job_dictionary, source_dictionary}
-use Rattle.harvest_answers.specs.Lookup.{job_given, source_at}
+use Rattle.harvest_answers.specs.Lookup.{administered_source, job_given, source_at}
 use Rattle.harvest_answers.specs.View.{administers_somewhere}
 
 -- ---- creation
@@ -57,13 +57,13 @@ accepted_update source = Accepted (source_dictionary source) (Update source.name
 
 abbrev pub answer_to_source_update : CallView → List SourceState → Answer SourceChange
 answer_to_source_update view sources =
-    answer_if_found (source_at (codes "id") view sources)
+    answer_if_found (administered_source (codes "id") view sources)
     (λ s. answer_if_valid view.quota (update_errors s view.call.request.body)
     (accepted_update (edited_source view.call.request.body s.source)))
 
 abbrev pub answer_to_source_delete : CallView → List SourceState → Answer SourceChange
 answer_to_source_delete view sources =
-    answer_if_found (source_at (codes "id") view sources)
+    answer_if_found (administered_source (codes "id") view sources)
     (λ s. answer_if_valid view.quota (unfinished_errors (codes "id") s)
     (Accepted json.Null (Remove s.source.name)))
 
@@ -82,7 +82,7 @@ job_of_call view source = new_job source.name source.next_job view.call.moment
 
 abbrev pub answer_to_job_create : CallView → List SourceState → Answer SourceChange
 answer_to_job_create view sources =
-    answer_if_found (source_at (codes "source_id") view sources)
+    answer_if_found (administered_source (codes "source_id") view sources)
     (λ s. answer_if_valid view.quota (unfinished_errors (codes "source_id") s)
     (Accepted (job_dictionary (job_of_call view s.source)) (AddJob s.source.name view.call.moment)))
 

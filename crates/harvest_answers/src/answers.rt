@@ -18,7 +18,7 @@ ghost use Rattle.harvest_answers.specs.View.{sources_for, sources_seen};
 
 use crate::bodies::{read_creation, read_update, unfinished_errors};
 use crate::dictionary::{job_json, source_json, sources_json};
-use crate::lookup::{job_given, source_at};
+use crate::lookup::{administered_source, job_given, source_at};
 use crate::rights::may_create_source;
 use harvest_sources::{HarvestSource, SourceChange, SourceJobs};
 use portal_base::copy::TryClone;
@@ -96,7 +96,7 @@ fn source_update(
     ensures { Answers result
         (answer_to_source_update (context_view context.now) (sources_for context.now sources.now)) }
 {
-    let old = source_at(alloc, context, sources, "id")?;
+    let old = administered_source(alloc, context, sources, "id")?;
     let (faults, source) = read_update(alloc, &context.call.request.body, old)?;
     validate_change(context.quota, faults)?;
     Ok(accept_update(alloc, source)?)
@@ -121,7 +121,7 @@ fn source_delete(
     ensures { Answers result
         (answer_to_source_delete (context_view context.now) (sources_for context.now sources.now)) }
 {
-    let old = source_at(alloc, context, sources, "id")?;
+    let old = administered_source(alloc, context, sources, "id")?;
     let faults = unfinished_errors(alloc, "id", old)?;
     validate_change(context.quota, faults)?;
     let name = old.source().name.try_clone(alloc)?;
@@ -165,7 +165,7 @@ fn job_create(
     ensures { Answers result
         (answer_to_job_create (context_view context.now) (sources_for context.now sources.now)) }
 {
-    let found = source_at(alloc, context, sources, "source_id")?;
+    let found = administered_source(alloc, context, sources, "source_id")?;
     let faults = unfinished_errors(alloc, "source_id", found)?;
     validate_change(context.quota, faults)?;
     Ok(accept_job(alloc, context, found)?)

@@ -6,7 +6,7 @@ ghost use Rattle.portal_calls.specs.Stop.{Finds};
 ghost use Rattle.visibility.specs.CallView.{context_view};
 ghost use Rattle.harvest_sources.specs.Jobs.{id_of_job, job_id};
 ghost use Rattle.harvest_sources.specs.Sources.{AreSources, source_named, states};
-ghost use Rattle.harvest_answers.specs.Lookup.{job_given, job_named, source_at};
+ghost use Rattle.harvest_answers.specs.Lookup.{administered_source, job_given, job_named, source_at};
 ghost use Rattle.harvest_answers.specs.View.{seen_part, seen_state, sources_for};
 
 use harvest_sources::{Job, SourceJobs, is_job_id, split_job_id};
@@ -65,6 +65,20 @@ pub fn source_at<'a>(
         },
         Err(fault) => Err(Stop::Refused(key_denial(alloc, key, fault)?)),
     }
+}
+
+/// The same, for a change that needs the right to administer the source's organization. Whoever sees a source has it.
+pub fn administered_source<'a>(
+    alloc: Global,
+    context: &CallContext<'_>,
+    sources: &'a [SourceJobs],
+    key: &'static str,
+) -> Result<&'a SourceJobs, Stop>
+    requires { AreSources (states sources.now) }
+    ensures { Finds result (λ s. seen_state s.now)
+        (administered_source key.now (context_view context.now) (sources_for context.now sources.now)) }
+{
+    source_at(alloc, context, sources, key)
 }
 
 // ---- jobs
