@@ -1,5 +1,6 @@
 -- The changes that the answers on organizations accept can be made.
-use Rattle.std.proofs.Common.{◌≡◌, ◌≢◌, ℕ, Bool, true, false, cond, List, [], ◌∷◌, Option, Some, None, Result, Ok, Err}
+use Rattle.std.proofs.Common.{◌≡◌, ◌≢◌, ℕ, Bool, true, false, cond, ◌||◌, List, [], ◌∷◌, Option, Some, None}
+use Rattle.std.proofs.Common.{Result, Ok, Err}
 use Rattle.std.proofs.Common.{is_some, sym, ap, ◌∙◌, refl, unwrap_or, true≢false}
 use Rattle.std.specs.Prelude.{codes}
 use Rattle.std.specs.List.{find}
@@ -39,6 +40,7 @@ use Rattle.organization_answers.specs.Fit.{IsAdministered, IsFitOrg}
 use Rattle.organization_answers.specs.Bodies.{description_read, title_read, text_or_none, creation_errors}
 use Rattle.organization_answers.specs.Bodies.{patch_errors, removal_errors, member_errors, former_member_errors}
 use Rattle.organization_answers.specs.Bodies.{role_error, user_error, member_error, user_given}
+use Rattle.organization_answers.specs.Owners.{owns_source}
 
 -- ---- the organization
 
@@ -100,15 +102,18 @@ creation-named body none =
     (error_if (codes "description") (kind_message (description_read body)) []) titled.0 in
     name-no_error _ (text-no_error name_error (required_text (codes "name") body) named.1)
 
-removal-empty : (org : List ℕ) (datasets : List Package) → removal_errors org datasets ≡ []
-    → has_datasets org datasets ≡ false
-removal-empty org datasets none = by (has_datasets org datasets) none
+removal-empty : (org : List ℕ) (datasets : List Package) (owners : List (List ℕ))
+    → removal_errors org datasets owners ≡ []
+    → (has_datasets org datasets ≡ false) × (owns_source org owners ≡ false)
+removal-empty org datasets owners none = by (has_datasets org datasets) (owns_source org owners) none
   where
-    by : (has : Bool)
-        → cond {A = List KeyError} has ((codes "id", codes "Organization has datasets or harvest sources") ∷ []) [] ≡ []
-        → has ≡ false
-    by true is = absurd (cc)
-    by false is = refl
+    by : (has owns : Bool)
+        → cond {A = List KeyError} (has || owns)
+        ((codes "id", codes "Organization has datasets or harvest sources") ∷ []) [] ≡ []
+        → (has ≡ false) × (owns ≡ false)
+    by true owns is = absurd (cc)
+    by false true is = absurd (cc)
+    by false false is = (refl, refl)
 
 member-exists : (people : PeopleLists) (body : Json) → member_errors people body ≡ []
     → is_user_in people (user_given body) ≡ true
@@ -134,40 +139,52 @@ former-member-exists people org body none =
 
 -- ---- the answers
 
-creation-fit : (view : CallView) → AcceptsOnly (IsFitOrg view) (answer_to_organization_create view)
-creation-fit view =
-    AcceptsOnly-answer_if_authorized (IsFitOrg view) (is_sysadmin_in view.people view.caller) CreateOrganization _
-    (λ sysadmin. AcceptsOnly-answer_if_valid (IsFitOrg view) view.quota (creation_errors view.call.request.body) _
+creation-fit : (view : CallView) (owners : List (List ℕ))
+    → AcceptsOnly (IsFitOrg view owners) (answer_to_organization_create view)
+creation-fit view owners =
+    AcceptsOnly-answer_if_authorized (IsFitOrg view owners) (is_sysadmin_in view.people view.caller)
+    CreateOrganization _
+    (λ sysadmin. AcceptsOnly-answer_if_valid (IsFitOrg view owners) view.quota
+    (creation_errors view.call.request.body) _
     (λ none. record { named = creation-named view.call.request.body none; sysadmin = sysadmin }))
 
-patch-fit : (view : CallView) → AcceptsOnly (IsFitOrg view) (answer_to_organization_patch view)
-patch-fit view =
-    AcceptsOnly-answer_if_found (IsFitOrg view) (administered_organization view) _
-    (λ org own. AcceptsOnly-answer_if_valid (IsFitOrg view) view.quota (patch_errors view.call.request.body) _
+patch-fit : (view : CallView) (owners : List (List ℕ))
+    → AcceptsOnly (IsFitOrg view owners) (answer_to_organization_patch view)
+patch-fit view owners =
+    AcceptsOnly-answer_if_found (IsFitOrg view owners) (administered_organization view) _
+    (λ org own. AcceptsOnly-answer_if_valid (IsFitOrg view owners) view.quota
+    (patch_errors view.call.request.body) _
     (λ none. own-administered view org own))
 
-removal-fit : (view : CallView) → AcceptsOnly (IsFitOrg view) (answer_to_organization_delete view)
-removal-fit view =
-    AcceptsOnly-answer_if_found (IsFitOrg view) (administered_organization view) _
-    (λ org own. AcceptsOnly-answer_if_valid (IsFitOrg view) view.quota (removal_errors org.name view.datasets) _
-    (λ none. record {
+removal-fit : (view : CallView) (owners : List (List ℕ))
+    → AcceptsOnly (IsFitOrg view owners) (answer_to_organization_delete view owners)
+removal-fit view owners =
+    AcceptsOnly-answer_if_found (IsFitOrg view owners) (administered_organization view) _
+    (λ org own. AcceptsOnly-answer_if_valid (IsFitOrg view owners) view.quota
+    (removal_errors org.name view.datasets owners) _
+    (λ none. let empty = removal-empty org.name view.datasets owners none in
+    record {
       own = own-administered view org own;
-      empty = removal-empty org.name view.datasets none;
+      empty = empty.0;
+      unharvested = empty.1;
     }))
 
-member-fit : (view : CallView) → AcceptsOnly (IsFitOrg view) (answer_to_member_create view)
-member-fit view =
-    AcceptsOnly-answer_if_found (IsFitOrg view) (administered_organization view) _
-    (λ org own. AcceptsOnly-answer_if_valid (IsFitOrg view) view.quota (member_errors view.people view.call.request.body) _
+member-fit : (view : CallView) (owners : List (List ℕ))
+    → AcceptsOnly (IsFitOrg view owners) (answer_to_member_create view)
+member-fit view owners =
+    AcceptsOnly-answer_if_found (IsFitOrg view owners) (administered_organization view) _
+    (λ org own. AcceptsOnly-answer_if_valid (IsFitOrg view owners) view.quota
+    (member_errors view.people view.call.request.body) _
     (λ none. record {
       own = own-administered view org own;
       user_exists = member-exists view.people view.call.request.body none;
     }))
 
-former-member-fit : (view : CallView) → AcceptsOnly (IsFitOrg view) (answer_to_member_delete view)
-former-member-fit view =
-    AcceptsOnly-answer_if_found (IsFitOrg view) (administered_organization view) _
-    (λ org own. AcceptsOnly-answer_if_valid (IsFitOrg view) view.quota
+former-member-fit : (view : CallView) (owners : List (List ℕ))
+    → AcceptsOnly (IsFitOrg view owners) (answer_to_member_delete view)
+former-member-fit view owners =
+    AcceptsOnly-answer_if_found (IsFitOrg view owners) (administered_organization view) _
+    (λ org own. AcceptsOnly-answer_if_valid (IsFitOrg view owners) view.quota
     (former_member_errors view.people org.name view.call.request.body) _
     (λ none. let exists = former-member-exists view.people org.name view.call.request.body none in
     record {
@@ -190,15 +207,15 @@ list-only P view =
 
 -- ---- every action
 
-pub action_fit : (action : OrganizationAction) (view : CallView)
-    → AcceptsOnly (IsFitOrg view) (answer_to_action action view)
-action_fit OrganizationCreate view = creation-fit view
-action_fit OrganizationPatch view = patch-fit view
-action_fit OrganizationDelete view = removal-fit view
-action_fit OrganizationShow view = show-only (IsFitOrg view) view
-action_fit OrganizationList view = list-only (IsFitOrg view) view
-action_fit OrganizationListForUser view = tt
-action_fit OrganizationMemberCreate view = member-fit view
-action_fit OrganizationMemberDelete view = former-member-fit view
-action_fit MemberList view = members-only (IsFitOrg view) view
-action_fit UserList view = tt
+pub action_fit : (action : OrganizationAction) (view : CallView) (owners : List (List ℕ))
+    → AcceptsOnly (IsFitOrg view owners) (answer_to_action action view owners)
+action_fit OrganizationCreate view owners = creation-fit view owners
+action_fit OrganizationPatch view owners = patch-fit view owners
+action_fit OrganizationDelete view owners = removal-fit view owners
+action_fit OrganizationShow view owners = show-only (IsFitOrg view owners) view
+action_fit OrganizationList view owners = list-only (IsFitOrg view owners) view
+action_fit OrganizationListForUser view owners = tt
+action_fit OrganizationMemberCreate view owners = member-fit view owners
+action_fit OrganizationMemberDelete view owners = former-member-fit view owners
+action_fit MemberList view owners = members-only (IsFitOrg view owners) view
+action_fit UserList view owners = tt

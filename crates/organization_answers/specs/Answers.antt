@@ -1,4 +1,5 @@
 -- The answers to calls on organizations, their members and users: functions of the call and of its caller's view.
+-- `owners` are the organizations of the sources in the view.
 use Rattle.std.specs.Prelude.{ℕ, List, [], codes, Bool, true, false, map, filter, Option, Some, Result, Ok, Err}
 use Rattle.std.specs.Prelude.{unwrap_or, option_map}
 use Rattle.std.specs.List.{filter_map}
@@ -62,10 +63,11 @@ answer_to_organization_patch view =
     (Accepted (organization_dictionary view.datasets (patched_org view.call.request.body org))
     (Patch (patched_org view.call.request.body org))))
 
-abbrev pub answer_to_organization_delete : CallView → Answer OrgChange
-answer_to_organization_delete view =
+abbrev pub answer_to_organization_delete : CallView → List (List ℕ) → Answer OrgChange
+answer_to_organization_delete view owners =
     answer_if_found (administered_organization view)
-    (λ org. answer_if_valid view.quota (removal_errors org.name view.datasets) (Accepted json.Null (Remove org.name)))
+    (λ org. answer_if_valid view.quota (removal_errors org.name view.datasets owners)
+    (Accepted json.Null (Remove org.name)))
 
 -- ---- members
 
@@ -131,14 +133,14 @@ answer_to_user_list view = Shown (json.List (map (λ user. json.Text user.name) 
 
 -- ---- every action
 
-abbrev pub answer_to_action : OrganizationAction → CallView → Answer OrgChange
-answer_to_action OrganizationCreate view = answer_to_organization_create view
-answer_to_action OrganizationPatch view = answer_to_organization_patch view
-answer_to_action OrganizationDelete view = answer_to_organization_delete view
-answer_to_action OrganizationShow view = answer_to_organization_show view
-answer_to_action OrganizationList view = answer_to_organization_list view
-answer_to_action OrganizationListForUser view = answer_to_organization_list_for_user view
-answer_to_action OrganizationMemberCreate view = answer_to_member_create view
-answer_to_action OrganizationMemberDelete view = answer_to_member_delete view
-answer_to_action MemberList view = answer_to_member_list view
-answer_to_action UserList view = answer_to_user_list view
+abbrev pub answer_to_action : OrganizationAction → CallView → List (List ℕ) → Answer OrgChange
+answer_to_action OrganizationCreate view owners = answer_to_organization_create view
+answer_to_action OrganizationPatch view owners = answer_to_organization_patch view
+answer_to_action OrganizationDelete view owners = answer_to_organization_delete view owners
+answer_to_action OrganizationShow view owners = answer_to_organization_show view
+answer_to_action OrganizationList view owners = answer_to_organization_list view
+answer_to_action OrganizationListForUser view owners = answer_to_organization_list_for_user view
+answer_to_action OrganizationMemberCreate view owners = answer_to_member_create view
+answer_to_action OrganizationMemberDelete view owners = answer_to_member_delete view
+answer_to_action MemberList view owners = answer_to_member_list view
+answer_to_action UserList view owners = answer_to_user_list view

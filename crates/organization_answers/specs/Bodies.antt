@@ -1,5 +1,5 @@
 -- The bodies of calls on organizations: their errors, and the values that they give.
-use Rattle.std.specs.Prelude.{ℕ, ℤ, List, [], ◌∷◌, codes, is_some, if◌then◌else◌}
+use Rattle.std.specs.Prelude.{ℕ, ℤ, List, [], ◌∷◌, ◌||◌, codes, is_some, if◌then◌else◌}
 use Rattle.std.specs.Prelude.{Option, Some, None, Result, Ok, Err, unwrap_or, option_and_then}
 use Rattle.std.specs.Str.{bytes_eq}
 use Rattle.portal_base.specs.declared.json_value.Json.{Json}
@@ -15,6 +15,7 @@ use Rattle.packages.specs.Errors.{message_unless}
 use Rattle.packages.specs.declared.package.Package.{Package}
 use Rattle.portal_calls.specs.Answer.{required_text}
 use Rattle.visibility.specs.View.{has_datasets}
+use Rattle.organization_answers.specs.Owners.{owns_source}
 
 -- ---- texts
 
@@ -66,10 +67,10 @@ patched_org body org = record org {
   description = unwrap_or (found_value (description_read body)) org.description;
 }
 
--- an organization can be removed only if it has no datasets, in whatever state
-abbrev pub removal_errors : List ℕ → List Package → List KeyError
-removal_errors org datasets =
-    if has_datasets org datasets
+-- an organization can be removed only if it has no datasets, in whatever state, and no sources
+abbrev pub removal_errors : List ℕ → List Package → List (List ℕ) → List KeyError
+removal_errors org datasets owners =
+    if has_datasets org datasets || owns_source org owners
     then (codes "id", codes "Organization has datasets or harvest sources") ∷ []
     else []
 

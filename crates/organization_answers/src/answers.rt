@@ -1,12 +1,13 @@
 //! The answers to calls on organizations, their members and users.
 //!
 //! Each function finds the thing, checks the right, reads the body and gives the change. Its answer is a function of
-//! the call and of the caller's view. A refusal stops it.
+//! the call and of the caller's view, to which the sources of harvests belong. A refusal stops it.
 ghost use Rattle.std.specs.Prelude.{◌≡◌, IfOk, IsTrue, false, unwrap_or};
 ghost use Rattle.std.specs.Option.{option_flatten};
 ghost use Rattle.portal_calls.specs.Stop.{Answers, Finds};
 ghost use Rattle.visibility.specs.View.{administers};
 ghost use Rattle.visibility.specs.CallView.{context_view};
+ghost use Rattle.harvest_sources.specs.Sources.{states};
 ghost use Rattle.organization_answers.specs.Answers.{answer_to_action};
 ghost use Rattle.organization_answers.specs.Answers.{answer_to_organization_create, answer_to_organization_patch};
 ghost use Rattle.organization_answers.specs.Answers.{answer_to_organization_delete, answer_to_organization_show};
@@ -15,10 +16,12 @@ ghost use Rattle.organization_answers.specs.Answers.{organization_named, adminis
 ghost use Rattle.organization_answers.specs.Answers.{answer_to_member_list, answer_to_organization_list};
 ghost use Rattle.organization_answers.specs.Answers.{answer_to_organization_list_for_user, answer_to_user_list};
 ghost use Rattle.organization_answers.specs.Dictionary.{AreCountsOf, member_dictionary};
+ghost use Rattle.organization_answers.specs.Owners.{owners_for, owners_of, owners_seen};
 
 use crate::bodies::{read_creation, read_former_member, read_member, read_patch, removal_errors};
 use crate::dictionary::{member_json, organization_json};
 use crate::lists::{capacities_json, members_json, names_json, organizations_json, users_json};
+use harvest_sources::SourceJobs;
 use org_roles::change::OrgChange;
 use org_roles::entry::Org;
 use org_roles::role::Role;
@@ -34,17 +37,20 @@ use std::alloc::{AllocError, Global};
 use visibility::context::CallContext;
 use visibility::public_counts::PublicCounts;
 
-/// The answer to a call of this action. An organization's count of public datasets is one of these counts.
+/// The answer to a call of this action. An organization's count of public datasets is one of these counts. `sources`
+/// are all sources of the portal; the answer depends only on those that the caller sees.
 pub fn answer<C: PublicCounts>(
     alloc: Global,
     context: &CallContext<'_>,
     counts: &C,
+    sources: &[SourceJobs],
     action: OrganizationAction,
 ) -> Result<Answer<OrgChange>, AllocError>
     requires { AreCountsOf (context_view context.now).datasets (C.counts counts.now) }
-    ensures { IfOk result (λ answer. answer ≡ answer_to_action action (context_view context.now)) }
+    ensures { IfOk result (λ answer. answer ≡ answer_to_action action (context_view context.now)
+        (owners_seen context.now.viewer.caller (context_view context.now).people (owners_of (states sources.now)))) }
 {
-    answer_or_refusal(answer_to_action(alloc, context, counts, action))
+    answer_or_refusal(answer_to_action(alloc, context, counts, sources, action))
 }
 
 /// The answer to a call of this action, or the stop before it.
@@ -52,15 +58,17 @@ fn answer_to_action<C: PublicCounts>(
     alloc: Global,
     context: &CallContext<'_>,
     counts: &C,
+    sources: &[SourceJobs],
     action: OrganizationAction,
 ) -> Result<Answer<OrgChange>, Stop>
     requires { AreCountsOf (context_view context.now).datasets (C.counts counts.now) }
-    ensures { Answers result (answer_to_action action (context_view context.now)) }
+    ensures { Answers result
+        (answer_to_action action (context_view context.now) (owners_for context.now sources.now)) }
 {
     match action {
         OrganizationAction::OrganizationCreate => organization_create(alloc, context, counts),
         OrganizationAction::OrganizationPatch => organization_patch(alloc, context, counts),
-        OrganizationAction::OrganizationDelete => organization_delete(alloc, context),
+        OrganizationAction::OrganizationDelete => organization_delete(alloc, context, sources),
         OrganizationAction::OrganizationShow => organization_show(alloc, context, counts),
         OrganizationAction::OrganizationList => organization_list(alloc, context),
         OrganizationAction::OrganizationListForUser => organization_list_for_user(alloc, context),
@@ -135,11 +143,16 @@ fn organization_patch<C: PublicCounts>(
 }
 
 /// The answer to an `organization_delete`.
-fn organization_delete(alloc: Global, context: &CallContext<'_>) -> Result<Answer<OrgChange>, Stop>
-    ensures { Answers result (answer_to_organization_delete (context_view context.now)) }
+fn organization_delete(
+    alloc: Global,
+    context: &CallContext<'_>,
+    sources: &[SourceJobs],
+) -> Result<Answer<OrgChange>, Stop>
+    ensures { Answers result
+        (answer_to_organization_delete (context_view context.now) (owners_for context.now sources.now)) }
 {
     let org = administered_organization(alloc, context)?;
-    let faults = removal_errors(alloc, context, &org.name)?;
+    let faults = removal_errors(alloc, context, sources, &org.name)?;
     validate_change(context.quota, faults)?;
     let name = org.name.try_clone(alloc)?;
     Ok(Answer::Accepted(Json::Null, OrgChange::Remove(name)))

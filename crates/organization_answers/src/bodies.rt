@@ -1,6 +1,8 @@
 //! The bodies of calls on organizations: their errors, and the values that they give. Each key is read once.
 ghost use Rattle.std.specs.Prelude.{◌≡◌, IfOk, OnOk, IsTrue, codes, unwrap_or};
+ghost use Rattle.std.specs.List.{list_any};
 ghost use Rattle.std.specs.Option.{option_copied, option_flatten};
+ghost use Rattle.std.specs.Str.{bytes_eq};
 ghost use Rattle.portal_base.specs.KeyErrors.{error_if, text_error};
 ghost use Rattle.portal_calls.specs.Answer.{required_text};
 ghost use Rattle.visibility.specs.CallView.{context_view};
@@ -10,7 +12,9 @@ ghost use Rattle.organization_answers.specs.Bodies.{role_named, role_error, user
 ghost use Rattle.organization_answers.specs.Bodies.{text_or_none, creation_errors, created_org, patch_errors};
 ghost use Rattle.organization_answers.specs.Bodies.{patched_org, member_errors, former_member_errors, user_given};
 ghost use Rattle.organization_answers.specs.Bodies.{role_given, removal_errors};
+ghost use Rattle.organization_answers.specs.Owners.{owners_for};
 
+use harvest_sources::SourceJobs;
 use org_roles::entry::Org;
 use org_roles::role::Role;
 use packages::texts::name_error;
@@ -108,17 +112,30 @@ pub fn read_patch(alloc: Global, body: &Json, org: &Org) -> Result<(KeyErrors, O
     Ok((faults, org))
 }
 
-/// The errors of the removal of an organization.
+/// Whether the organization owns one of the sources. It walks them once.
+fn owns_source(sources: &[SourceJobs], org: &Text) -> bool
+    ensures { result ≡ list_any (λ s. bytes_eq s.state.source.owner_org org.now) sources.now }
+{
+    sources
+        .iter()
+        .any(|source| source.source().owner_org == *org)
+}
+
+/// The errors of the removal of an organization. `sources` are all sources of the portal. Whoever administers the
+/// organization sees those that it owns.
+#[tactic(auto, using(crate::proofs::OwnerLemmas::owns_source_seen))]
 pub fn removal_errors(
     alloc: Global,
     context: &CallContext<'_>,
+    sources: &[SourceJobs],
     org: &Text,
 ) -> Result<KeyErrors, AllocError>
     requires { IsTrue (administers (context_view context.now).people context.now.viewer.caller org.now) }
-    ensures { IfOk result (λ faults. faults ≡ removal_errors org.now (context_view context.now).datasets) }
+    ensures { IfOk result (λ faults. faults
+        ≡ removal_errors org.now (context_view context.now).datasets (owners_for context.now sources.now)) }
 {
     let mut faults = KeyErrors::new(alloc);
-    if context.viewer.has_datasets(org) {
+    if context.viewer.has_datasets(org) || owns_source(sources, org) {
         let message = Text::from_static("Organization has datasets or harvest sources");
         faults.add_error(Text::from_static("id"), message)?;
     }
