@@ -21,7 +21,7 @@ use Rattle.portal_core.proofs.ChangeEntries.{entries-in_state}
 use Rattle.portal_core.proofs.Keeping.{changed_valid, fit_in_valid}
 use Rattle.portal_core.proofs.Settling.{accepted-planned}
 use Rattle.portal_keeper.specs.Changed.{rows_after}
-use Rattle.portal_core.specs.KeptRows.{AreSized, kept_rows}
+use Rattle.portal_core.specs.KeptRows.{IsSized, kept_rows}
 use Rattle.portal_core.specs.RowChanges.{effective_changes, row_changes}
 use Rattle.portal_core.proofs.EffectiveChanges.{rows_after-effective}
 use Rattle.portal_core.proofs.InOrder.{kept_rows-in_order}
@@ -51,25 +51,25 @@ accepted-leaves call state json change valid answers unused =
     (planned-leaves planned.0 call state valid fit (subst (λ (c : Change). IsUnused state c) planned.2 unused))
 
 pub accepted-changes : (call : Call) (state : State) (json : Json) (change : Change) → IsValid state
-    → answer_in state call ≡ Accepted json change → IsUnused state change → AreSized state.tables
-    → AreSized (state_after change.entries state).tables
+    → answer_in state call ≡ Accepted json change → IsUnused state change → IsSized state
+    → IsSized (state_after change.entries state)
     → rows_after (row_changes change.entries (state_after change.entries state)) (kept_rows state)
     ≡ kept_rows (state_after change.entries state)
 accepted-changes call state json change valid answers unused sized also_sized =
     let leaves = accepted-leaves call state json change valid answers unused in
-    rows_after-row_changes change.entries state valid.tables.ascending leaves.alone
+    rows_after-row_changes change.entries state valid.tables.ascending valid.sources leaves.alone
     (kept_rows-in_order state valid sized)
     (kept_rows-in_order (state_after change.entries state) leaves.valid also_sized)
 
 pub accepted-effective : (call : Call) (state : State) (json : Json) (change : Change) → IsValid state
-    → answer_in state call ≡ Accepted json change → IsUnused state change → AreSized state.tables
-    → AreSized (state_after change.entries state).tables
+    → answer_in state call ≡ Accepted json change → IsUnused state change → IsSized state
+    → IsSized (state_after change.entries state)
     → rows_after (effective_changes (kept_rows state)
     (row_changes change.entries (state_after change.entries state))) (kept_rows state)
     ≡ kept_rows (state_after change.entries state)
 accepted-effective call state json change valid answers unused sized also_sized =
     let leaves = accepted-leaves call state json change valid answers unused in
-    rows_after-effective change.entries state valid.tables.ascending leaves.alone
+    rows_after-effective change.entries state valid.tables.ascending valid.sources leaves.alone
     (kept_rows-in_order state valid sized)
     (kept_rows-in_order (state_after change.entries state) leaves.valid also_sized)
 

@@ -34,7 +34,7 @@ use Rattle.datastore_answers.proofs.KeepLemmas.{at-is, found-in, number_itself}
 use Rattle.datastore_answers.proofs.TableLemmas.{there-at}
 use Rattle.portal_calls.specs.declared.call.Call.{Call}
 use Rattle.portal_core.specs.Answer.{call_view_of}
-use Rattle.portal_core.specs.Planned.{PlannedChange, People, Datasets, Tables, entries_of}
+use Rattle.portal_core.specs.Planned.{PlannedChange, People, Datasets, Tables, Sources, entries_of}
 use Rattle.portal_core.specs.Fit.{IsFit}
 use Rattle.portal_core.specs.State.{State}
 use Rattle.portal_core.specs.Valid.{IsValid}
@@ -50,6 +50,7 @@ use Rattle.portal_core.proofs.DatasetEntries.{state_after-tables, tables-dropped
 use Rattle.portal_core.proofs.DropLemmas.{filter-none}
 use Rattle.portal_core.proofs.Keeping.{fit_in_valid}
 use Rattle.portal_core.proofs.PeopleEntries.{roles-dropped, state_after-roles}
+use Rattle.portal_core.proofs.SourceEntries.{sources-alone}
 use Rattle.portal_core.proofs.StateLemmas.{with_tables}
 use Rattle.portal_core.proofs.TableEntries.{all_dropped-rows, state_after-drops, state_after-drops_of_table}
 use Rattle.portal_core.proofs.TableEntries.{without_each}
@@ -244,10 +245,11 @@ alone-in_state call state (Tables (table.Remove a)) valid fit =
 alone-in_state call state (Tables (table.Put a method records)) valid fit =
     puts-alone method records (found (at_address a) state.tables) state
 alone-in_state call state (Tables (table.DeleteRows a ids)) valid fit = all-quiet (DropRow a) (λ id s. tt) ids state
+alone-in_state call state (Sources change) valid fit = sources-alone change state
 
 pub all-alone : (call : Call) (state : State) (change : PlannedChange) → IsValid state
     → IsFit call (view_of call.caller state) change
     → AllDropAlone (entries_of change (view_of call.caller state)) state
 all-alone call state change valid fit =
-    subst (λ (entries : List Entry). AllDropAlone entries state) (sym (entries-same call state change fit))
+    subst (λ (entries : List Entry). AllDropAlone entries state) (sym (entries-same call state change valid.sources.ascending fit))
     (alone-in_state call state change valid (fit_in_valid change call state valid fit))

@@ -10,6 +10,10 @@ use Rattle.datastore_query.specs.Query.{QueryValue, query_reading}
 use Rattle.dataset_answers.proofs.Fitting as dataset
 use Rattle.datastore_answers.proofs.FitLemmas as table
 use Rattle.datastore_answers.proofs.FitLemmas.{delete_rows_fit, on-such}
+use Rattle.harvest_answers.proofs.Fitting as harvest
+use Rattle.harvest_answers.specs.Fit.{IsFitSource}
+use Rattle.harvest_sources.specs.Sources.{SourceState}
+use Rattle.harvest_sources.specs.declared.change.SourceChange.{SourceChange}
 use Rattle.organization_answers.proofs.Fitting as organization
 use Rattle.datastore_answers.specs.TableAnswers.{TableAcceptsOnly}
 use Rattle.datastore_answers.specs.Answers.{id_of}
@@ -23,6 +27,7 @@ use Rattle.org_roles.specs.declared.change.OrgChange.{OrgChange}
 use Rattle.dataset_answers.specs.Fit.{IsFitDataset}
 use Rattle.dataset_answers.specs.declared.change.DatasetChange.{DatasetChange}
 use Rattle.organization_answers.specs.Fit.{IsFitOrg}
+use Rattle.organization_answers.specs.Owners.{owners_of}
 use Rattle.portal_calls.specs.Answer.{AcceptsOnly, answer_if_found}
 use Rattle.portal_calls.specs.Topic.{topic_of}
 use Rattle.portal_calls.specs.declared.topic.QueryAction.{QueryAction}
@@ -33,7 +38,8 @@ use Rattle.portal_calls.specs.declared.answer.Answer.{Answer}
 use Rattle.portal_calls.specs.declared.answer.Answer.TheVariants.{Shown, Refused, Accepted}
 use Rattle.portal_calls.specs.declared.call.Call.{Call}
 use Rattle.visibility.specs.CallView.{CallView}
-use Rattle.portal_core.specs.Answer.{call_view_of, planned_answer, answer_on, of_people, of_datasets, of_tables}
+use Rattle.portal_core.specs.Answer.{call_view_of, planned_answer, answer_on, of_people, of_datasets, of_sources}
+use Rattle.portal_core.specs.Answer.{of_tables}
 use Rattle.portal_core.specs.Planned.{PlannedChange}
 use Rattle.portal_core.specs.Fit.{IsFit, IsFitAmong}
 use Rattle.portal_core.specs.Queries.{answer_to_datastore_delete, answer_to_datastore_search, answer_to_query}
@@ -45,25 +51,33 @@ use Rattle.portal_calls.specs.declared.answer.Denial.{Denial}
 use Rattle.portal_core.specs.State.{State}
 use Rattle.portal_core.specs.declared.search_body.Search.{Search}
 
-people-fit : (view : CallView) (tables : List ResourceTable) (answer : Answer OrgChange)
-    → AcceptsOnly (IsFitOrg view) answer → AcceptsOnly (IsFitAmong view tables) (of_people answer)
-people-fit view tables (Shown json) fit = tt
-people-fit view tables (Refused denial) fit = tt
-people-fit view tables (Accepted json change) fit = fit
+people-fit : (view : CallView) (tables : List ResourceTable) (sources : List SourceState) (answer : Answer OrgChange)
+    → AcceptsOnly (IsFitOrg view (owners_of sources)) answer
+    → AcceptsOnly (IsFitAmong view tables sources) (of_people answer)
+people-fit view tables sources (Shown json) fit = tt
+people-fit view tables sources (Refused denial) fit = tt
+people-fit view tables sources (Accepted json change) fit = fit
 
-datasets-fit : (view : CallView) (tables : List ResourceTable) (answer : Answer DatasetChange)
-    → AcceptsOnly (IsFitDataset view (summaries_of tables)) answer
-    → AcceptsOnly (IsFitAmong view tables) (of_datasets answer)
-datasets-fit view tables (Shown json) fit = tt
-datasets-fit view tables (Refused denial) fit = tt
-datasets-fit view tables (Accepted json change) fit = fit
+datasets-fit : (view : CallView) (tables : List ResourceTable) (sources : List SourceState)
+    (answer : Answer DatasetChange) → AcceptsOnly (IsFitDataset view (summaries_of tables)) answer
+    → AcceptsOnly (IsFitAmong view tables sources) (of_datasets answer)
+datasets-fit view tables sources (Shown json) fit = tt
+datasets-fit view tables sources (Refused denial) fit = tt
+datasets-fit view tables sources (Accepted json change) fit = fit
 
-tables-fit : (view : CallView) (tables : List ResourceTable) (answer : TableAnswer TableChange)
-    → TableAcceptsOnly (IsFitTable view tables) answer → AcceptsOnly (IsFitAmong view tables) (of_tables answer)
-tables-fit view tables NoTable fit = tt
-tables-fit view tables (Answered (Shown json)) fit = tt
-tables-fit view tables (Answered (Refused denial)) fit = tt
-tables-fit view tables (Answered (Accepted json change)) fit = fit
+tables-fit : (view : CallView) (tables : List ResourceTable) (sources : List SourceState)
+    (answer : TableAnswer TableChange) → TableAcceptsOnly (IsFitTable view tables) answer
+    → AcceptsOnly (IsFitAmong view tables sources) (of_tables answer)
+tables-fit view tables sources NoTable fit = tt
+tables-fit view tables sources (Answered (Shown json)) fit = tt
+tables-fit view tables sources (Answered (Refused denial)) fit = tt
+tables-fit view tables sources (Answered (Accepted json change)) fit = fit
+
+sources-fit : (view : CallView) (tables : List ResourceTable) (sources : List SourceState) (answer : Answer SourceChange)
+    → AcceptsOnly (IsFitSource view sources) answer → AcceptsOnly (IsFitAmong view tables sources) (of_sources answer)
+sources-fit view tables sources (Shown json) fit = tt
+sources-fit view tables sources (Refused denial) fit = tt
+sources-fit view tables sources (Accepted json change) fit = fit
 
 -- ---- queries
 
@@ -104,19 +118,24 @@ found_only P (Err denial) = tt
 
 -- ---- every action
 
-by_topic : (topic : Topic) (view : CallView) (tables : List ResourceTable)
-    → AcceptsOnly (IsFitAmong view tables) (answer_on topic view tables)
-by_topic (topic.Organizations action) view tables = people-fit view tables _ (organization.action_fit action view)
-by_topic (topic.Datasets action) view tables =
-    datasets-fit view tables _ (dataset.action_fit action view (summaries_of tables))
-by_topic topic.Search view tables =
-    found_only (IsFitAmong view tables)
+by_topic : (topic : Topic) (view : CallView) (tables : List ResourceTable) (sources : List SourceState)
+    → AcceptsOnly (IsFitAmong view tables sources) (answer_on topic view tables sources)
+by_topic (topic.Organizations action) view tables sources =
+    people-fit view tables sources _ (organization.action_fit action view (owners_of sources))
+by_topic (topic.Datasets action) view tables sources =
+    datasets-fit view tables sources _ (dataset.action_fit action view (summaries_of tables))
+by_topic topic.Search view tables sources =
+    found_only (IsFitAmong view tables sources)
     (search_outcome view.call.request.body view.people view.datasets (summaries_of tables))
-by_topic (topic.Tables action) view tables = tables-fit view tables _ (table.action_fit action view tables)
-by_topic (topic.Queries action) view tables = tables-fit view tables _ (query-fit action view tables)
+by_topic (topic.Tables action) view tables sources =
+    tables-fit view tables sources _ (table.action_fit action view tables)
+by_topic (topic.Queries action) view tables sources = tables-fit view tables sources _ (query-fit action view tables)
+by_topic (topic.Harvests action) view tables sources =
+    sources-fit view tables sources _ (harvest.action_fit action view sources)
 
 pub answer_fit : (call : Call) (view : State) → AcceptsOnly (IsFit call view) (planned_answer call view)
-answer_fit call view = by_topic (topic_of call.request.action) (call_view_of call view) view.tables
+answer_fit call view =
+    by_topic (topic_of call.request.action) (call_view_of call view) view.tables view.sources
 
 -- so is a change that is accepted
 pub accepted_fit : (call : Call) (view : State) (json : Json) (change : PlannedChange)

@@ -6,6 +6,7 @@ use Rattle.portal_base.specs.Ordered.{IsAscending, dropped, found, upserted}
 use Rattle.portal_base.proofs.Filtered.{IsAscending-filter}
 use Rattle.portal_base.proofs.Unique.{IsIn, IsIn-Contains}
 use Rattle.portal_base.proofs.Upserted.{All-IsIn, upserted-IsIn}
+use Rattle.harvest_sources.specs.Sources.{source_cmp}
 use Rattle.org_roles.specs.declared.change.OrgChange.TheVariants as org
 use Rattle.org_roles.specs.declared.entry.Membership.{Membership}
 use Rattle.packages.specs.Order.{dataset_cmp}
@@ -39,7 +40,7 @@ use Rattle.datastore_answers.proofs.TableLemmas.{there-at}
 use Rattle.datastore_answers.proofs.ViewLemmas.{beside-seen}
 use Rattle.portal_calls.specs.declared.call.Call.{Call}
 use Rattle.portal_core.specs.Answer.{call_view_of}
-use Rattle.portal_core.specs.Planned.{PlannedChange, People, Datasets, Tables, change_of, entries_of}
+use Rattle.portal_core.specs.Planned.{PlannedChange, People, Datasets, Tables, Sources, change_of, entries_of}
 use Rattle.portal_core.specs.Changed.{applied, changed, charged, with_planned}
 use Rattle.portal_core.specs.Fit.{IsFit}
 use Rattle.portal_core.specs.State.{State}
@@ -48,12 +49,14 @@ use Rattle.portal_core.specs.View.{view_of}
 use Rattle.portal_core.proofs.Kept.{filter-narrower}
 use Rattle.portal_core.proofs.Keeping.{fit_in_valid}
 use Rattle.portal_core.proofs.TableViewing.{any-among, both}
-use Rattle.portal_core.specs.Entries.{DropDataset, DropOrg, EditDataset, Entry, state_after}
+use Rattle.portal_core.specs.Entries.{DropDataset, DropOrg, EditDataset, Entry, OfSources, state_after}
 use Rattle.portal_core.specs.EntriesOf.{drop_of_role, drops_of, drops_of_table, entries_of_tables, is_gone, puts_of}
 use Rattle.portal_core.specs.EntriesOf.{tables_gone}
 use Rattle.portal_core.proofs.BatchEntries.{HasTable, batch-entries}
 use Rattle.portal_core.proofs.DatasetEntries.{TakesDatasets, dataset-entries}
 use Rattle.portal_core.proofs.PeopleEntries.{people-entries}
+use Rattle.portal_core.proofs.SourceEntries.{source-entries}
+use Rattle.portal_core.proofs.SourceViews.{entries-seen}
 use Rattle.portal_core.proofs.StateLemmas.{with_tables}
 use Rattle.portal_core.proofs.TableEntries.{IsNew, state_after-delete_rows, state_after-drops_of_table}
 use Rattle.portal_core.proofs.TableEntries.{state_after-new}
@@ -82,12 +85,14 @@ abbrev TakesChange : PlannedChange → State → Type 0
 TakesChange (People change) state = Unit {0}
 TakesChange (Datasets change) state = TakesDatasets change state.datasets
 TakesChange (Tables change) state = Takes change state.tables
+TakesChange (Sources change) state = Unit {0}
 
 change-entries : (change : PlannedChange) (state : State) → TakesChange change state
     → state_after (entries_of change state) state ≡ changed change state
 change-entries (People change) state takes = people-entries change state
 change-entries (Datasets change) state takes = dataset-entries change state takes
 change-entries (Tables change) state takes = table-entries change state takes
+change-entries (Sources change) state takes = source-entries change state
 
 -- ---- the caller's own tables
 
@@ -198,6 +203,7 @@ in-state (Tables (table.Put a method records)) call state valid fit =
     own-found (call_view_of call state) state.tables a fit.own in
     table-has state a fit.own.table valid there state.tables valid.tables.ascending there
 in-state (Tables (table.DeleteRows a ids)) call state valid fit = tt
+in-state (Sources change) call state valid fit = tt
 
 in-view : (change : PlannedChange) (call : Call) (state : State) → IsValid state
     → IsFit call (view_of call.caller state) change → TakesChange change (view_of call.caller state)
@@ -220,6 +226,7 @@ in-view (Tables (table.Put a method records)) call state valid fit =
     state.tables valid.tables.ascending)
     (own-found (call_view_of call (view_of call.caller state)) (view_of call.caller state).tables a fit.own)
 in-view (Tables (table.DeleteRows a ids)) call state valid fit = tt
+in-view (Sources change) call state valid fit = tt
 
 pub entries-in_view : (call : Call) (state : State) (change : PlannedChange) → IsValid state
     → IsFit call (view_of call.caller state) change
@@ -243,27 +250,32 @@ gone-seen call state d id resources among same =
     seen : List Package
     seen = datasets_seen call.caller state.people state.datasets
 
-pub entries-same : (call : Call) (state : State) (change : PlannedChange) → IsFit call (view_of call.caller state) change
+pub entries-same : (call : Call) (state : State) (change : PlannedChange)
+    → IsAscending source_cmp state.sources → IsFit call (view_of call.caller state) change
     → entries_of change (view_of call.caller state) ≡ entries_of change state
-entries-same call state (People (org.Create o)) fit = refl
-entries-same call state (People (org.Patch o)) fit = refl
-entries-same call state (People (org.Remove name)) fit =
+entries-same call state (People (org.Create o)) up fit = refl
+entries-same call state (People (org.Patch o)) up fit = refl
+entries-same call state (People (org.Remove name)) up fit =
     ap (λ (roles : List Membership). map drop_of_role roles ++ DropOrg name ∷ [])
     (members_seen call.caller state.people name fit.own.administered)
-entries-same call state (People (org.SetRole name user role)) fit = refl
-entries-same call state (People (org.DropRole name user)) fit = refl
-entries-same call state (Datasets (dataset.Create d)) fit = refl
-entries-same call state (Datasets (dataset.Replace d)) fit =
+entries-same call state (People (org.SetRole name user role)) up fit = refl
+entries-same call state (People (org.DropRole name user)) up fit = refl
+entries-same call state (Datasets (dataset.Create d)) up fit = refl
+entries-same call state (Datasets (dataset.Replace d)) up fit =
     ap (λ (gone : List ResourceTable). flat_map drops_of_table gone ++ EditDataset d.id (edit_of d) ∷ [])
     (gone-seen call state fit.old d.id d.resources fit.is_present fit.id)
-entries-same call state (Datasets (dataset.Remove id)) fit =
+entries-same call state (Datasets (dataset.Remove id)) up fit =
     ap (λ (gone : List ResourceTable). flat_map drops_of_table gone ++ DropDataset id ∷ [])
     (gone-seen call state fit.old id [] fit.is_present fit.id)
-entries-same call state (Tables (table.Create t)) fit = refl
-entries-same call state (Tables (table.Remove a)) fit = ap drops_of (own-same call state a fit.own)
-entries-same call state (Tables (table.Put a method records)) fit =
+entries-same call state (Tables (table.Create t)) up fit = refl
+entries-same call state (Tables (table.Remove a)) up fit = ap drops_of (own-same call state a fit.own)
+entries-same call state (Tables (table.Put a method records)) up fit =
     ap (puts_of method records) (own-same call state a fit.own)
-entries-same call state (Tables (table.DeleteRows a ids)) fit = refl
+entries-same call state (Tables (table.DeleteRows a ids)) up fit = refl
+entries-same call state (Sources change) up fit =
+    ap (map OfSources)
+    (entries-seen (call_view_of call (view_of call.caller state)) call.caller state.people state.sources change
+    up fit)
 
 -- What is fit to be made in the state is made by its entries there.
 pub entries-made : (call : Call) (state : State) (change : PlannedChange) → IsValid state → IsFit call state change
@@ -274,7 +286,7 @@ pub entries-in_state : (call : Call) (state : State) (change : PlannedChange) �
     → IsFit call (view_of call.caller state) change
     → state_after (entries_of change (view_of call.caller state)) state ≡ changed change state
 entries-in_state call state change valid fit =
-    ap (λ (entries : List Entry). state_after entries state) (entries-same call state change fit)
+    ap (λ (entries : List Entry). state_after entries state) (entries-same call state change valid.sources.ascending fit)
     ∙ entries-made call state change valid (fit_in_valid change call state valid fit)
 
 -- So a fit change that is applied is the planned one, with its charge.

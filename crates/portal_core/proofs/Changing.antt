@@ -1,6 +1,6 @@
 -- What a caller sees of a state with a change is what it sees with the change made in what it sees.
-use Rattle.std.proofs.Common.{◌≡◌, ℕ, Bool, true, false, not, ◌&&◌, ◌||◌, List, [], map, subst}
-use Rattle.std.proofs.Common.{refl, sym, ap, ◌∙◌, ◌⊎◌, inl, inr}
+use Rattle.std.proofs.Common.{◌≡◌, ℕ, Bool, true, false, not, ◌&&◌, ◌||◌, cond, List, [], map, Option, Some, None}
+use Rattle.std.proofs.Common.{is_some, refl, sym, ap, ◌∙◌, ◌⊎◌, inl, inr, subst}
 use Rattle.std.specs.Prelude.{filter, find}
 use Rattle.std.specs.List.{list_any}
 use Rattle.std.specs.Option.{option_map}
@@ -32,7 +32,7 @@ use Rattle.packages.specs.Order.{dataset_cmp, dataset_cmp_total}
 use Rattle.packages.specs.declared.package.Package.{Package}
 use Rattle.visibility.specs.View.{is_called, user_seen, administers, is_role_seen, people_seen, datasets_seen}
 use Rattle.visibility.specs.Visibility.{caller_role, sees_in, is_public_if_harvested}
-use Rattle.visibility.proofs.ViewLemmas.{filter_twice, find-kept, called_by_name}
+use Rattle.visibility.proofs.ViewLemmas.{administers_seen, filter_twice, find-kept, called_by_name}
 use Rattle.visibility.proofs.ViewLemmas.{datasets_seen_twice, is_sysadmin_in_seen, sees_in_seen, people_seen_twice}
 use Rattle.visibility.proofs.VisibilityLemmas.{sees_in-own}
 use Rattle.visibility.proofs.PublicLemmas.{admin_sees}
@@ -43,13 +43,24 @@ use Rattle.datastore_answers.specs.Changed.{changed_tables}
 use Rattle.datastore_answers.specs.Order.{table_cmp}
 use Rattle.datastore_answers.specs.Tables.{is_table_among, tables_seen}
 use Rattle.datastore_answers.specs.declared.resource_table.ResourceTable.{ResourceTable}
+use Rattle.harvest_answers.proofs.ViewLemmas.{sources_seen_twice}
+use Rattle.harvest_answers.specs.View.{sees_source, sources_seen, without_listing}
+use Rattle.harvest_sources.specs.Entries.{changed_sources}
+use Rattle.harvest_sources.specs.Sources.{SourceState, source_cmp, source_named}
+use Rattle.harvest_sources.specs.declared.change.SourceChange.{SourceChange}
+use Rattle.harvest_sources.specs.declared.change.SourceChange.TheVariants as source
+use Rattle.portal_calls.specs.declared.call.Call.{Call}
 use Rattle.visibility.specs.TableSummary.{is_among}
 use Rattle.portal_core.proofs.Kept.{dropped-kept, filter-narrower, placed-kept}
+use Rattle.portal_core.proofs.SourceViews.{IsOwnSources, changed_sources-seen, seen-narrower, unfaulted-there}
 use Rattle.portal_core.proofs.TableViewing.{among-narrower, any-among, any-is, own-id, tables-kept}
-use Rattle.portal_core.specs.Changed.{changed, tables_left}
-use Rattle.portal_core.specs.Planned.{PlannedChange, People, Datasets, Tables}
+use Rattle.portal_core.specs.Changed.{AreUnused, changed, tables_left}
+use Rattle.portal_core.specs.Fit.{IsFit}
+use Rattle.portal_core.specs.Planned.{PlannedChange, People, Datasets, Tables, Sources, claims_of}
 use Rattle.portal_core.specs.State.{State}
 use Rattle.portal_core.specs.View.{view_of, is_own_quota}
+use Rattle.portal_core.specs.declared.change.Claim.{Claim}
+use Rattle.portal_core.specs.declared.change.Claim.TheVariants.{SourceName}
 use Rattle.portal_core.specs.declared.quota.QuotaUsed.{QuotaUsed}
 
 -- ---- datasets
@@ -305,6 +316,20 @@ role-narrower change caller people up own m now = by (elsewhere change caller pe
         (rw (sysadmin-left change caller people, same) refl)) ∙ now
     by (inr admin) = or_left (administers people caller m.org) (is_called caller m.user) admin
 
+-- no organization comes to be administered
+administers-narrower : (change : OrgChange) (caller : Caller) (people : PeopleLists)
+    → IsAscending membership_cmp people.roles → IsOwnChange caller people change → (org : List ℕ)
+    → administers (changed_people change people) caller org ≡ true → administers people caller org ≡ true
+administers-narrower change caller people up own org now = by (elsewhere change caller people up own org)
+  where
+    by : (caller_role (changed_people change people) caller org ≡ caller_role people caller org)
+        ⊎ (administers people caller org ≡ true) → administers people caller org ≡ true
+    by (inl same) =
+        let left : administers (changed_people change people) caller org ≡ administers people caller org =
+        rw (sysadmin-left change caller people, same) refl in
+        sym left ∙ now
+    by (inr admin) = admin
+
 -- and no dataset
 sight-narrower : (change : OrgChange) (caller : Caller) (people : PeopleLists) → IsAscending membership_cmp people.roles
     → IsOwnChange caller people change → (d : Package) → is_public_if_harvested d ≡ true
@@ -326,6 +351,10 @@ is_role_seen-rights caller p q same m = rw (same.0, same.1 m.org) refl
 pub sees_in-rights : (caller : Caller) (p q : PeopleLists) → HasSameRights caller p q → (d : Package)
     → sees_in p caller d ≡ sees_in q caller d
 sees_in-rights caller p q same d = sees_in-own p q caller d same.0 (same.1 d.owner_org)
+
+pub administers-rights : (caller : Caller) (p q : PeopleLists) → HasSameRights caller p q → (org : List ℕ)
+    → administers p caller org ≡ administers q caller org
+administers-rights caller p q same org = rw (same.0, same.1 org) refl
 
 abbrev peopled : List User → List Org → List Membership → PeopleLists
 peopled users orgs roles = record { users = users; orgs = orgs; roles = roles }
@@ -366,6 +395,20 @@ datasets-changed_seen change caller people datasets up own harvested =
     ∙ filter-narrower (sees_in (changed_people change people) caller) (sees_in people caller) datasets
     (λ d within now. sight-narrower change caller people up own d (harvested d within) now)
 
+-- what the caller sees of the sources after a change of people
+sources-changed_people : (change : OrgChange) (caller : Caller) (people : PeopleLists) (sources : List SourceState)
+    → IsAscending membership_cmp people.roles → IsOwnChange caller people change
+    → sources_seen caller (changed_people change (people_seen caller people)) (sources_seen caller people sources)
+    ≡ sources_seen caller (changed_people change people) sources
+sources-changed_people change caller people sources up own =
+    ap (map without_listing)
+    (filter_agree (sees_source (changed_people change (people_seen caller people)) caller)
+    (sees_source (changed_people change people) caller)
+    (λ s. administers-rights caller (changed_people change (people_seen caller people)) (changed_people change people)
+    (changed-rights change caller people up) s.source.owner_org) (sources_seen caller people sources))
+    ∙ seen-narrower (sees_source (changed_people change people) caller) (sees_source people caller) (λ s. refl)
+    (λ s now. administers-narrower change caller people up own s.source.owner_org now) sources
+
 -- no table is of a dataset of that id
 abbrev pub HasNoTables : List ℕ → List ResourceTable → Type 0
 HasNoTables id tables = (t : ResourceTable) → IsIn t tables → bytes_eq t.address.dataset id ≡ false
@@ -385,14 +428,21 @@ abbrev pub IsOwn : Caller → State → PlannedChange → Type 0
 IsOwn caller state (People change) = IsOwnChange caller state.people change
 IsOwn caller state (Datasets change) = IsOwnDatasets caller state change
 IsOwn caller state (Tables change) = Unit {0}
+IsOwn caller state (Sources change) = IsOwnSources caller state.people state.sources change
 
-abbrev pub stated : PeopleLists → List Package → List ResourceTable → List QuotaUsed → State
-stated people datasets tables quota_used =
-    record { people = people; datasets = datasets; tables = tables; quota_used = quota_used }
+abbrev pub stated : PeopleLists → List Package → List ResourceTable → List SourceState → List QuotaUsed → State
+stated people datasets tables sources quota_used = record {
+  people = people;
+  datasets = datasets;
+  tables = tables;
+  sources = sources;
+  quota_used = quota_used;
+}
 
-pub same_state : {p q : PeopleLists} {ds es : List Package} {us vs : List ResourceTable} {ss ts : List QuotaUsed} → p ≡ q
-    → ds ≡ es → us ≡ vs → ss ≡ ts → stated p ds us ss ≡ stated q es vs ts
-same_state people datasets tables quota_used = rw (people, datasets, tables, quota_used) refl
+pub same_state : {p q : PeopleLists} {ds es : List Package} {us vs : List ResourceTable} {hs is : List SourceState}
+    {ss ts : List QuotaUsed} → p ≡ q → ds ≡ es → us ≡ vs → hs ≡ is → ss ≡ ts
+    → stated p ds us hs ss ≡ stated q es vs is ts
+same_state people datasets tables sources quota_used = rw (people, datasets, tables, sources, quota_used) refl
 
 -- ---- tables
 
@@ -480,15 +530,16 @@ left-kept (dataset.Remove id) caller state own =
 
 pub changed-seen : (change : PlannedChange) (caller : Caller) (state : State)
     → IsAscending membership_cmp state.people.roles → IsAscending dataset_cmp state.datasets
-    → IsAscending table_cmp state.tables
+    → IsAscending table_cmp state.tables → IsAscending source_cmp state.sources
     → ((d : Package) → IsIn d state.datasets → is_public_if_harvested d ≡ true) → IsOwn caller state change
     → view_of caller (changed change (view_of caller state)) ≡ view_of caller (changed change state)
-changed-seen (People change) caller state roles_up up tables_up harvested own =
+changed-seen (People change) caller state roles_up up tables_up sources_up harvested own =
     same_state (people-changed_seen change caller state.people roles_up own)
     (datasets-changed_seen change caller state.people state.datasets roles_up own harvested)
     (people-tables change caller state roles_up own harvested)
+    (sources-changed_people change caller state.people state.sources roles_up own)
     (filter_twice (is_own_quota caller) state.quota_used)
-changed-seen (Datasets change) caller state roles_up up tables_up harvested own =
+changed-seen (Datasets change) caller state roles_up up tables_up sources_up harvested own =
     let datasets = filter_agree (sees_in (people_seen caller state.people) caller) (sees_in state.people caller)
     (sees_in_seen caller state.people) (changed_datasets change (datasets_seen caller state.people state.datasets))
     ∙ datasets-kept change (sees_in state.people caller) (sees_in state.people caller) state.datasets up
@@ -497,11 +548,43 @@ changed-seen (Datasets change) caller state roles_up up tables_up harvested own 
     same_state (people_seen_twice caller state.people) datasets
     (ap (λ (ds : List Package). tables_seen ds (tables_left change (tables_seen before state.tables))) datasets
     ∙ left-kept change caller state own)
+    (sources_seen_twice caller state.people state.sources)
     (filter_twice (is_own_quota caller) state.quota_used)
-changed-seen (Tables change) caller state roles_up up tables_up harvested own =
+changed-seen (Tables change) caller state roles_up up tables_up sources_up harvested own =
     let before : List Package = datasets_seen caller state.people state.datasets in
     same_state (people_seen_twice caller state.people) (datasets_seen_twice caller state.people state.datasets)
     (ap (λ (ds : List Package). tables_seen ds (changed_tables change (tables_seen before state.tables)))
     (datasets_seen_twice caller state.people state.datasets)
     ∙ tables-kept change before state.tables tables_up)
+    (sources_seen_twice caller state.people state.sources)
     (filter_twice (is_own_quota caller) state.quota_used)
+changed-seen (Sources change) caller state roles_up up tables_up sources_up harvested own =
+    same_state (people_seen_twice caller state.people) (datasets_seen_twice caller state.people state.datasets)
+    (ap (λ (ds : List Package). tables_seen ds (tables_seen (datasets_seen caller state.people state.datasets) state.tables))
+    (datasets_seen_twice caller state.people state.datasets)
+    ∙ filter_twice (is_table_among (datasets_seen caller state.people state.datasets)) state.tables)
+    (ap (sources_seen caller (people_seen caller state.people))
+    (sym (changed_sources-seen caller state.people state.sources change sources_up own))
+    ∙ sources_seen_twice caller state.people (changed_sources change state.sources))
+    (filter_twice (is_own_quota caller) state.quota_used)
+
+-- ---- what is fit
+
+-- A change of sources that is fit, and claims nothing in use, is the caller's own.
+pub own-sources : (change : SourceChange) (call : Call) (state : State) → IsAscending source_cmp state.sources
+    → IsFit call (view_of call.caller state) (Sources change) → AreUnused state (claims_of (Sources change))
+    → IsOwnSources call.caller state.people state.sources change
+own-sources (source.Create new) call state up fit unused = (
+  sym (administers_seen call.caller state.people new.owner_org) ∙ fit.administered,
+  by (source_named state.sources new.name) unused,
+)
+  where
+    by : (o : Option SourceState) → cond {A = Option Claim} (is_some o) (Some (SourceName new.name)) None ≡ None → o ≡ None
+    by None none = refl
+    by (Some s) none = absurd (cc)
+own-sources (source.Update name title url) call state up fit unused =
+    unfaulted-there call.caller state.people state.sources name up fit.possible
+own-sources (source.Remove name) call state up fit unused =
+    unfaulted-there call.caller state.people state.sources name up fit.possible
+own-sources (source.AddJob name created) call state up fit unused =
+    unfaulted-there call.caller state.people state.sources name up fit.possible

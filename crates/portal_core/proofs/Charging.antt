@@ -23,7 +23,7 @@ use Rattle.portal_core.proofs.Settling.{refused-same}
 use Rattle.portal_core.specs.Change.{Change}
 use Rattle.portal_core.specs.Changed.{applied, charged, is_in_use}
 use Rattle.portal_core.specs.Entries.{Entry, PutOrg, DropOrg, PutRole, DropRole, PutDataset, EditDataset}
-use Rattle.portal_core.specs.Entries.{DropDataset, PutTable, DropTable, PutRow, DropRow, changed_by, state_after}
+use Rattle.portal_core.specs.Entries.{DropDataset, PutTable, DropTable, PutRow, DropRow, OfSources, changed_by, state_after}
 use Rattle.portal_core.specs.Known.{is_known, known_call}
 use Rattle.portal_core.specs.State.{State, accepted_bytes_of_user, quota_used_cmp, quota_used_cmp_total}
 use Rattle.portal_core.specs.Step.{answer_in, call_step, outcome_of, outcome_unless_in_use}
@@ -81,6 +81,7 @@ changed_by-quota (PutTable head) state = refl
 changed_by-quota (DropTable address) state = refl
 changed_by-quota (PutRow address row) state = refl
 changed_by-quota (DropRow address id) state = refl
+changed_by-quota (OfSources entry) state = refl
 
 pub state_after-quota : (entries : List Entry) (state : State)
     → (state_after entries state).quota_used ≡ state.quota_used

@@ -50,7 +50,7 @@ use Rattle.portal_core.specs.ChangedRows.{IsKey-row_at_id, cells_body, changes_o
 use Rattle.portal_core.specs.ChangedRows.{removals_of_gone, removals_of_table, removals_unless}
 use Rattle.portal_core.specs.Entries.{DropDataset, DropRow, DropTable, EditDataset, PutDataset, row_at_id, rows_of}
 use Rattle.portal_core.specs.EntriesOf.{drops_of_table, ids_of, is_gone, tables_gone}
-use Rattle.portal_core.specs.KeptRows.{AreSized, kept_rows, resource_id}
+use Rattle.portal_core.specs.KeptRows.{IsSized, kept_rows, resource_id}
 use Rattle.portal_core.specs.Parts.{IsOnShelf}
 use Rattle.portal_core.specs.Planned.{Datasets, claims_of}
 use Rattle.portal_core.specs.RowChanges.{planned_row_changes}
@@ -99,7 +99,7 @@ body_on_shelf shelf id n up on leads = by (package_at n shelf) refl present
 -- ---- a table that goes
 
 -- Where there is no table at the address of one afterwards, its rows' rows go, and then its own.
-pub table-removed : (state new : State) → IsValid state → AreSized state.tables → IsValid new → AreSized new.tables
+pub table-removed : (state new : State) → IsValid state → IsSized state → IsValid new → IsSized new
     → (t : ResourceTable) → IsIn t state.tables → found (at_address t.address) new.tables ≡ None
     → changes_for (kept_rows state) (kept_rows new) (drops_of_table t) ≡ removals_of_table t
 table-removed state new valid sized also also_sized t m none =
@@ -202,7 +202,7 @@ gone-removals id resources (t ∷ tables) =
     by false b is rest = rest
 
 pub gone-changes : (id : List ℕ) (resources : List Resource) (state new : State) → IsValid state
-    → AreSized state.tables → IsValid new → AreSized new.tables
+    → IsSized state → IsValid new → IsSized new
     → new.tables
     ≡ filter (λ (u : ResourceTable). not (bytes_eq u.address.dataset id) || is_among resources u.address.number)
     state.tables
@@ -235,10 +235,10 @@ body-upserted d datasets =
     ap (option_map row_text)
     (found-upserted dataset_cmp (dataset_at_id d.id) (IsKey-id d.id) d datasets (tied_itself dataset_cmp_total d))
 
-pub dataset-changes : (change : DatasetChange) (call : Call) (state : State) → IsValid state → AreSized state.tables
+pub dataset-changes : (change : DatasetChange) (call : Call) (state : State) → IsValid state → IsSized state
     → IsFitDataset (call_view_of call state) (summaries_of state.tables) change
     → AreUnused state (claims_of (Datasets change)) → IsValid (changed (Datasets change) state)
-    → AreSized (changed (Datasets change) state).tables
+    → IsSized (changed (Datasets change) state)
     → planned_row_changes (Datasets change) state ≡ changes_of_datasets change state.datasets state.tables
 dataset-changes (dataset.Create d) call state valid sized fit unused also also_sized =
     changes_for-one (kept_rows state) (kept_rows new) (PutDataset d) None (Some (row_text d))

@@ -8,6 +8,7 @@ use Rattle.std.proofs.lemmas.Slice.Eq.{bytes_eq-Decides}
 use Rattle.portal_base.specs.Ordered.{IsAscending}
 use Rattle.portal_base.proofs.Removed.{is_eq_true}
 use Rattle.datastore_answers.specs.Order.{table_cmp}
+use Rattle.harvest_sources.specs.Sources.{AreSources}
 use Rattle.portal_core.specs.State.{State}
 use Rattle.portal_keeper.specs.Changed.{rows_after, said_by, said_last}
 use Rattle.portal_keeper.specs.Rows.{AreInOrder, body_at, key_cmp}
@@ -144,11 +145,12 @@ said-effective before after (entry ∷ entries) kind key =
     by false is false key_is (inr rest) = inr (left false is ∙ rest.0, unless-other rest.1 key_is)
 
 pub rows_after-effective : (entries : List Entry) (state : State) → IsAscending table_cmp state.tables
-    → AllDropAlone entries state → AreInOrder (kept_rows state) → AreInOrder (kept_rows (state_after entries state))
+    → AreSources state.sources → AllDropAlone entries state → AreInOrder (kept_rows state)
+    → AreInOrder (kept_rows (state_after entries state))
     → rows_after (effective_changes (kept_rows state) (row_changes entries (state_after entries state)))
     (kept_rows state)
     ≡ kept_rows (state_after entries state)
-rows_after-effective entries state up first before after =
+rows_after-effective entries state up are first before after =
     same_rows (rows_after changes (kept_rows state)) (kept_rows new)
     (in_order-rows_after changes (kept_rows state) before) after
     (λ kind key. body_at-rows_after changes (kept_rows state) kind key
@@ -169,4 +171,4 @@ rows_after-effective entries state up first before after =
     by kind key (inl said) = ap (or_before kind key) said
     by kind key (inr (none, inl same)) = ap (or_before kind key) none ∙ same
     by kind key (inr (none, inr others)) =
-        ap (or_before kind key) none ∙ body-stays entries state kind key up first after others
+        ap (or_before kind key) none ∙ body-stays entries state kind key up are first after others

@@ -1,6 +1,7 @@
 -- Worked examples: what goes with an organization and with a dataset, heads of tables, and batches. ann and bob have
 -- roles in `city`, and dan has one in `lake`. Resource 1 of the dataset `1` has a table with two rows.
-use Rattle.std.proofs.Common.{◌≡◌, ℕ, List, [], ◌∷◌, Ok, refl}
+-- The source `aa` of `city` has one job.
+use Rattle.std.proofs.Common.{◌≡◌, ℕ, List, [], ◌∷◌, None, Ok, refl}
 use Rattle.std.specs.Prelude.{codes, pos}
 use Rattle.table_schema.specs.Field.{SchemaValue}
 use Rattle.table_schema.specs.declared.cell.Cell.TheVariants as cell
@@ -18,11 +19,16 @@ use Rattle.dataset_answers.specs.Edits.{edit_of}
 use Rattle.dataset_answers.specs.declared.change.DatasetChange.TheVariants as dataset
 use Rattle.datastore_answers.specs.declared.address.Address.{Address}
 use Rattle.datastore_answers.specs.declared.resource_table.ResourceTable.{ResourceTable}
-use Rattle.portal_core.specs.Planned.{People, Datasets, entries_of}
+use Rattle.harvest_sources.specs.Entries.{DropJob, DropSource}
+use Rattle.harvest_sources.specs.Jobs.{new_job}
+use Rattle.harvest_sources.specs.Sources.{SourceState}
+use Rattle.harvest_sources.specs.declared.change.SourceChange.TheVariants as source
+use Rattle.harvest_sources.specs.declared.job.Job.{Job}
+use Rattle.portal_core.specs.Planned.{People, Datasets, Sources, entries_of}
 use Rattle.portal_core.specs.Changed.{changed}
 use Rattle.portal_core.specs.State.{State}
-use Rattle.portal_core.specs.Entries.{DropDataset, DropOrg, DropRole, DropRow, DropTable, EditDataset, PutRow}
-use Rattle.portal_core.specs.Entries.{PutTable, rows_at, state_after}
+use Rattle.portal_core.specs.Entries.{DropDataset, DropOrg, DropRole, DropRow, DropTable, EditDataset, OfSources}
+use Rattle.portal_core.specs.Entries.{PutRow, PutTable, rows_at, state_after}
 use Rattle.portal_core.specs.EntriesOf.{entries_of_batch, head_with}
 
 -- ---- a state
@@ -61,6 +67,22 @@ heights_with rows next_id = record {
 abbrev heights : ResourceTable
 heights = heights_with (row 1 (codes "oak") ∷ row 2 (codes "elm") ∷ []) 3
 
+abbrev first_job : Job
+first_job = new_job (codes "aa") 1 (pos 0)
+
+abbrev harvested : SourceState
+harvested = record {
+  source = record {
+    name = codes "aa";
+    title = codes "aa";
+    url = codes "http://a/";
+    owner_org = codes "city";
+    next_job = 2;
+  };
+  jobs = first_job ∷ [];
+  listing = None;
+}
+
 abbrev portal : State
 portal = record {
   people = record {
@@ -71,6 +93,7 @@ portal = record {
   };
   datasets = trees ∷ [];
   tables = heights ∷ [];
+  sources = harvested ∷ [];
   quota_used = [];
 }
 
@@ -134,3 +157,21 @@ batch_put = refl
 no_table : rows_at here (state_after (PutRow here (row 1 (codes "oak")) ∷ []) (record portal { tables = [] })).tables
     ≡ []
 no_table = refl
+
+-- ---- sources
+
+-- With a source go its jobs, each by an entry of its own.
+job_goes : entries_of (Sources (source.Remove (codes "aa"))) portal
+    ≡ OfSources (DropJob (codes "aa") 1) ∷ OfSources (DropSource (codes "aa")) ∷ []
+job_goes = refl
+
+source_went : (state_after (entries_of (Sources (source.Remove (codes "aa"))) portal) portal).sources ≡ []
+source_went = refl
+
+-- A further job has the number that its source gives it, and the source gives the next one the next number.
+job_came : (state_after (entries_of (Sources (source.AddJob (codes "aa") (pos 60))) portal) portal).sources
+    ≡ record harvested {
+      source = record harvested.source { next_job = 3 };
+      jobs = first_job ∷ new_job (codes "aa") 2 (pos 60) ∷ [];
+    } ∷ []
+job_came = refl

@@ -33,6 +33,15 @@ use Rattle.datastore_answers.specs.declared.resource_table.ResourceTable.{Resour
 use Rattle.datastore_answers.proofs.KeepLemmas.{at-is, found-in}
 use Rattle.dataset_answers.specs.Changed.{dataset_at_id}
 use Rattle.dataset_answers.specs.Edits.{DatasetEdit, edited}
+use Rattle.harvest_rows.specs.Rows.{job_row, job_rows, source_row, source_rows}
+use Rattle.harvest_sources.specs.Entries.{SourceEntry, PutSource, DropSource, PutJob, DropJob, PutListing, with_job}
+use Rattle.harvest_sources.specs.Entries.{changed_by as sources_changed_by}
+use Rattle.harvest_sources.specs.Entries.{with_jobs_of, with_listing, with_source_at, without_job}
+use Rattle.harvest_sources.specs.Jobs.{id_of_job, job_at, job_cmp, job_id}
+use Rattle.harvest_sources.specs.Sources.{IsKey-source_at, SourceState, source_at, source_cmp, source_cmp_total}
+use Rattle.harvest_sources.specs.declared.job.Job.{Job}
+use Rattle.harvest_sources.specs.declared.listing.Listing.{Listing}
+use Rattle.harvest_sources.specs.declared.source.HarvestSource.{HarvestSource}
 use Rattle.portal_core.specs.State.{State}
 use Rattle.portal_keeper.specs.Rows.{key_cmp, row_at, row_cmp_total}
 use Rattle.portal_keeper.specs.declared.row.KeptRow.{KeptRow}
@@ -41,14 +50,18 @@ use Rattle.portal_keeper.specs.declared.row.RowKind.TheVariants as kind
 use Rattle.portal_rows.specs.OrgRows.{memberships_in, org_row, org_rows}
 use Rattle.portal_rows.specs.TableRows.{cells_row, head_of, row_key, table_row}
 use Rattle.portal_rows.specs.VersionRow.{version_row}
-use Rattle.portal_core.specs.Alone.{DropsAlone}
+use Rattle.portal_core.specs.Alone.{DropsAlone, DropsSourceAlone, jobs_if}
 use Rattle.portal_core.specs.Entries.{Entry, PutOrg, DropOrg, PutRole, DropRole, PutDataset, EditDataset}
-use Rattle.portal_core.specs.Entries.{DropDataset, PutTable, DropTable, PutRow, DropRow, TableHead, changed_by, row_at_id, rows_at, rows_of}
-use Rattle.portal_core.specs.Entries.{table_of, with_edit, with_head, with_row, without_row}
+use Rattle.portal_core.specs.Entries.{DropDataset, PutTable, DropTable, PutRow, DropRow, OfSources, TableHead, changed_by}
+use Rattle.portal_core.specs.Entries.{row_at_id, rows_at, rows_of, table_of, with_edit, with_head, with_row, without_row}
 use Rattle.portal_core.specs.KeptRows.{dataset_row, listed_rows, resource_id, row_targets, table_rows}
-use Rattle.portal_core.specs.RowChanges.{entry_key}
-use Rattle.portal_core.proofs.RowMembers.{IsInBoth, IsIn-flat_map, flat_map-IsIn, in_both-append, in_both-cons}
-use Rattle.portal_core.proofs.RowMembers.{in_both-dropped, in_both-each, in_both-itself, in_both-made, in_both-upserted}
+use Rattle.portal_core.specs.RowChanges.{entry_key, source_entry_key}
+use Rattle.portal_core.proofs.KeyLemmas.{job_cmp_total}
+use Rattle.portal_core.proofs.KeyedSources.{AreKeyed, name-of_put, named-found}
+use Rattle.portal_core.proofs.RowMembers.{IsInBoth, IsIn-flat_map, flat_map-IsIn, found-member, in_both-append}
+use Rattle.portal_core.proofs.RowMembers.{in_both-cons, in_both-dropped, in_both-dropped_in, in_both-each}
+use Rattle.portal_core.proofs.RowMembers.{in_both-each_in, in_both-itself, in_both-made, in_both-upserted}
+use Rattle.portal_core.proofs.RowMembers.{in_both-upserted_in}
 
 -- ---- rows at other keys
 
@@ -285,84 +298,302 @@ table-dropped address tables r up empty other = (into, from)
         let w = flat_map-IsIn table_rows r (dropped (at_address address) tables) m in
         IsIn-flat_map table_rows r w.0 tables (IsIn-dropped (at_address address) w.0 tables w.1).0 w.2
 
+-- ---- sources and jobs
+
+-- the only source of a name
+pub source-there : (name : List ℕ) (sources : List SourceState) (s : SourceState) → IsAscending source_cmp sources
+    → IsIn s sources → is_eq (source_at name s) ≡ true → found (source_at name) sources ≡ Some s
+source-there name sources s up m is = found-member source_cmp (source_at name) (IsKey-source_at name) s sources up m is
+
+-- A source that is put keeps the rows of its jobs.
+source-put : (source : HarvestSource) (sources : List SourceState) (r : KeptRow) → IsAscending source_cmp sources
+    → IsOther (kind.Source, source.name) r
+    → IsInBoth r (source_rows sources) (source_rows (sources_changed_by (PutSource source) sources))
+    × IsInBoth r (job_rows sources) (job_rows (sources_changed_by (PutSource source) sources))
+source-put source sources r up other = (
+  in_both-upserted (λ (s : SourceState). source_row s.source) source_cmp source_cmp_total new sources r
+      (λ s made. like s ∙ other_of (kind.Source, source.name) r (source_row s.source) other made),
+  (into, from),
+)
+  where
+    new : SourceState
+    new = with_jobs_of source (found (source_at source.name) sources)
+
+    rows_of_jobs : SourceState → List KeptRow
+    rows_of_jobs s = map job_row s.jobs
+
+    like : (s : SourceState) → is_eq (source_cmp s new) ≡ is_eq (source_at source.name s)
+    like s =
+        ap (λ (h : HarvestSource). is_eq (source_at h.name s)) (name-of_put source (found (source_at source.name) sources))
+
+    kept : (s : SourceState) → IsIn s sources → IsIn r (rows_of_jobs s) → (b : Bool)
+        → is_eq (source_at source.name s) ≡ b → IsIn r (job_rows (upserted source_cmp new sources))
+    kept s m n true is =
+        IsIn-flat_map rows_of_jobs r new (upserted source_cmp new sources) (upserted-IsIn source_cmp new sources)
+        (subst (λ (o : Option SourceState). IsIn r (rows_of_jobs (with_jobs_of source o)))
+        (sym (source-there source.name sources s up m is)) n)
+    kept s m n false is =
+        IsIn-flat_map rows_of_jobs r s (upserted source_cmp new sources)
+        (upserted-IsIn_other source_cmp new s sources m (like s ∙ is)) n
+
+    into : IsIn r (job_rows sources) → IsIn r (job_rows (upserted source_cmp new sources))
+    into m =
+        let w = flat_map-IsIn rows_of_jobs r sources m in
+        kept w.0 w.1 w.2 (is_eq (source_at source.name w.0)) refl
+
+    of_found : (o : Option SourceState) → found (source_at source.name) sources ≡ o
+        → IsIn r (rows_of_jobs (with_jobs_of source o)) → IsIn r (job_rows sources)
+    of_found None is n = absurd n
+    of_found (Some s) is n =
+        IsIn-flat_map rows_of_jobs r s sources (named-found source.name sources s is).0 n
+
+    was : (s : SourceState) → IsIn r (rows_of_jobs s)
+        → (s ≡ new) ⊎ (IsIn s sources × (is_eq (source_cmp s new) ≡ false)) → IsIn r (job_rows sources)
+    was s n (inl same) =
+        of_found (found (source_at source.name) sources) refl
+        (subst (λ (t : SourceState). IsIn r (rows_of_jobs t)) same n)
+    was s n (inr old) = IsIn-flat_map rows_of_jobs r s sources old.0 n
+
+    from : IsIn r (job_rows (upserted source_cmp new sources)) → IsIn r (job_rows sources)
+    from m =
+        let w = flat_map-IsIn rows_of_jobs r (upserted source_cmp new sources) m in
+        was w.0 w.2 (IsIn-upserted source_cmp new w.0 sources w.1)
+
+-- A source that is dropped has no jobs.
+source-dropped : (name : List ℕ) (sources : List SourceState) (r : KeptRow) → IsAscending source_cmp sources
+    → jobs_if (found (source_at name) sources) ≡ [] → IsOther (kind.Source, name) r
+    → IsInBoth r (source_rows sources) (source_rows (dropped (source_at name) sources))
+    × IsInBoth r (job_rows sources) (job_rows (dropped (source_at name) sources))
+source-dropped name sources r up empty other = (
+  in_both-dropped (λ (s : SourceState). source_row s.source) (source_at name) sources r
+      (λ s made. other_of (kind.Source, name) r (source_row s.source) other made),
+  (into, from),
+)
+  where
+    rows_of_jobs : SourceState → List KeptRow
+    rows_of_jobs s = map job_row s.jobs
+
+    stays : (s : SourceState) → IsIn s sources → IsIn r (rows_of_jobs s) → (b : Bool) → is_eq (source_at name s) ≡ b
+        → IsIn r (job_rows (dropped (source_at name) sources))
+    stays s m n true is =
+        absurd (subst (λ (jobs : List Job). IsIn r (map job_row jobs))
+        (sym (ap jobs_if (source-there name sources s up m is)) ∙ empty) n)
+    stays s m n false is =
+        IsIn-flat_map rows_of_jobs r s (dropped (source_at name) sources) (dropped-IsIn (source_at name) s sources m is) n
+
+    into : IsIn r (job_rows sources) → IsIn r (job_rows (dropped (source_at name) sources))
+    into m =
+        let w = flat_map-IsIn rows_of_jobs r sources m in stays w.0 w.1 w.2 (is_eq (source_at name w.0)) refl
+
+    from : IsIn r (job_rows (dropped (source_at name) sources)) → IsIn r (job_rows sources)
+    from m =
+        let w = flat_map-IsIn rows_of_jobs r (dropped (source_at name) sources) m in
+        IsIn-flat_map rows_of_jobs r w.0 sources (IsIn-dropped (source_at name) w.0 sources w.1).0 w.2
+
+-- What changes in the jobs or in the listing of a source leaves the rows of sources.
+sources-stay : (name : List ℕ) (change : SourceState → SourceState)
+    → ((s : SourceState) → (change s).source ≡ s.source) → (sources : List SourceState)
+    → source_rows sources ≡ source_rows (with_source_at name change sources)
+sources-stay name change keeps [] = refl
+sources-stay name change keeps (s ∷ sources) =
+    ap₂ (λ (h : HarvestSource) (rows : List KeptRow). source_row h ∷ rows) (sym (here (bytes_eq s.source.name name)))
+    (sources-stay name change keeps sources)
+  where
+    here : (b : Bool) → (if b then change s else s).source ≡ s.source
+    here true = keeps s
+    here false = refl
+
+-- Of a source's own jobs, a row with another key is made of a job with another number.
+number-other : (name : List ℕ) (number : ℕ) (r : KeptRow) → IsOther (kind.Job, job_id name number) r → (job : Job)
+    → job.source ≡ name → r ≡ job_row job → is_eq (job_at number job) ≡ false
+number-other name number r other job own made = by (is_eq (job_at number job)) refl
+  where
+    by : (b : Bool) → is_eq (job_at number job) ≡ b → b ≡ false
+    by true same =
+        absurd (not_other (kind.Job, job_id name number) r other (ap (λ (q : KeptRow). q.kind) made)
+        (ap (λ (q : KeptRow). q.key) made
+        ∙ ap₂ job_id own (exact_unsigned job.number number (is_eq_true (job_at number job) same))))
+    by false same = refl
+
+job-put : (job : Job) (sources : List SourceState) (r : KeptRow) → AreKeyed sources → IsOther (kind.Job, id_of_job job) r
+    → IsInBoth r (job_rows sources) (job_rows (with_source_at job.source (with_job job) sources))
+job-put job sources r keyed other =
+    in_both-each_in (λ (s : SourceState). map job_row s.jobs)
+    (λ (s : SourceState). if bytes_eq s.source.name job.source then with_job job s else s) sources r
+    (λ s m. each s m (bytes_eq s.source.name job.source) refl)
+  where
+    each : (s : SourceState) → IsIn s sources → (b : Bool) → bytes_eq s.source.name job.source ≡ b
+        → IsInBoth r (map job_row s.jobs) (map job_row (if b then with_job job s else s).jobs)
+    each s m false is = in_both-itself r (map job_row s.jobs)
+    each s m true is =
+        in_both-upserted_in job_row job_cmp job_cmp_total job s.jobs r
+        (λ z n made. number-other job.source job.number r other z (own z n) made)
+      where
+        own : (z : Job) → IsIn z (job ∷ s.jobs) → z.source ≡ job.source
+        own z (inl same) = ap (λ (j : Job). j.source) same
+        own z (inr n) = keyed.own s m z n ∙ (bytes_eq-Decides s.source.name job.source).0 is
+
+job-dropped : (name : List ℕ) (number : ℕ) (sources : List SourceState) (r : KeptRow) → AreKeyed sources
+    → IsOther (kind.Job, job_id name number) r
+    → IsInBoth r (job_rows sources) (job_rows (with_source_at name (without_job number) sources))
+job-dropped name number sources r keyed other =
+    in_both-each_in (λ (s : SourceState). map job_row s.jobs)
+    (λ (s : SourceState). if bytes_eq s.source.name name then without_job number s else s) sources r
+    (λ s m. each s m (bytes_eq s.source.name name) refl)
+  where
+    each : (s : SourceState) → IsIn s sources → (b : Bool) → bytes_eq s.source.name name ≡ b
+        → IsInBoth r (map job_row s.jobs) (map job_row (if b then without_job number s else s).jobs)
+    each s m false is = in_both-itself r (map job_row s.jobs)
+    each s m true is =
+        in_both-dropped_in job_row (job_at number) s.jobs r
+        (λ z n made. number-other name number r other z
+        (keyed.own s m z n ∙ (bytes_eq-Decides s.source.name name).0 is) made)
+
+listing-put : (name : List ℕ) (listing : Option Listing) (sources : List SourceState) (r : KeptRow)
+    → IsInBoth r (job_rows sources) (job_rows (with_source_at name (with_listing listing) sources))
+listing-put name listing sources r =
+    in_both-each (λ (s : SourceState). map job_row s.jobs)
+    (λ (s : SourceState). if bytes_eq s.source.name name then with_listing listing s else s) sources r
+    (λ s. each s (bytes_eq s.source.name name))
+  where
+    each : (s : SourceState) (b : Bool)
+        → IsInBoth r (map job_row s.jobs) (map job_row (if b then with_listing listing s else s).jobs)
+    each s true = in_both-itself r (map job_row s.jobs)
+    each s false = in_both-itself r (map job_row s.jobs)
+
+-- the rows of sources and jobs
+abbrev harvest_rows_of : List SourceState → List KeptRow
+harvest_rows_of sources = source_rows sources ++ job_rows sources
+
+harvests-both : (r : KeptRow) (sources after : List SourceState) → IsInBoth r (source_rows sources) (source_rows after)
+    → IsInBoth r (job_rows sources) (job_rows after) → IsInBoth r (harvest_rows_of sources) (harvest_rows_of after)
+harvests-both r sources after first second =
+    in_both-append r (source_rows sources) (job_rows sources) (source_rows after) (job_rows after) first second
+
+-- the same where the rows of sources stay
+jobs-both : (r : KeptRow) (sources after : List SourceState) → source_rows sources ≡ source_rows after
+    → IsInBoth r (job_rows sources) (job_rows after) → IsInBoth r (harvest_rows_of sources) (harvest_rows_of after)
+jobs-both r sources after same second =
+    harvests-both r sources after
+    (subst (IsInBoth r (source_rows sources)) same (in_both-itself r (source_rows sources))) second
+
+source_entry-others : (entry : SourceEntry) (sources : List SourceState) (r : KeptRow) → AreKeyed sources
+    → DropsSourceAlone entry sources → IsOther (source_entry_key entry) r
+    → IsInBoth r (harvest_rows_of sources) (harvest_rows_of (sources_changed_by entry sources))
+source_entry-others (PutSource source) sources r keyed empty other =
+    let both = source-put source sources r keyed.ascending other in
+    harvests-both r sources (sources_changed_by (PutSource source) sources) both.0 both.1
+source_entry-others (DropSource name) sources r keyed empty other =
+    let both = source-dropped name sources r keyed.ascending empty other in
+    harvests-both r sources (dropped (source_at name) sources) both.0 both.1
+source_entry-others (PutJob job) sources r keyed empty other =
+    jobs-both r sources (with_source_at job.source (with_job job) sources)
+    (sources-stay job.source (with_job job) (λ s. refl) sources) (job-put job sources r keyed other)
+source_entry-others (DropJob name number) sources r keyed empty other =
+    jobs-both r sources (with_source_at name (without_job number) sources)
+    (sources-stay name (without_job number) (λ s. refl) sources) (job-dropped name number sources r keyed other)
+source_entry-others (PutListing name listing) sources r keyed empty other =
+    jobs-both r sources (with_source_at name (with_listing listing) sources)
+    (sources-stay name (with_listing listing) (λ s. refl) sources) (listing-put name listing sources r)
+
 -- ---- all rows
 
--- A row is among all rows as it is among those of organizations, of datasets and of tables.
-in_both-parts : (r : KeptRow) (orgs datasets tables orgs_after datasets_after tables_after : List KeptRow)
-    → IsInBoth r orgs orgs_after → IsInBoth r datasets datasets_after → IsInBoth r tables tables_after
-    → IsInBoth r (version_row ∷ (orgs ++ (datasets ++ tables)))
-    (version_row ∷ (orgs_after ++ (datasets_after ++ tables_after)))
-in_both-parts r orgs datasets tables orgs_after datasets_after tables_after first second third =
-    in_both-cons r version_row (orgs ++ (datasets ++ tables)) (orgs_after ++ (datasets_after ++ tables_after))
-    (in_both-append r orgs (datasets ++ tables) orgs_after (datasets_after ++ tables_after) first
-    (in_both-append r datasets tables datasets_after tables_after second third))
+-- A row is among all rows as it is among those of organizations, of datasets, of tables, and of sources and jobs.
+in_both-parts : (r : KeptRow) (orgs datasets tables harvests new_orgs new_datasets new_tables new_harvests : List KeptRow)
+    → IsInBoth r orgs new_orgs → IsInBoth r datasets new_datasets → IsInBoth r tables new_tables
+    → IsInBoth r harvests new_harvests
+    → IsInBoth r (version_row ∷ (orgs ++ (datasets ++ (tables ++ harvests))))
+    (version_row ∷ (new_orgs ++ (new_datasets ++ (new_tables ++ new_harvests))))
+in_both-parts r orgs datasets tables harvests new_orgs new_datasets new_tables new_harvests first second third fourth =
+    in_both-cons r version_row (orgs ++ (datasets ++ (tables ++ harvests)))
+    (new_orgs ++ (new_datasets ++ (new_tables ++ new_harvests)))
+    (in_both-append r orgs (datasets ++ (tables ++ harvests)) new_orgs (new_datasets ++ (new_tables ++ new_harvests))
+    first
+    (in_both-append r datasets (tables ++ harvests) new_datasets (new_tables ++ new_harvests) second
+    (in_both-append r tables harvests new_tables new_harvests third fourth)))
 
 orgs-changed : (r : KeptRow) (state : State) (people : PeopleLists) → IsInBoth r (org_rows state.people) (org_rows people)
     → IsInBoth r (listed_rows state) (listed_rows (record state { people = people }))
 orgs-changed r state people same =
     in_both-parts r (org_rows state.people) (map dataset_row state.datasets) (flat_map table_rows state.tables)
-    (org_rows people) (map dataset_row state.datasets) (flat_map table_rows state.tables) same
+    (harvest_rows_of state.sources) (org_rows people) (map dataset_row state.datasets)
+    (flat_map table_rows state.tables) (harvest_rows_of state.sources) same
     (in_both-itself r (map dataset_row state.datasets)) (in_both-itself r (flat_map table_rows state.tables))
+    (in_both-itself r (harvest_rows_of state.sources))
 
 datasets-changed : (r : KeptRow) (state : State) (datasets : List Package)
     → IsInBoth r (map dataset_row state.datasets) (map dataset_row datasets)
     → IsInBoth r (listed_rows state) (listed_rows (record state { datasets = datasets }))
 datasets-changed r state datasets same =
     in_both-parts r (org_rows state.people) (map dataset_row state.datasets) (flat_map table_rows state.tables)
-    (org_rows state.people) (map dataset_row datasets) (flat_map table_rows state.tables)
-    (in_both-itself r (org_rows state.people)) same (in_both-itself r (flat_map table_rows state.tables))
+    (harvest_rows_of state.sources) (org_rows state.people) (map dataset_row datasets)
+    (flat_map table_rows state.tables) (harvest_rows_of state.sources) (in_both-itself r (org_rows state.people)) same
+    (in_both-itself r (flat_map table_rows state.tables)) (in_both-itself r (harvest_rows_of state.sources))
 
 tables-changed : (r : KeptRow) (state : State) (tables : List ResourceTable)
     → IsInBoth r (flat_map table_rows state.tables) (flat_map table_rows tables)
     → IsInBoth r (listed_rows state) (listed_rows (record state { tables = tables }))
 tables-changed r state tables same =
     in_both-parts r (org_rows state.people) (map dataset_row state.datasets) (flat_map table_rows state.tables)
-    (org_rows state.people) (map dataset_row state.datasets) (flat_map table_rows tables)
-    (in_both-itself r (org_rows state.people)) (in_both-itself r (map dataset_row state.datasets)) same
+    (harvest_rows_of state.sources) (org_rows state.people) (map dataset_row state.datasets)
+    (flat_map table_rows tables) (harvest_rows_of state.sources) (in_both-itself r (org_rows state.people))
+    (in_both-itself r (map dataset_row state.datasets)) same (in_both-itself r (harvest_rows_of state.sources))
+
+sources-changed : (r : KeptRow) (state : State) (sources : List SourceState)
+    → IsInBoth r (harvest_rows_of state.sources) (harvest_rows_of sources)
+    → IsInBoth r (listed_rows state) (listed_rows (record state { sources = sources }))
+sources-changed r state sources same =
+    in_both-parts r (org_rows state.people) (map dataset_row state.datasets) (flat_map table_rows state.tables)
+    (harvest_rows_of state.sources) (org_rows state.people) (map dataset_row state.datasets)
+    (flat_map table_rows state.tables) (harvest_rows_of sources) (in_both-itself r (org_rows state.people))
+    (in_both-itself r (map dataset_row state.datasets)) (in_both-itself r (flat_map table_rows state.tables)) same
 
 -- ---- entries
 
 -- A row at another key than the entry's is among the rows before the entry and after it, or in neither.
 pub entry-others : (entry : Entry) (state : State) (r : KeptRow) → IsAscending table_cmp state.tables
-    → DropsAlone entry state → IsOther (entry_key entry) r
+    → AreKeyed state.sources → DropsAlone entry state → IsOther (entry_key entry) r
     → IsInBoth r (listed_rows state) (listed_rows (changed_by entry state))
-entry-others (PutOrg org) state r up empty other =
+entry-others (PutOrg org) state r up keyed empty other =
     orgs-changed r state (record state.people { orgs = upserted org_cmp org state.people.orgs })
     (in_both-upserted (λ o. org_row o (memberships_in o.name state.people.roles)) org_cmp org_cmp_total org
     state.people.orgs r
     (λ o made. other_of (kind.Org, org.name) r (org_row o (memberships_in o.name state.people.roles)) other made))
-entry-others (DropOrg name) state r up empty other =
+entry-others (DropOrg name) state r up keyed empty other =
     orgs-changed r state (record state.people { orgs = dropped (org_at name) state.people.orgs })
     (in_both-dropped (λ o. org_row o (memberships_in o.name state.people.roles)) (org_at name) state.people.orgs r
     (λ o made. other_of (kind.Org, name) r (org_row o (memberships_in o.name state.people.roles)) other made))
-entry-others (PutRole role) state r up empty other =
+entry-others (PutRole role) state r up keyed empty other =
     orgs-changed r state (record state.people { roles = upserted membership_cmp role state.people.roles })
     (roles-others role.org state.people.roles (upserted membership_cmp role state.people.roles) state.people.orgs r
     (roles-put role state.people.roles) other)
-entry-others (DropRole org user) state r up empty other =
+entry-others (DropRole org user) state r up keyed empty other =
     orgs-changed r state (record state.people { roles = dropped (pair_at org user) state.people.roles })
     (roles-others org state.people.roles (dropped (pair_at org user) state.people.roles) state.people.orgs r
     (roles-dropped org user state.people.roles) other)
-entry-others (PutDataset dataset) state r up empty other =
+entry-others (PutDataset dataset) state r up keyed empty other =
     datasets-changed r state (upserted dataset_cmp dataset state.datasets)
     (in_both-upserted dataset_row dataset_cmp dataset_cmp_total dataset state.datasets r
     (λ d made. other_of (kind.Set, dataset.id) r (dataset_row d) other made))
-entry-others (EditDataset id edit) state r up empty other =
+entry-others (EditDataset id edit) state r up keyed empty other =
     datasets-changed r state (with_edit id edit state.datasets) (dataset-edited id edit state.datasets r other)
-entry-others (DropDataset id) state r up empty other =
+entry-others (DropDataset id) state r up keyed empty other =
     datasets-changed r state (dropped (dataset_at_id id) state.datasets)
     (in_both-dropped dataset_row (dataset_at_id id) state.datasets r
     (λ d made. other_of (kind.Set, id) r (dataset_row d) other made))
-entry-others (PutTable head) state r up empty other =
+entry-others (PutTable head) state r up keyed empty other =
     tables-changed r state (with_head head state.tables) (table-put head state.tables r up other)
-entry-others (DropTable address) state r up empty other =
+entry-others (DropTable address) state r up keyed empty other =
     tables-changed r state (dropped (at_address address) state.tables)
     (table-dropped address state.tables r up empty other)
-entry-others (PutRow address row) state r up empty other =
+entry-others (PutRow address row) state r up keyed empty other =
     tables-changed r state (with_table_at address (with_row row) state.tables)
     (in_both-each table_rows (λ t. if is_at address t then with_row row t else t) state.tables r
     (λ t. row-put address row r other t (is_at address t) refl))
-entry-others (DropRow address id) state r up empty other =
+entry-others (DropRow address id) state r up keyed empty other =
     tables-changed r state (with_table_at address (without_row id) state.tables)
     (in_both-each table_rows (λ t. if is_at address t then without_row id t else t) state.tables r
     (λ t. row-dropped address id r other t (is_at address t) refl))
+entry-others (OfSources entry) state r up keyed empty other =
+    sources-changed r state (sources_changed_by entry state.sources)
+    (source_entry-others entry state.sources r keyed empty other)

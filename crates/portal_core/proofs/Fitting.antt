@@ -1,10 +1,13 @@
 -- A change that is fit on a caller's view is fit on the state.
 use Rattle.std.proofs.lemmas.Map.Views.{any-filter_same}
-use Rattle.std.proofs.Common.{◌≡◌, ◌⊎◌, inl, inr, ℕ, Bool, true, false, ◌&&◌, List, Option, sym, ap, ◌∙◌, subst}
+use Rattle.std.proofs.Common.{◌≡◌, ◌⊎◌, inl, inr, ℕ, Bool, true, false, ◌&&◌, List, Option, None, refl, sym, ap}
+use Rattle.std.proofs.Common.{◌∙◌, subst}
 use Rattle.std.specs.Prelude.{is_some}
 use Rattle.std.specs.List.{Contains, list_all, list_any}
 use Rattle.std.specs.Str.{bytes_eq}
+use Rattle.std.proofs.lemmas.Option.{same_Some}
 use Rattle.std.proofs.lemmas.Slice.Eq.{bytes_eq-Decides}
+use Rattle.portal_base.specs.Ordered.{IsAscending}
 use Rattle.portal_base.proofs.Filtered.{IsIn-filter}
 use Rattle.portal_base.proofs.Unique.{IsIn-Contains, Contains-IsIn}
 use Rattle.portal_base.specs.declared.caller.Caller.{Caller}
@@ -36,16 +39,26 @@ use Rattle.datastore_answers.specs.Tables.{is_table_among, table_at, tables_seen
 use Rattle.datastore_answers.specs.Errors.{delete_rows_error, put_error}
 use Rattle.datastore_answers.specs.declared.address.Address.{Address}
 use Rattle.datastore_answers.specs.declared.resource_table.ResourceTable.{ResourceTable}
+use Rattle.harvest_answers.proofs.ViewLemmas.{fault_seen}
+use Rattle.harvest_answers.specs.Fit.{IsFitEdit, IsFitSource}
+use Rattle.harvest_answers.specs.View.{sources_seen}
+use Rattle.harvest_sources.specs.Entries.{fault_if_open, source_fault}
+use Rattle.harvest_sources.specs.Sources.{SourceState, source_cmp, source_named}
+use Rattle.harvest_sources.specs.declared.change.SourceChange.{SourceChange}
+use Rattle.harvest_sources.specs.declared.change.SourceChange.TheVariants as source
 use Rattle.organization_answers.specs.Fit.{IsFitOrg, IsAdministered, IsFitRole}
+use Rattle.organization_answers.specs.Owners.{owners_of, owns_source}
 use Rattle.visibility.specs.TableSummary.{TableSummary, is_among, breaks_references, refers_outside}
-use Rattle.visibility.specs.View.{people_seen, datasets_seen}
+use Rattle.visibility.specs.View.{administers, people_seen, datasets_seen}
 use Rattle.visibility.specs.Visibility.{is_public_if_harvested, sees_in}
 use Rattle.visibility.proofs.PublicLemmas.{has_datasets_administered}
 use Rattle.visibility.proofs.ViewLemmas.{may_edit_in_seen, administers_seen, is_sysadmin_in_seen, is_user_in_seen}
 use Rattle.visibility.proofs.ViewLemmas.{role_in_administered}
 use Rattle.portal_core.proofs.TableViewing.{both, own-id}
 use Rattle.portal_core.specs.Answer.{call_view_of}
-use Rattle.portal_core.specs.Planned.{PlannedChange, People, Datasets, Tables}
+use Rattle.portal_core.proofs.SourceKeeping.{owners-kept_seen}
+use Rattle.portal_core.proofs.SourceViews.{unfaulted-there}
+use Rattle.portal_core.specs.Planned.{PlannedChange, People, Datasets, Tables, Sources}
 use Rattle.portal_core.specs.Fit.{IsFit}
 use Rattle.portal_core.specs.State.{State}
 use Rattle.portal_core.specs.View.{view_of}
@@ -66,8 +79,18 @@ role call state org user fit = record {
   user_exists = sym (is_user_in_seen call.caller state.people user) ∙ fit.user_exists;
 }
 
+-- An organization that the caller administers owns a source that the caller sees just if it owns one at all.
+owns_source_seen : (caller : Caller) (people : PeopleLists) (org : List ℕ) (sources : List SourceState)
+    → administers people caller org ≡ true
+    → owns_source org (owners_of (sources_seen caller people sources)) ≡ owns_source org (owners_of sources)
+owns_source_seen caller people org sources own =
+    ap (owns_source org) (owners-kept_seen caller people sources)
+    ∙ any-filter_same (λ (owner : List ℕ). bytes_eq owner org) (administers people caller) true
+    (λ owner same. ap (administers people caller) ((bytes_eq-Decides owner org).0 same) ∙ own) (owners_of sources)
+
 people-fit : (change : OrgChange) (call : Call) (state : State) → list_all is_public_if_harvested state.datasets ≡ true
-    → IsFitOrg (call_view_of call (view_of call.caller state)) change → IsFitOrg (call_view_of call state) change
+    → IsFitOrg (call_view_of call (view_of call.caller state)) (owners_of (view_of call.caller state).sources) change
+    → IsFitOrg (call_view_of call state) (owners_of state.sources) change
 people-fit (Create org) call state harvested fit = record {
   named = fit.named;
   sysadmin = sym (is_sysadmin_in_seen call.caller state.people) ∙ fit.sysadmin;
@@ -80,6 +103,8 @@ people-fit (Remove name) call state harvested fit =
       empty = sym
           (has_datasets_administered call.caller state.people name state.datasets own.administered harvested)
           ∙ fit.empty;
+      unharvested = sym (owns_source_seen call.caller state.people name state.sources own.administered)
+          ∙ fit.unharvested;
     }
 people-fit (SetRole org user given) call state harvested fit = role call state org user fit
 people-fit (DropRole org user) call state harvested fit =
@@ -238,11 +263,48 @@ tables-fit (table.DeleteRows address ids) call state fit = record {
       (sym (beside-there call state fit.own.placed fit.own.is_present)) ∙ fit.keeps_references;
 }
 
+-- ---- sources
+
+-- A change that has no fault among the sources of the view has none among all, and is one of the same source.
+edit-fit : (name : List ℕ) (change : SourceChange) (call : Call) (state : State) → IsAscending source_cmp state.sources
+    → ((sources : List SourceState) → source_fault change sources ≡ fault_if_open (source_named sources name))
+    → IsFitEdit (call_view_of call (view_of call.caller state)) (view_of call.caller state).sources name change
+    → IsFitEdit (call_view_of call state) state.sources name change
+edit-fit name change call state up fault fit =
+    let view : List SourceState = (view_of call.caller state).sources in
+    let none : fault_if_open (source_named view name) ≡ None = sym (fault view) ∙ fit.possible in
+    let there = unfaulted-there call.caller state.people state.sources name up none in
+    record {
+      possible = fault state.sources ∙ fault_seen call.caller state.people state.sources name up none;
+      administered = λ s is.
+          let same : there.source ≡ s = same_Some there.source s (sym there.there ∙ is) in
+          subst (λ (t : SourceState). administers state.people call.caller t.source.owner_org ≡ true) same there.sees;
+    }
+
+sources-fit : (change : SourceChange) (call : Call) (state : State) → IsAscending source_cmp state.sources
+    → IsFitSource (call_view_of call (view_of call.caller state)) (view_of call.caller state).sources change
+    → IsFitSource (call_view_of call state) state.sources change
+sources-fit (source.Create new) call state up fit = record {
+  name = fit.name;
+  named = fit.named;
+  location = fit.location;
+  owned = fit.owned;
+  administered = sym (administers_seen call.caller state.people new.owner_org) ∙ fit.administered;
+  first = fit.first;
+}
+sources-fit (source.Update name title url) call state up fit =
+    edit-fit name (source.Update name title url) call state up (λ sources. refl) fit
+sources-fit (source.Remove name) call state up fit =
+    edit-fit name (source.Remove name) call state up (λ sources. refl) fit
+sources-fit (source.AddJob name created) call state up fit =
+    edit-fit name (source.AddJob name created) call state up (λ sources. refl) fit
+
 -- ---- all changes
 
 pub fit_in_state : (change : PlannedChange) (call : Call) (state : State)
-    → list_all is_public_if_harvested state.datasets ≡ true
+    → list_all is_public_if_harvested state.datasets ≡ true → IsAscending source_cmp state.sources
     → IsFit call (view_of call.caller state) change → IsFit call state change
-fit_in_state (People change) call state harvested fit = people-fit change call state harvested fit
-fit_in_state (Datasets change) call state harvested fit = datasets-fit change call state fit
-fit_in_state (Tables change) call state harvested fit = tables-fit change call state fit
+fit_in_state (People change) call state harvested up fit = people-fit change call state harvested fit
+fit_in_state (Datasets change) call state harvested up fit = datasets-fit change call state fit
+fit_in_state (Tables change) call state harvested up fit = tables-fit change call state fit
+fit_in_state (Sources change) call state harvested up fit = sources-fit change call state up fit

@@ -26,6 +26,8 @@ use Rattle.packages.specs.declared.package.Package.{Package}
 use Rattle.datastore_answers.specs.Order.{table_cmp, table_cmp_total}
 use Rattle.datastore_answers.specs.Tables.{is_table_among}
 use Rattle.datastore_answers.specs.declared.resource_table.ResourceTable.{ResourceTable}
+use Rattle.harvest_answers.specs.View.{sees_source, sources_seen, without_listing}
+use Rattle.harvest_sources.specs.Sources.{SourceState, source_cmp, source_cmp_total}
 use Rattle.visibility.specs.View.{is_called, user_seen, administers, is_role_seen, people_seen}
 use Rattle.visibility.specs.Visibility.{sees_in}
 use Rattle.portal_core.specs.Changed.{charged}
@@ -34,7 +36,7 @@ use Rattle.portal_core.specs.State.{State, accepted_bytes_of_user, quota_used_cm
 use Rattle.portal_core.specs.Valid.{IsValid}
 use Rattle.portal_core.specs.View.{is_own_quota, is_table_seen, view_of}
 use Rattle.portal_core.specs.declared.quota.QuotaUsed.{QuotaUsed}
-use Rattle.portal_core.proofs.Changing.{HasSameRights, caller_role-own, is_role_seen-rights, is_sysadmin_in-users}
+use Rattle.portal_core.proofs.Changing.{HasSameRights, administers-rights, caller_role-own, is_role_seen-rights, is_sysadmin_in-users}
 use Rattle.portal_core.proofs.Changing.{same_state, sees_in-rights, stated}
 
 -- ---- lists
@@ -145,11 +147,16 @@ view_of-hidden caller s t in_s in_t hidden =
     filter-hidden table_cmp table_cmp_total (is_table_seen caller s) (is_table_seen caller t) s.tables t.tables
     (λ u. ap (λ (ds : List Package). is_table_among ds u) datasets) in_s.tables.ascending in_t.tables.ascending
     hidden.tables in
+    let sources : sources_seen caller s.people s.sources ≡ sources_seen caller t.people t.sources =
+    ap (map without_listing)
+    (filter-hidden source_cmp source_cmp_total (sees_source s.people caller) (sees_source t.people caller) s.sources
+    t.sources (λ u. administers-rights caller s.people t.people same u.source.owner_org) in_s.sources.ascending
+    in_t.sources.ascending hidden.sources) in
     let quota_used : filter (is_own_quota caller) s.quota_used ≡ filter (is_own_quota caller) t.quota_used =
     filter-hidden quota_used_cmp quota_used_cmp_total (is_own_quota caller) (is_own_quota caller) s.quota_used
     t.quota_used (λ e. refl)
     in_s.quota_used in_t.quota_used hidden.quota_used in
-    same_state (people_seen-hidden caller s t in_s.people in_t.people hidden) datasets tables quota_used
+    same_state (people_seen-hidden caller s t in_s.people in_t.people hidden) datasets tables sources quota_used
 
 -- ---- what is charged
 
@@ -182,6 +189,10 @@ tables-charged : (caller : Caller) (size : ℕ) (state : State) → (charged cal
 tables-charged Anonymous size state = refl
 tables-charged (Named user) size state = refl
 
+sources-charged : (caller : Caller) (size : ℕ) (state : State) → (charged caller size state).sources ≡ state.sources
+sources-charged Anonymous size state = refl
+sources-charged (Named user) size state = refl
+
 quota_used-charged : (other : Caller) (size : ℕ) (s t : State) → s.quota_used ≡ t.quota_used
     → (charged other size s).quota_used ≡ (charged other size t).quota_used
 quota_used-charged Anonymous size s t same = same
@@ -198,6 +209,7 @@ unchanged-hidden caller state = record {
   roles = hidden-none (is_role_seen state.people caller) (is_role_seen state.people caller) state.people.roles;
   datasets = hidden-none (sees_in state.people caller) (sees_in state.people caller) state.datasets;
   tables = hidden-none (is_table_seen caller state) (is_table_seen caller state) state.tables;
+  sources = hidden-none (sees_source state.people caller) (sees_source state.people caller) state.sources;
   quota_used = hidden-none (is_own_quota caller) (is_own_quota caller) state.quota_used;
 }
 
@@ -207,23 +219,27 @@ pub charged-between : (caller other : Caller) (size : ℕ) (before now : State) 
     → IsHiddenBetween caller before (charged other size now)
 charged-between caller other size before now others left hidden =
     let after : State = charged other size now in
-    let Between : PeopleLists → List Package → List ResourceTable → List QuotaUsed → Type 0 =
-    λ people datasets tables quota_used. IsHiddenBetween caller before (stated people datasets tables quota_used) in
+    let Between : PeopleLists → List Package → List ResourceTable → List SourceState → List QuotaUsed → Type 0 =
+    λ people datasets tables sources quota_used.
+    IsHiddenBetween caller before (stated people datasets tables sources quota_used) in
     let quota_used : IsHiddenChange (is_own_quota caller) (is_own_quota caller) before.quota_used after.quota_used =
     subst (IsHiddenChange (is_own_quota caller) (is_own_quota caller) before.quota_used)
     (quota_used-charged other size before now (sym left))
     (charged-hidden caller other size before others) in
-    let there : Between now.people now.datasets now.tables after.quota_used = record {
+    let there : Between now.people now.datasets now.tables now.sources after.quota_used = record {
       users = hidden.users;
       orgs = hidden.orgs;
       roles = hidden.roles;
       datasets = hidden.datasets;
       tables = hidden.tables;
+      sources = hidden.sources;
       quota_used = quota_used;
     } in
-    subst (λ (people : PeopleLists). Between people after.datasets after.tables after.quota_used)
+    subst (λ (people : PeopleLists). Between people after.datasets after.tables after.sources after.quota_used)
     (sym (people-charged other size now))
-    (subst (λ (datasets : List Package). Between now.people datasets after.tables after.quota_used)
+    (subst (λ (datasets : List Package). Between now.people datasets after.tables after.sources after.quota_used)
     (sym (datasets-charged other size now))
-    (subst (λ (tables : List ResourceTable). Between now.people now.datasets tables after.quota_used)
-    (sym (tables-charged other size now)) there))
+    (subst (λ (tables : List ResourceTable). Between now.people now.datasets tables after.sources after.quota_used)
+    (sym (tables-charged other size now))
+    (subst (λ (sources : List SourceState). Between now.people now.datasets now.tables sources after.quota_used)
+    (sym (sources-charged other size now)) there)))

@@ -17,6 +17,7 @@ use Rattle.dataset_answers.specs.declared.change.DatasetChange.{DatasetChange}
 use Rattle.dataset_answers.specs.declared.change.DatasetChange.TheVariants as dataset
 use Rattle.datastore_answers.specs.Summaries.{summaries_of}
 use Rattle.organization_answers.specs.Fit.{IsFitOrg}
+use Rattle.organization_answers.specs.Owners.{owners_of}
 use Rattle.packages.specs.declared.package.Package.{Package}
 use Rattle.portal_base.proofs.Unique.{IsIn-Contains}
 use Rattle.std.specs.List.{list_any}
@@ -35,7 +36,7 @@ use Rattle.portal_core.specs.Change.{Change}
 use Rattle.portal_core.specs.Changed.{AreUnused, applied, changed, charged, with_planned}
 use Rattle.portal_core.specs.Fit.{IsFit}
 use Rattle.portal_core.specs.Known.{is_known, known_call}
-use Rattle.portal_core.specs.Planned.{PlannedChange, People, Datasets, Tables, change_of, claims_of}
+use Rattle.portal_core.specs.Planned.{PlannedChange, People, Datasets, Tables, Sources, change_of, claims_of}
 use Rattle.portal_core.specs.State.{State, accepted_bytes_of, accepted_bytes_of_user, quota_used_cmp}
 use Rattle.portal_core.specs.State.{quota_used_cmp_total}
 use Rattle.portal_core.specs.Step.{Outcome, answer_in, call_step, known_step, outcome_of}
@@ -44,7 +45,7 @@ use Rattle.portal_core.specs.View.{is_own_quota, view_of}
 use Rattle.portal_core.specs.declared.quota.QuotaUsed.{QuotaUsed}
 use Rattle.portal_core.proofs.Answering.{answer_fit}
 use Rattle.portal_core.proofs.ChangeEntries.{applied-planned}
-use Rattle.portal_core.proofs.Changing.{IsOwn, IsOwnChange, IsOwnDatasets, changed-seen, same_state}
+use Rattle.portal_core.proofs.Changing.{IsOwn, IsOwnChange, IsOwnDatasets, changed-seen, own-sources, same_state}
 use Rattle.portal_core.proofs.Fitting.{fit_in_state}
 use Rattle.portal_core.proofs.Keeping.{harvested_open, no-tables}
 use Rattle.portal_core.proofs.Knowing.{calls-alike, known-alike, known-call, known-views_alike}
@@ -146,13 +147,13 @@ charged_alike (Named user) size s t up_s up_t same =
     charged-seen user size s.quota_used up_s
     ∙ ap (λ (own : List QuotaUsed). upserted quota_used_cmp (entry user size own) own) quota_used
     ∙ sym (charged-seen user size t.quota_used up_t) in
-    same_state people datasets (ap (λ (v : State). v.tables) same) now
+    same_state people datasets (ap (λ (v : State). v.tables) same) (ap (λ (v : State). v.sources) same) now
 
 -- ---- what is changed
 
 -- what is fit is the caller's own to make
-own-people : (change : OrgChange) (call : Call) (state : State) → IsFitOrg (call_view_of call state) change
-    → IsOwnChange call.caller state.people change
+own-people : (change : OrgChange) (call : Call) (state : State)
+    → IsFitOrg (call_view_of call state) (owners_of state.sources) change → IsOwnChange call.caller state.people change
 own-people (Create org) call state fit = tt
 own-people (Patch org) call state fit = tt
 own-people (Remove name) call state fit = fit.own.administered
@@ -174,15 +175,17 @@ own : (change : PlannedChange) (call : Call) (state : State) → IsValid state
     → IsFit call (view_of call.caller state) change → AreUnused state (claims_of change) → IsOwn call.caller state change
 own (People change) call state valid fit unused =
     own-people change call state
-    (fit_in_state (People change) call state (harvested_open state valid) fit)
+    (fit_in_state (People change) call state (harvested_open state valid) valid.sources.ascending fit)
 own (Datasets change) call state valid fit unused = own-datasets change call state valid fit unused
 own (Tables change) call state valid fit unused = tt
+own (Sources change) call state valid fit unused = own-sources change call state valid.sources.ascending fit unused
 
 -- a change leaves what was charged
 quota_used-left : (change : PlannedChange) (state : State) → (changed change state).quota_used ≡ state.quota_used
 quota_used-left (People change) state = refl
 quota_used-left (Datasets change) state = refl
 quota_used-left (Tables change) state = refl
+quota_used-left (Sources change) state = refl
 
 -- the caller sees of the changed state what it sees of its view with the change made in it
 changed-there : (change : PlannedChange) (call : Call) (state : State) → IsValid state
@@ -190,6 +193,7 @@ changed-there : (change : PlannedChange) (call : Call) (state : State) → IsVal
     → view_of call.caller (changed change (view_of call.caller state)) ≡ view_of call.caller (changed change state)
 changed-there change call state valid fit unused =
     changed-seen change call.caller state valid.people.roles valid.datasets valid.tables.ascending
+    valid.sources.ascending
     (λ d within. list_all-IsIn is_public_if_harvested state.datasets (harvested_open state valid) d within)
     (own change call state valid fit unused)
 

@@ -33,6 +33,7 @@ use Rattle.org_roles.specs.declared.role.Role.{Role}
 use Rattle.org_roles.proofs.ChangeLemmas.{AreSorted-changed, RolesHaveOrgs-changed, org_in-without_org_other}
 use Rattle.org_roles.proofs.ChangeLemmas.{org_exists-with_org}
 use Rattle.org_roles.proofs.PeopleLemmas.{AreSorted-ascending}
+use Rattle.packages.proofs.FindLemmas.{IsIn-map}
 use Rattle.packages.specs.Order.{dataset_cmp, dataset_cmp_total}
 use Rattle.packages.specs.declared.package.Package.{Package}
 use Rattle.dataset_answers.specs.Changed.{dataset_at_id, has_id, has_name}
@@ -54,24 +55,39 @@ use Rattle.datastore_answers.specs.Order.{at_address, is_at, table_cmp}
 use Rattle.datastore_answers.specs.Tables.{tables_kept}
 use Rattle.datastore_answers.specs.declared.address.Address.{Address}
 use Rattle.datastore_answers.specs.declared.resource_table.ResourceTable.{ResourceTable}
+use Rattle.harvest_answers.specs.Fit.{IsFitSource}
+use Rattle.harvest_sources.specs.Entries.{source_fault}
+use Rattle.harvest_sources.specs.Sources.{HasItsJobs, SourceState}
+use Rattle.harvest_sources.specs.declared.change.SourceChange.{SourceChange}
+use Rattle.harvest_sources.specs.declared.change.SourceChange.TheVariants as source
+use Rattle.harvest_sources.specs.declared.change.StageFault.{StageFault}
+use Rattle.harvest_sources.specs.declared.change.StageFault.TheVariants.{SourceNameInUse}
+use Rattle.harvest_stages.specs.Ready.{IsNamed}
 use Rattle.organization_answers.specs.Fit.{IsFitOrg}
+use Rattle.organization_answers.specs.Owners.{owners_of}
 use Rattle.packages.specs.declared.package.Resource.{Resource}
 use Rattle.visibility.specs.TableSummary.{is_among, breaks_references}
 use Rattle.portal_calls.specs.declared.call.Call.{Call}
 use Rattle.visibility.specs.Visibility.{is_harvested, is_public_if_harvested, is_public}
 use Rattle.portal_core.specs.Answer.{call_view_of}
-use Rattle.portal_core.specs.Planned.{PlannedChange, People, Datasets, Tables, claims_of}
+use Rattle.portal_core.specs.Planned.{PlannedChange, People, Datasets, Tables, Sources, claims_of}
 use Rattle.portal_core.specs.Changed.{AreUnused, changed, charged, is_in_use}
 use Rattle.portal_core.specs.Fit.{IsFit}
 use Rattle.portal_core.specs.Opened.{opened, is_opening}
+use Rattle.portal_core.specs.Parts.{IsTakenBySources}
 use Rattle.portal_core.specs.State.{State, quota_used_cmp, quota_used_cmp_total, accepted_bytes_of_user}
 use Rattle.portal_core.proofs.Fitting.{fit_in_state}
 use Rattle.portal_core.proofs.Kept.{All-mapped, IsIn-slice_get, unique-at}
+use Rattle.portal_core.proofs.SourceKeeping.{AddsOwner, HasOwner, owners-kept, sources-kept}
 use Rattle.portal_core.proofs.TableViewing.{any-among, made-address}
 use Rattle.portal_core.specs.Valid.{HasHome, IsValid}
 use Rattle.portal_core.specs.View.{view_of}
-use Rattle.portal_core.specs.declared.change.Claim.TheVariants.{OrgName, DatasetName, DatasetId}
+use Rattle.portal_core.specs.declared.change.Claim.TheVariants.{OrgName, DatasetName, DatasetId, SourceName}
 use Rattle.portal_core.specs.declared.opening.Opening.{Opening}
+
+-- the source's organization exists
+abbrev IsOwned : PeopleLists → SourceState → Type 0
+IsOwned people s = HasOwner (OrgExists people) s
 
 -- ---- what a portal is opened with
 
@@ -119,6 +135,12 @@ opened_valid opening fit =
       sound = All-nil (IsSound (opened opening).people);
       tables = each-kept [] tt (λ t m. absurd m);
       homes = All-nil (HasHome []);
+      sources = record {
+        ascending = tt;
+        named = All-nil (λ (s : SourceState). s.source.name ≢ []);
+        jobs = All-nil HasItsJobs;
+      };
+      owners = All-nil (IsOwned (opened opening).people);
       quota_used = tt;
     }
 
@@ -158,8 +180,8 @@ free_name None is = refl
 free_name (Some org) is = absurd (cc)
 
 -- a change that is fit, and claims nothing that is in use, is refused for nothing
-pub unfaulted : (change : OrgChange) (call : Call) (state : State) → IsFitOrg (call_view_of call state) change
-    → AreUnused state (claims_of (People change)) → is_none (org_fault change state.people) ≡ true
+pub unfaulted : (change : OrgChange) (call : Call) (state : State)
+    → IsFitOrg (call_view_of call state) (owners_of state.sources) change → AreUnused state (claims_of (People change)) → is_none (org_fault change state.people) ≡ true
 unfaulted (Create org) call state fit unused =
     free_name (org_in state.people org.name) (first_unused (is_in_use state) (OrgName org.name) [] unused).0
 unfaulted (Patch org) call state fit unused = stands_and (org_in state.people org.name) None fit.exists refl
@@ -194,7 +216,7 @@ named-present people name named stands =
 
 -- the name of every organization that is set isn't empty
 orgs-named : (change : OrgChange) (call : Call) (state : State) → All (λ o. o.name ≢ []) state.people.orgs
-    → IsFitOrg (call_view_of call state) change → All (λ o. o.name ≢ []) (changed_people change state.people).orgs
+    → IsFitOrg (call_view_of call state) (owners_of state.sources) change → All (λ o. o.name ≢ []) (changed_people change state.people).orgs
 orgs-named (Create org) call state named fit =
     All-upserted (λ (o : Org). o.name ≢ []) org_cmp org state.people.orgs fit.named named
 orgs-named (Patch org) call state named fit =
@@ -212,22 +234,47 @@ none_passes test z [] none m = absurd m
 none_passes test z (x ∷ xs) none (inl e) = ap test e ∙ (both_false (test x) (list_any test xs) none).0
 none_passes test z (x ∷ xs) none (inr m) = none_passes test z xs (both_false (test x) (list_any test xs) none).1 m
 
--- the organizations of datasets exist after the change
-home-left : (change : OrgChange) (call : Call) (state : State) (d : Package) → IsIn d state.datasets
-    → IsFitOrg (call_view_of call state) change → OrgExists state.people d.owner_org
-    → OrgExists (changed_people change state.people) d.owner_org
-home-left (Create org) call state d within fit stands = org_exists-with_org org state.people d.owner_org stands
-home-left (Patch org) call state d within fit stands = org_exists-with_org org state.people d.owner_org stands
-home-left (Remove name) call state d within fit stands =
+-- the change doesn't remove that organization
+abbrev Spares : OrgChange → List ℕ → Type 0
+Spares (Create org) owner = Unit {0}
+Spares (Patch org) owner = Unit {0}
+Spares (Remove name) owner = bytes_eq owner name ≡ false
+Spares (SetRole org user role) owner = Unit {0}
+Spares (DropRole org user) owner = Unit {0}
+
+-- an organization that isn't removed exists after the change
+owner-left : (change : OrgChange) (people : PeopleLists) (owner : List ℕ) → Spares change owner
+    → OrgExists people owner → OrgExists (changed_people change people) owner
+owner-left (Create org) people owner spared stands = org_exists-with_org org people owner stands
+owner-left (Patch org) people owner spared stands = org_exists-with_org org people owner stands
+owner-left (Remove name) people owner spared stands =
     ap (λ (o : Option Org). is_some o)
-    (org_in-without_org_other state.people name d.owner_org
-    (λ is. let own : bytes_eq d.owner_org name ≡ true = (bytes_eq-Decides d.owner_org name).1 is in
-    let other : bytes_eq d.owner_org name ≡ false =
-    none_passes (λ (e : Package). bytes_eq e.owner_org name) d state.datasets fit.empty within in
-    cc))
+    (org_in-without_org_other people name owner
+    (λ is. let own : bytes_eq owner name ≡ true = (bytes_eq-Decides owner name).1 is in cc))
     ∙ stands
-home-left (SetRole org user role) call state d within fit stands = stands
-home-left (DropRole org user) call state d within fit stands = stands
+owner-left (SetRole org user role) people owner spared stands = stands
+owner-left (DropRole org user) people owner spared stands = stands
+
+-- the organizations of datasets aren't removed,
+home-spared : (change : OrgChange) (call : Call) (state : State) (d : Package) → IsIn d state.datasets
+    → IsFitOrg (call_view_of call state) (owners_of state.sources) change → Spares change d.owner_org
+home-spared (Create org) call state d within fit = tt
+home-spared (Patch org) call state d within fit = tt
+home-spared (Remove name) call state d within fit =
+    none_passes (λ (e : Package). bytes_eq e.owner_org name) d state.datasets fit.empty within
+home-spared (SetRole org user role) call state d within fit = tt
+home-spared (DropRole org user) call state d within fit = tt
+
+-- nor are those of sources
+owner-spared : (change : OrgChange) (call : Call) (state : State) (s : SourceState) → IsIn s state.sources
+    → IsFitOrg (call_view_of call state) (owners_of state.sources) change → Spares change s.source.owner_org
+owner-spared (Create org) call state s within fit = tt
+owner-spared (Patch org) call state s within fit = tt
+owner-spared (Remove name) call state s within fit =
+    none_passes (λ (owner : List ℕ). bytes_eq owner name) s.source.owner_org (owners_of state.sources) fit.unharvested
+    (IsIn-map (λ (t : SourceState). t.source.owner_org) s state.sources within)
+owner-spared (SetRole org user role) call state s within fit = tt
+owner-spared (DropRole org user) call state s within fit = tt
 
 at-home : (people : PeopleLists) (d : Package) (was : PeopleLists) → IsSound was d → OrgExists people d.owner_org
     → IsSound people d
@@ -241,7 +288,7 @@ at-home people d was is stands = record {
 }
 
 people-valid : (change : OrgChange) (call : Call) (state : State) → IsValid state
-    → IsFitOrg (call_view_of call state) change → AreUnused state (claims_of (People change))
+    → IsFitOrg (call_view_of call state) (owners_of state.sources) change → AreUnused state (claims_of (People change))
     → IsValid (changed (People change) state)
 people-valid change call state valid fit unused = record {
   people = AreSorted-changed change state.people valid.people;
@@ -253,9 +300,13 @@ people-valid change call state valid fit unused = record {
       (λ d within. let was : IsSound state.people d =
       All-IsIn (IsSound state.people) state.datasets valid.sound d within in
       at-home (changed_people change state.people) d state.people was
-      (home-left change call state d within fit was.org));
+      (owner-left change state.people d.owner_org (home-spared change call state d within fit) was.org));
   tables = valid.tables;
   homes = valid.homes;
+  sources = valid.sources;
+  owners = All-each (IsOwned (changed_people change state.people)) state.sources
+      (λ s within. owner-left change state.people s.source.owner_org (owner-spared change call state s within fit)
+      (All-IsIn (IsOwned state.people) state.sources valid.owners s within));
   quota_used = valid.quota_used;
 }
 
@@ -302,6 +353,8 @@ placed-valid d tables state valid sound free kept homes = record {
   sound = All-upserted (IsSound state.people) dataset_cmp d state.datasets sound valid.sound;
   tables = kept;
   homes = homes;
+  sources = valid.sources;
+  owners = valid.owners;
   quota_used = valid.quota_used;
 }
 
@@ -451,6 +504,8 @@ datasets-valid (dataset.Remove id) call state valid fit unused = record {
   sound = All-dropped (IsSound state.people) (dataset_at_id id) state.datasets valid.sound;
   tables = drops-kept state.tables id [] valid.tables (none-breaks_reference state.tables id);
   homes = left-homes id state valid;
+  sources = valid.sources;
+  owners = valid.owners;
   quota_used = valid.quota_used;
 }
 
@@ -508,6 +563,64 @@ tables-valid change call state valid fit = record {
   sound = valid.sound;
   tables = fit-kept (call_view_of call state) state.tables change valid.tables fit;
   homes = tables-homes change call state valid fit;
+  sources = valid.sources;
+  owners = valid.owners;
+  quota_used = valid.quota_used;
+}
+
+-- ---- sources that change
+
+-- a new source has a name
+new-named : (change : SourceChange) (call : Call) (state : State)
+    → IsFitSource (call_view_of call state) state.sources change → IsNamed change
+new-named (source.Create new) call state fit = fit.named
+new-named (source.Update name title url) call state fit = tt
+new-named (source.Remove name) call state fit = tt
+new-named (source.AddJob name created) call state fit = tt
+
+-- and its organization exists
+new-owned : (change : SourceChange) (call : Call) (state : State)
+    → IsFitSource (call_view_of call state) state.sources change → AddsOwner (OrgExists state.people) change
+new-owned (source.Create new) call state fit = fit.owned
+new-owned (source.Update name title url) call state fit = tt
+new-owned (source.Remove name) call state fit = tt
+new-owned (source.AddJob name created) call state fit = tt
+
+-- A change that is fit, and claims nothing that is in use, has no fault.
+source-unfaulted : (change : SourceChange) (call : Call) (state : State)
+    → IsFitSource (call_view_of call state) state.sources change → AreUnused state (claims_of (Sources change))
+    → source_fault change state.sources ≡ None
+source-unfaulted (source.Create new) call state fit unused =
+    ap (λ (b : Bool). cond {A = Option StageFault} b (Some SourceNameInUse) None)
+    (first_unused (is_in_use state) (SourceName new.name) [] unused).0
+source-unfaulted (source.Update name title url) call state fit unused = fit.possible
+source-unfaulted (source.Remove name) call state fit unused = fit.possible
+source-unfaulted (source.AddJob name created) call state fit unused = fit.possible
+
+-- So the sources can take it.
+pub source-taken : (change : SourceChange) (call : Call) (state : State)
+    → IsFitSource (call_view_of call state) state.sources change → AreUnused state (claims_of (Sources change))
+    → IsTakenBySources change state.sources
+source-taken change call state fit unused = record {
+  named = new-named change call state fit;
+  allowed = ap is_none (source-unfaulted change call state fit unused);
+}
+
+sources-valid : (change : SourceChange) (call : Call) (state : State) → IsValid state
+    → IsFitSource (call_view_of call state) state.sources change → AreUnused state (claims_of (Sources change))
+    → IsValid (changed (Sources change) state)
+sources-valid change call state valid fit unused = record {
+  people = valid.people;
+  orgs = valid.orgs;
+  roles = valid.roles;
+  datasets = valid.datasets;
+  names = valid.names;
+  sound = valid.sound;
+  tables = valid.tables;
+  homes = valid.homes;
+  sources = sources-kept change state.sources valid.sources (new-named change call state fit)
+      (source-unfaulted change call state fit unused);
+  owners = owners-kept (OrgExists state.people) change state.sources (new-owned change call state fit) valid.owners;
   quota_used = valid.quota_used;
 }
 
@@ -518,6 +631,7 @@ pub changed_valid : (change : PlannedChange) (call : Call) (state : State) → I
 changed_valid (People change) call state valid fit unused = people-valid change call state valid fit unused
 changed_valid (Datasets change) call state valid fit unused = datasets-valid change call state valid fit unused
 changed_valid (Tables change) call state valid fit unused = tables-valid change call state valid fit
+changed_valid (Sources change) call state valid fit unused = sources-valid change call state valid fit unused
 
 pub charged_valid : (caller : Caller) (size : ℕ) (state : State) → IsValid state → IsValid (charged caller size state)
 charged_valid Anonymous size state valid = valid
@@ -530,6 +644,8 @@ charged_valid (Named user) size state valid = record {
   sound = valid.sound;
   tables = valid.tables;
   homes = valid.homes;
+  sources = valid.sources;
+  owners = valid.owners;
   quota_used = IsAscending-upserted quota_used_cmp quota_used_cmp_total
       (record { user = user; bytes = accepted_bytes_of_user user state.quota_used + size }) state.quota_used
       valid.quota_used;
@@ -549,4 +665,5 @@ harvested_open state valid =
 -- In a valid state what is fit on the caller's view is fit to be made.
 pub fit_in_valid : (change : PlannedChange) (call : Call) (state : State) → IsValid state
     → IsFit call (view_of call.caller state) change → IsFit call state change
-fit_in_valid change call state valid fit = fit_in_state change call state (harvested_open state valid) fit
+fit_in_valid change call state valid fit =
+    fit_in_state change call state (harvested_open state valid) valid.sources.ascending fit

@@ -1,12 +1,18 @@
--- Keys of rows: no two resources have the same id, and no two tables have a row of the same key.
+-- Keys of rows: no two resources have the same id, no two tables have a row of the same key, and no two jobs the same id.
 use Rattle.std.proofs.Common.{◌≡◌, ℕ, ◌+◌, ◌-◌, ◌%◌, ◌^◌, ◌<◌, ◌≤◌, List, [], ◌∷◌, ◌++◌, ◌⊎◌, inl, inr, refl}
 use Rattle.std.proofs.Common.{sym, ap, ap₂, subst, ◌∙◌, arith, length, append_assoc, codes, zero, suc}
 use Rattle.std.specs.Prelude.{decimal, replicate}
+use Rattle.std.specs.Cmp.{IsTotalOrder, nat_cmp_total}
+use Rattle.std.proofs.lemmas.Cmp.{on_total}
 use Rattle.std.proofs.lemmas.Fmt.{decimal_by_steps, decimal_injective}
 use Rattle.std.proofs.lemmas.List.{append_cancel_left}
+use Rattle.std.proofs.lemmas.Option.{same_Some}
 use Rattle.portal_base.proofs.Unique.{IsIn}
 use Rattle.datastore_answers.specs.declared.address.Address.{Address}
 use Rattle.datastore_query.proofs.SelectLemmas.{IsIn-either}
+use Rattle.harvest_sources.specs.Jobs.{job_cmp, job_id, split_job_id}
+use Rattle.harvest_sources.specs.declared.job.Job.{Job}
+use Rattle.harvest_sources.proofs.JobIds.{split_of_job_id}
 use Rattle.portal_rows.specs.TableRows.{row_key, twenty_digits}
 use Rattle.portal_core.specs.KeptRows.{resource_id}
 
@@ -94,3 +100,25 @@ same_resource one other m n small also same =
     before_last 47 one (twenty_digits m) other (twenty_digits n) (not_in_twenty 47 m (omega arith) small)
     (not_in_twenty 47 n (omega arith) also)
     (sym (append_assoc one (codes "/") (twenty_digits m)) ∙ same ∙ append_assoc other (codes "/") (twenty_digits n))
+
+-- ---- jobs
+
+-- The order of jobs is total.
+pub job_cmp_total : IsTotalOrder job_cmp
+job_cmp_total = on_total (λ (job : Job). job.number) nat_cmp_total
+
+-- the parts of two equal ids
+same_parts : (one other : List ℕ) (m n : ℕ) → job_id one m ≡ job_id other n
+    → ◌≡◌ {A = List ℕ × List ℕ} (one, decimal m) (other, decimal n)
+same_parts one other m n same =
+    same_Some (one, decimal m) (other, decimal n)
+    (sym (split_of_job_id one m) ∙ ap split_job_id same ∙ split_of_job_id other n)
+
+-- An id is of a job of one source.
+pub same_source : (one other : List ℕ) (m n : ℕ) → job_id one m ≡ job_id other n → one ≡ other
+same_source one other m n same = ap (λ (parts : List ℕ × List ℕ). parts.0) (same_parts one other m n same)
+
+-- Of the jobs of a source, it is of one.
+pub same_number : (one other : List ℕ) (m n : ℕ) → m < 2 ^ 64 → n < 2 ^ 64 → job_id one m ≡ job_id other n → m ≡ n
+same_number one other m n small also same =
+    decimal_injective m n small also (ap (λ (parts : List ℕ × List ℕ). parts.1) (same_parts one other m n same))

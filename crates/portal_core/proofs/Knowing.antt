@@ -28,6 +28,7 @@ use Rattle.portal_core.proofs.Changing.{same_state}
 use Rattle.portal_core.proofs.Disclosing.{names-same}
 use Rattle.portal_core.proofs.DropLemmas.{filter-none}
 use Rattle.portal_core.proofs.Kept.{filter-narrower}
+use Rattle.portal_core.proofs.SourceViews.{no-sources}
 use Rattle.portal_core.proofs.TableViewing.{among-narrower, own-id}
 use Rattle.portal_base.proofs.Filtered.{IsIn-filter, filter-IsIn}
 
@@ -163,6 +164,8 @@ nobodys-view caller state =
     (ap (λ (ds : List Package). tables_seen ds (view_of caller state).tables)
     (nobodys-datasets caller state.people state.datasets)
     ∙ nobodys-tables caller state.people state.datasets state.tables)
+    (no-sources (people_seen caller state.people) (view_of caller state).sources
+    ∙ sym (no-sources state.people state.sources))
     (no-quota (view_of caller state).quota_used ∙ sym (no-quota state.quota_used))
 
 -- ---- the caller as it is known

@@ -15,6 +15,7 @@ pub mod EffectiveChanges
 mod EntryExamples
 pub mod EntryLemmas
 pub mod Fitting
+pub mod HarvestValues
 pub mod Hiding
 pub mod Histories
 pub mod InOrder
@@ -23,6 +24,7 @@ pub mod Isolating
 pub mod Keeping
 pub mod Kept
 pub mod KeyLemmas
+pub mod KeyedSources
 pub mod Knowing
 pub mod LedgerLemmas
 pub mod MachineLemmas
@@ -43,6 +45,7 @@ pub mod RestoredHomes
 pub mod RestoredParts
 pub mod RestoredPeople
 pub mod RestoredRows
+pub mod RestoredSources
 pub mod RestoredTable
 pub mod RestoredTables
 pub mod RestoredTargets
@@ -50,10 +53,15 @@ pub mod RowBodies
 pub mod RowChanges
 mod RowExamples
 pub mod RowMembers
+pub mod RowParts
 pub mod SearchLemmas
 pub mod SearchSteps
 pub mod Settling
 pub mod Shelving
+pub mod SourceEntries
+pub mod SourceKeeping
+pub mod SourceRows
+pub mod SourceViews
 pub mod StateLemmas
 pub mod StoreLemmas
 pub mod TableEntries

@@ -1,8 +1,12 @@
--- Two states with the same rows agree in all that a store keeps of them: organizations, roles, datasets and tables.
+-- Two states with the same rows agree in all that a store keeps of them: organizations, roles, datasets and tables, and
+-- sources with their jobs, as far as no job runs.
 use Rattle.std.proofs.Common.{◌≡◌, ℕ, zero, suc, ◌==◌, ◌≤◌, ◌<◌, ◌^◌, Bool, true, false, ◌||◌, not, List, [], ◌∷◌}
-use Rattle.std.proofs.Common.{Some, map, slice_get, is_some, inl, inr, refl, sym, ap, ◌∙◌, subst, arith, ◌↔◌}
+use Rattle.std.proofs.Common.{◌++◌, Some, map, slice_get, is_some, inl, inr, refl, sym, ap, ap₂, ◌∙◌, subst, arith, ◌↔◌}
 use Rattle.std.specs.Prelude.{IsTrue, if◌then◌else◌}
 use Rattle.std.specs.Str.{bytes_eq}
+use Rattle.std.proofs.lemmas.List.Sorted.{IsPermutation-sym}
+use Rattle.std.proofs.lemmas.Option.{same_Some}
+use Rattle.std.proofs.lemmas.Simd.{map-map}
 use Rattle.std.proofs.lemmas.Slice.Eq.{bytes_eq-Decides}
 use Rattle.portal_base.specs.Ordered.{ascending}
 use Rattle.portal_base.proofs.Filtered.{IsIn-filter, filter-IsIn, is_some-find_any}
@@ -25,37 +29,50 @@ use Rattle.datastore_answers.specs.declared.address.Address.{Address}
 use Rattle.datastore_answers.specs.declared.resource_table.ResourceTable.{ResourceTable}
 use Rattle.datastore_answers.proofs.KeepLemmas.{number_is}
 use Rattle.datastore_answers.proofs.ReferenceLemmas.{kept-each}
+use Rattle.harvest_rows.specs.KeptHarvests.{kept_job_cmp, rows_of_harvests}
+use Rattle.harvest_rows.specs.declared.kept_harvests.KeptHarvests.{KeptHarvests}
+use Rattle.harvest_sources.specs.Sources.{SourceState}
+use Rattle.harvest_sources.specs.declared.source.HarvestSource.{HarvestSource}
+use Rattle.harvest_stages.specs.AtRest.{IsAtRest, all_jobs, at_rest}
+use Rattle.harvest_stages.specs.Restored.{restored}
+use Rattle.harvest_stages.proofs.PartLemmas.{IsPermutation-ascending, map-left}
+use Rattle.harvest_stages.proofs.RestLemmas.{all_rest, sources_rest}
+use Rattle.harvest_stages.proofs.RestoringLaws.{restored_again}
 use Rattle.portal_core.specs.PortalValue.{IsReopened, reopened}
 use Rattle.portal_core.specs.declared.opening.Opening.{Opening}
 use Rattle.portal_keeper.specs.declared.row.KeptRow.{KeptRow}
-use Rattle.portal_rows.specs.KeptValues.{IsKeptOf, kept_table_cmp, rows_of_values}
+use Rattle.portal_rows.specs.KeptValues.{kept_table_cmp, rows_of_values}
 use Rattle.portal_rows.specs.declared.kept_tables.KeptTable.{KeptTable}
 use Rattle.portal_rows.specs.declared.kept_values.KeptValues.{KeptValues}
 use Rattle.portal_rows.specs.declared.org_reading.OrgWithRoles.{OrgWithRoles}
 use Rattle.portal_rows.proofs.MemberLemmas.{same_made}
-use Rattle.portal_rows.proofs.SameLemmas.{same_values}
 use Rattle.portal_core.specs.KeptRows.{kept_rows, row_target}
 use Rattle.portal_core.specs.State.{State}
 use Rattle.portal_core.specs.Typed.{IsTyped}
 use Rattle.portal_core.specs.Valid.{HasHome, IsValid}
-use Rattle.portal_core.specs.Values.{IsStateOf, kept_table, values_of, with_roles}
+use Rattle.portal_core.specs.Values.{AreRowsOf, IsStateOf, harvests_of, kept_table, values_of, with_roles}
 use Rattle.portal_core.proofs.KeyLemmas.{same_address}
+use Rattle.portal_core.proofs.RowParts.{same-both}
 use Rattle.portal_core.proofs.TableViewing.{any-is}
-use Rattle.portal_core.proofs.Values.{rows_of_values-kept, values-kept}
+use Rattle.portal_core.proofs.Values.{values-rows, rows_of_values-kept}
 
 -- ---- the values are the same
 
 -- The rows of a state are those of its values.
-pub of_values : (rows : List KeptRow) (state : State) → IsStateOf rows state → IsKeptOf (values_of state) rows
-of_values rows state is = (
-  values-kept state is.valid is.typed,
-  rows_of_values-kept state is.valid is.typed ∙ is.kept,
-)
+pub of_values : (rows : List KeptRow) (state : State) → IsStateOf rows state
+    → AreRowsOf (values_of state) (harvests_of state) rows
+of_values rows state is =
+    subst (AreRowsOf (values_of state) (harvests_of state)) is.kept (values-rows state is.valid is.typed)
+
+same-both_of : (rows : List KeptRow) (one other : State) → IsStateOf rows one → IsStateOf rows other
+    → (values_of one ≡ values_of other) × (harvests_of one ≡ harvests_of other)
+same-both_of rows one other is also =
+    same-both rows (values_of one) (values_of other) (harvests_of one) (harvests_of other) (of_values rows one is)
+    (of_values rows other also)
 
 pub same-values_of : (rows : List KeptRow) (one other : State) → IsStateOf rows one → IsStateOf rows other
     → values_of one ≡ values_of other
-same-values_of rows one other is also =
-    same_values (values_of one) (values_of other) rows (of_values rows one is) (of_values rows other also)
+same-values_of rows one other is also = (same-both_of rows one other is also).0
 
 -- ---- organizations and datasets
 
@@ -225,27 +242,54 @@ same-tables rows one other is also =
     unique table_cmp table_cmp_total one.tables other.tables is.valid.tables.ascending also.valid.tables.ascending
     (table-in rows one other is also) (table-in rows other one also is)
 
+-- ---- sources and jobs
+
+-- What a state keeps of its sources and jobs is restored as its sources at rest.
+restored-at_rest : (state : State) → IsValid state
+    → restored (harvests_of state).sources (harvests_of state).jobs ≡ Some (map at_rest state.sources)
+restored-at_rest state valid =
+    let rested : List SourceState = map at_rest state.sources in
+    ap (λ (sources : List HarvestSource). restored sources (harvests_of state).jobs)
+    (sym (map-map (λ (s : SourceState). s.source) at_rest state.sources))
+    ∙ restored_again rested (ascending kept_job_cmp (all_jobs rested)) (sources_rest state.sources valid.sources)
+    (all_rest state.sources)
+    (IsPermutation-sym (all_jobs rested) (ascending kept_job_cmp (all_jobs rested))
+    (IsPermutation-ascending kept_job_cmp (all_jobs rested)))
+
+pub same-sources : (rows : List KeptRow) (one other : State) → IsStateOf rows one → IsStateOf rows other
+    → map at_rest one.sources ≡ map at_rest other.sources
+same-sources rows one other is also =
+    same_Some (map at_rest one.sources) (map at_rest other.sources)
+    (sym (restored-at_rest one is.valid)
+    ∙ ap (λ (h : KeptHarvests). restored h.sources h.jobs) (same-both_of rows one other is also).1
+    ∙ restored-at_rest other also.valid)
+
 -- ---- states of given values
 
 -- Of rows that are those of values, the states are the valid ones with these values.
-pub known-state : (rows : List KeptRow) (values : KeptValues) (state : State) → IsKeptOf values rows
-    → IsStateOf rows state ↔ ((values_of state ≡ values) × IsValid state × IsTyped state)
-known-state rows values state of = (
-  λ is. (same_values (values_of state) values rows (of_values rows state is) of, is.valid, is.typed),
+pub known-state : (rows : List KeptRow) (values : KeptValues) (harvests : KeptHarvests) (state : State)
+    → AreRowsOf values harvests rows
+    → IsStateOf rows state
+    ↔ ((values_of state ≡ values) × (harvests_of state ≡ harvests) × IsValid state × IsTyped state)
+known-state rows values harvests state of = (
+  λ is. let same = same-both rows (values_of state) values (harvests_of state) harvests (of_values rows state is) of in
+      (same.0, same.1, is.valid, is.typed),
   λ is. record {
-    valid = is.1;
-    typed = is.2;
-    kept = sym (rows_of_values-kept state is.1 is.2) ∙ ap rows_of_values is.0 ∙ of.1;
+    valid = is.2;
+    typed = is.3;
+    kept = sym (rows_of_values-kept state is.2 is.3)
+        ∙ ap₂ (λ (v : KeptValues) (h : KeptHarvests). rows_of_values v ++ rows_of_harvests h) is.0 is.1
+        ∙ of.same;
   },
 )
 
 pub known-rows : (rows : List KeptRow)
     → ((state : State) × IsStateOf rows state)
-    ↔ ((values : KeptValues) × (state : State) × IsKeptOf values rows × (values_of state ≡ values) × IsValid state
-    × IsTyped state)
+    ↔ ((values : KeptValues) × (harvests : KeptHarvests) × (state : State) × AreRowsOf values harvests rows
+    × (values_of state ≡ values) × (harvests_of state ≡ harvests) × IsValid state × IsTyped state)
 known-rows rows = (
-  λ s. (values_of s.0, s.0, of_values rows s.0 s.1, refl, s.1.valid, s.1.typed),
-  λ w. (w.1, (known-state rows w.0 w.1 w.2).1 (w.3, w.4, w.5)),
+  λ s. (values_of s.0, harvests_of s.0, s.0, of_values rows s.0 s.1, refl, refl, s.1.valid, s.1.typed),
+  λ w. (w.2, (known-state rows w.0 w.1 w.2 w.3).1 (w.4, w.5, w.6, w.7)),
 )
 
 -- ---- a state that is opened again
@@ -258,9 +302,13 @@ opened_again opening state again valid typed is =
     let roles = same-roles (kept_rows state) again state is.of_rows kept in
     let datasets = same-datasets (kept_rows state) again state is.of_rows kept in
     let tables = same-tables (kept_rows state) again state is.of_rows kept in
+    let sources : again.sources ≡ map at_rest state.sources =
+    sym (map-left at_rest again.sources (All-IsIn IsAtRest again.sources is.rest))
+    ∙ same-sources (kept_rows state) again state is.of_rows kept in
     λ i. record {
       people = record { users = is.users i; orgs = orgs i; roles = roles i };
       datasets = datasets i;
       tables = tables i;
+      sources = sources i;
       quota_used = is.unused i;
     }

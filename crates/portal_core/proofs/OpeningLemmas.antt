@@ -1,12 +1,14 @@
 -- The rows of an opening: the changes that put them, one after the other, leave them in order.
 use Rattle.std.proofs.Common.{◌≡◌, cond, List, [], ◌∷◌, ◌++◌, Option, Some, None, map, append_assoc}
-use Rattle.std.proofs.Common.{append-nil, arith, inl, inr, refl, sym, ap, ◌∙◌, subst}
+use Rattle.std.proofs.Common.{◌<◌, ◌^◌, All, append-nil, arith, inl, inr, refl, sym, ap, ◌∙◌, subst}
 use Rattle.std.specs.List.{flat_map}
 use Rattle.std.specs.Prelude.{Err, IfSome, Ok, OnErr, Result, not}
 use Rattle.std.specs.Ordering.{is_eq, is_lt}
 use Rattle.std.specs.declared.cmp.Ordering.{Ordering}
 use Rattle.std.specs.declared.cmp.Ordering.TheVariants.{Less}
 use Rattle.datastore_answers.specs.declared.resource_table.ResourceTable.{ResourceTable}
+use Rattle.harvest_rows.specs.Rows.{job_rows, source_rows}
+use Rattle.harvest_sources.specs.Sources.{SourceState}
 use Rattle.packages.specs.declared.package.Package.{Package}
 use Rattle.portal_base.proofs.Unique.{IsIn}
 use Rattle.portal_base.proofs.Upserted.{ascending-same}
@@ -31,6 +33,7 @@ use Rattle.portal_core.specs.declared.opening.Opening.{Opening}
 use Rattle.portal_core.specs.declared.parts.Parts.{Parts}
 use Rattle.portal_core.proofs.InOrder.{org-kind}
 use Rattle.portal_core.proofs.StoreLemmas.{shown_changed, shown_kept}
+use Rattle.portal_core.proofs.Values.{typed-sized}
 
 -- ---- an item after all others
 
@@ -93,10 +96,14 @@ below_version people =
 people-in_order : (people : PeopleLists) → AreSorted people → AreInOrder (version_row ∷ org_rows people)
 people-in_order people sorted = (below_version people, org_rows-in_order people sorted)
 
+-- the rows of sources and jobs
+abbrev harvest_rows : List SourceState → List KeptRow
+harvest_rows sources = source_rows sources ++ job_rows sources
+
 -- The changes that put the rows of people, where there is no other row, leave the rows of a state with nothing else.
-pub puts-kept : (state : State) → AreSorted state.people → state.datasets ≡ [] → state.tables ≡ []
+pub puts-kept : (state : State) → AreSorted state.people → state.datasets ≡ [] → state.tables ≡ [] → state.sources ≡ []
     → rows_after (map Put (version_row ∷ org_rows state.people)) [] ≡ kept_rows state
-puts-kept state sorted no_dataset no_table =
+puts-kept state sorted no_dataset no_table no_source =
     puts-after (version_row ∷ org_rows state.people) [] (people-in_order state.people sorted)
     ∙ sym (ascending-same row_cmp row_cmp_total (version_row ∷ org_rows state.people) (people-in_order state.people sorted))
     ∙ ap (ascending row_cmp) (sym listed)
@@ -104,8 +111,10 @@ puts-kept state sorted no_dataset no_table =
     listed : listed_rows state ≡ version_row ∷ org_rows state.people
     listed =
         ap (λ (ds : List Package). version_row ∷ (org_rows state.people
-        ++ (map dataset_row ds ++ flat_map table_rows state.tables))) no_dataset
-        ∙ ap (λ (ts : List ResourceTable). version_row ∷ (org_rows state.people ++ ([] ++ flat_map table_rows ts))) no_table
+        ++ (map dataset_row ds ++ (flat_map table_rows state.tables ++ harvest_rows state.sources)))) no_dataset
+        ∙ ap (λ (ts : List ResourceTable). version_row
+        ∷ (org_rows state.people ++ (flat_map table_rows ts ++ harvest_rows state.sources))) no_table
+        ∙ ap (λ (ss : List SourceState). version_row ∷ (org_rows state.people ++ harvest_rows ss)) no_source
         ∙ ap (λ (rows : List KeptRow). version_row ∷ rows) (append-nil (org_rows state.people))
 
 no_tables : (tables : List ResourceTable) → tables ≡ [] → AreSized tables
@@ -113,6 +122,11 @@ no_tables tables none = subst AreSized (sym none) (record {
   numbers = λ k t below. absurd (omega (arith, below));
   next_ids = λ k t below. absurd (omega (arith, below));
 })
+
+no_sources : (sources : List SourceState) → sources ≡ []
+    → All (λ (s : SourceState). s.source.next_job < 2 ^ 64) sources
+no_sources sources none =
+    subst (All (λ (s : SourceState). s.source.next_job < 2 ^ 64)) (sym none) (λ k s below. absurd (omega (arith, below)))
 
 -- ---- openings
 
@@ -123,11 +137,15 @@ pub begun_kept : (opening : Opening) (parts : Parts) (old new : Option (List Kep
 begun_kept opening parts old new consistent is none made =
     let no_dataset : (state_of parts).datasets ≡ [] = ap (λ (s : State). s.datasets) is in
     let no_table : (state_of parts).tables ≡ [] = ap (λ (s : State). s.tables) is in
+    let no_source : (state_of parts).sources ≡ [] = ap (λ (s : State). s.sources) is in
     record {
       consistent = consistent;
-      sized = no_tables (state_of parts).tables no_table;
+      sized = record {
+        tables = no_tables (state_of parts).tables no_table;
+        next_jobs = no_sources (state_of parts).sources no_source;
+      };
       kept = shown_changed old new (map Put (version_row ∷ org_rows parts.people.people)) [] (kept_rows (state_of parts))
-          none made (puts-kept (state_of parts) consistent.valid.people no_dataset no_table);
+          none made (puts-kept (state_of parts) consistent.valid.people no_dataset no_table no_source);
     }
 
 -- The parts of a state whose rows the keeper has.
@@ -135,7 +153,7 @@ pub resumed_kept : (opening : Opening) (parts : Parts) (rows : List KeptRow) (ne
     → IsConsistent parts → IsReopened opening rows (state_of parts) → Shows new rows → AreKept new parts
 resumed_kept opening parts rows new consistent reopened shown = record {
   consistent = consistent;
-  sized = reopened.of_rows.typed.tables;
+  sized = typed-sized (state_of parts) reopened.of_rows.typed;
   kept = by new shown;
 }
   where

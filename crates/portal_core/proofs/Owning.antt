@@ -1,5 +1,5 @@
 -- Each entry of an accepted change is the caller's own to make.
-use Rattle.std.proofs.Common.{◌≡◌, ℕ, Bool, true, not, ◌||◌, List, [], ◌∷◌, map, Option, Some, None}
+use Rattle.std.proofs.Common.{◌≡◌, ℕ, ℤ, ◌+◌, Bool, true, not, ◌||◌, List, [], ◌∷◌, ◌++◌, map, Option, Some, None}
 use Rattle.std.proofs.Common.{Result, Ok, Err, refl, sym, ap, ◌∙◌, subst, inl, inr}
 use Rattle.std.specs.List.{All, flat_map}
 use Rattle.std.specs.Str.{bytes_eq}
@@ -9,7 +9,7 @@ use Rattle.portal_base.specs.declared.caller.Caller.{Caller}
 use Rattle.portal_base.specs.declared.json_value.Json.{Json}
 use Rattle.portal_base.specs.Ordered.{found}
 use Rattle.portal_base.proofs.Filtered.{IsIn-filter}
-use Rattle.portal_base.proofs.Unique.{IsIn}
+use Rattle.portal_base.proofs.Unique.{IsIn, Contains-IsIn}
 use Rattle.portal_base.proofs.Upserted.{All-each}
 use Rattle.org_roles.specs.declared.change.OrgChange.{OrgChange}
 use Rattle.org_roles.specs.declared.change.OrgChange.TheVariants as org
@@ -34,18 +34,29 @@ use Rattle.datastore_answers.specs.declared.address.Address.{Address}
 use Rattle.datastore_answers.specs.declared.resource_table.ResourceTable.{ResourceTable}
 use Rattle.datastore_answers.proofs.KeepLemmas.{at-is}
 use Rattle.datastore_answers.proofs.TableLemmas.{there-at}
+use Rattle.harvest_answers.specs.Fit.{IsFitSource}
+use Rattle.harvest_sources.specs.Entries.{DropJob, DropSource, PutJob, PutSource, added_job, job_drops}
+use Rattle.harvest_sources.specs.Entries.{fault_if_open, updated_source}
+use Rattle.harvest_sources.specs.Jobs.{new_job}
+use Rattle.harvest_sources.specs.Sources.{SourceState, source_named}
+use Rattle.harvest_sources.specs.declared.change.SourceChange.{SourceChange}
+use Rattle.harvest_sources.specs.declared.change.SourceChange.TheVariants as source
+use Rattle.harvest_sources.specs.declared.job.Job.{Job}
 use Rattle.organization_answers.specs.Fit.{IsFitOrg}
+use Rattle.organization_answers.specs.Owners.{owners_of}
+use Rattle.packages.proofs.FindLemmas.{IsIn-find}
 use Rattle.portal_calls.specs.declared.answer.Answer.TheVariants.{Accepted}
 use Rattle.portal_calls.specs.declared.call.Call.{Call}
 use Rattle.portal_core.specs.Answer.{answer_to, call_view_of}
 use Rattle.portal_core.specs.Change.{Change}
-use Rattle.portal_core.specs.Entries.{Entry, DropDataset, DropOrg, DropRow, DropTable, EditDataset, PutRow, PutTable}
+use Rattle.portal_core.specs.Entries.{Entry, DropDataset, DropOrg, DropRow, DropTable, EditDataset, OfSources, PutRow}
+use Rattle.portal_core.specs.Entries.{PutTable}
 use Rattle.portal_core.specs.EntriesOf.{drop_of_role, drops_of, drops_of_table, entries_of_batch, entries_of_datasets}
-use Rattle.portal_core.specs.EntriesOf.{entries_of_people, entries_of_tables, head_of, head_with, ids_of, is_gone}
+use Rattle.portal_core.specs.EntriesOf.{entries_of_people, entries_of_sources, entries_of_tables, head_of, head_with, ids_of, is_gone}
 use Rattle.portal_core.specs.EntriesOf.{puts_of, roles_in, rows_written, tables_gone}
 use Rattle.portal_core.specs.Fit.{IsFit}
-use Rattle.portal_core.specs.Own.{IsOwnDataset, IsOwnEntry}
-use Rattle.portal_core.specs.Planned.{PlannedChange, People, Datasets, Tables, entries_of}
+use Rattle.portal_core.specs.Own.{IsOwnDataset, IsOwnEntry, IsOwnSource}
+use Rattle.portal_core.specs.Planned.{PlannedChange, People, Datasets, Tables, Sources, entries_of}
 use Rattle.portal_core.specs.State.{State}
 use Rattle.portal_core.proofs.Answering.{accepted_fit}
 use Rattle.portal_core.proofs.Settling.{accepted-planned}
@@ -70,7 +81,7 @@ or_left a b is = ap (λ c. c || b) is
 
 -- ---- people
 
-own-people : (change : OrgChange) (call : Call) (view : State) → IsFitOrg (call_view_of call view) change
+own-people : (change : OrgChange) (call : Call) (view : State) → IsFitOrg (call_view_of call view) (owners_of view.sources) change
     → AreOwn call.caller view (entries_of_people change view.people.roles)
 own-people (org.Create o) call view fit =
     alone call.caller view _ (or_left _ _ fit.sysadmin)
@@ -198,6 +209,81 @@ own-tables (table.Put address method records) call view fit =
 own-tables (table.DeleteRows address ids) call view fit =
     each call.caller view (DropRow address) ids (λ id within. own-table call view address fit.own)
 
+-- ---- sources
+
+-- the source of a name is the caller's own, where the caller administers its organization
+own-named_source : (caller : Caller) (view : State) (name : List ℕ) (s : SourceState)
+    → source_named view.sources name ≡ Some s → administers view.people caller s.source.owner_org ≡ true
+    → IsOwnSource caller view name
+own-named_source caller view name s is own =
+    let there = IsIn-find (λ (t : SourceState). bytes_eq t.source.name name) s view.sources is in
+    record {
+      source = s;
+      is_present = Contains-IsIn s view.sources there.0;
+      name = (bytes_eq-Decides s.source.name name).0 there.1;
+      own = own;
+    }
+
+-- and so it is by its own name
+own-itself : (caller : Caller) (view : State) (name : List ℕ) (s : SourceState)
+    → source_named view.sources name ≡ Some s → administers view.people caller s.source.owner_org ≡ true
+    → IsOwnSource caller view s.source.name
+own-itself caller view name s is own =
+    let its = own-named_source caller view name s is own in
+    let there = IsIn-find (λ (t : SourceState). bytes_eq t.source.name name) s view.sources is in
+    subst (IsOwnSource caller view) (sym ((bytes_eq-Decides s.source.name name).0 there.1)) its
+
+own-update : (caller : Caller) (view : State) (name title url : List ℕ) (there : Option SourceState)
+    → source_named view.sources name ≡ there
+    → ((s : SourceState) → source_named view.sources name ≡ Some s
+    → administers view.people caller s.source.owner_org ≡ true)
+    → AreOwn caller view (map OfSources (updated_source title url there))
+own-update caller view name title url None is own = All-nil (IsOwnEntry caller view)
+own-update caller view name title url (Some s) is own =
+    alone caller view (OfSources (PutSource (record s.source { title = title; url = url }))) (own s is)
+
+own-removal : (call : Call) (view : State) (name : List ℕ) (there : Option SourceState)
+    → source_named view.sources name ≡ there → IsOwnSource call.caller view name
+    → AreOwn call.caller view (map OfSources (job_drops name there ++ DropSource name ∷ []))
+own-removal call view name None is own = alone call.caller view (OfSources (DropSource name)) own
+own-removal call view name (Some s) is own = by s.jobs
+  where
+    by : (jobs : List Job)
+        → AreOwn call.caller view (map OfSources (map (λ job. DropJob name job.number) jobs ++ DropSource name ∷ []))
+    by [] = alone call.caller view (OfSources (DropSource name)) own
+    by (job ∷ jobs) =
+        All-cons (IsOwnEntry call.caller view) (OfSources (DropJob name job.number))
+        (map OfSources (map (λ job. DropJob name job.number) jobs ++ DropSource name ∷ [])) own (by jobs)
+
+own-job : (caller : Caller) (view : State) (name : List ℕ) (created : ℤ) (there : Option SourceState)
+    → source_named view.sources name ≡ there
+    → ((s : SourceState) → source_named view.sources name ≡ Some s
+    → administers view.people caller s.source.owner_org ≡ true)
+    → AreOwn caller view (map OfSources (added_job created there))
+own-job caller view name created None is own = All-nil (IsOwnEntry caller view)
+own-job caller view name created (Some s) is own =
+    All-cons (IsOwnEntry caller view) (OfSources (PutSource (record s.source { next_job = s.source.next_job + 1 })))
+    (OfSources (PutJob (new_job s.source.name s.source.next_job created)) ∷ []) (own s is)
+    (alone caller view (OfSources (PutJob (new_job s.source.name s.source.next_job created)))
+    (own-itself caller view name s is (own s is)))
+
+own-sources : (change : SourceChange) (call : Call) (view : State)
+    → IsFitSource (call_view_of call view) view.sources change
+    → AreOwn call.caller view (entries_of_sources change view.sources)
+own-sources (source.Create new) call view fit = alone call.caller view (OfSources (PutSource new)) fit.administered
+own-sources (source.Update name title url) call view fit =
+    own-update call.caller view name title url (source_named view.sources name) refl fit.administered
+own-sources (source.Remove name) call view fit = by (source_named view.sources name) refl
+  where
+    by : (o : Option SourceState) → source_named view.sources name ≡ o
+        → AreOwn call.caller view (entries_of_sources (source.Remove name) view.sources)
+    by None is = let never : fault_if_open None ≡ None = sym (ap fault_if_open is) ∙ fit.possible in absurd (cc)
+    by (Some s) is =
+        own-removal call view name (source_named view.sources name) refl
+        (own-named_source call.caller view name s is (fit.administered s is))
+own-sources (source.AddJob name created) call view fit =
+    own-job call.caller view name created (source_named view.sources name) refl fit.administered
+
 -- ---- all changes
 
 own-entries : (planned : PlannedChange) (call : Call) (view : State) → IsFit call view planned
@@ -205,6 +291,7 @@ own-entries : (planned : PlannedChange) (call : Call) (view : State) → IsFit c
 own-entries (People change) call view fit = own-people change call view fit
 own-entries (Datasets change) call view fit = own-datasets change call view fit
 own-entries (Tables change) call view fit = own-tables change call view fit
+own-entries (Sources change) call view fit = own-sources change call view fit
 
 pub accepted-own : (call : Call) (view : State) (json : Json) (change : Change)
     → answer_to call view ≡ Accepted json change → All (IsOwnEntry call.caller view) change.entries

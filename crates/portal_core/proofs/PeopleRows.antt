@@ -19,6 +19,7 @@ use Rattle.org_roles.specs.declared.role.Role.TheVariants.{Member}
 use Rattle.org_roles.proofs.ChangeLemmas.{org_in-with_org, org_in-without_org}
 use Rattle.org_roles.proofs.PeopleLemmas.{is_eq-membership_cmp}
 use Rattle.organization_answers.specs.Fit.{IsFitOrg}
+use Rattle.organization_answers.specs.Owners.{owners_of}
 use Rattle.portal_calls.specs.declared.call.Call.{Call}
 use Rattle.portal_keeper.specs.Rows.{body_at}
 use Rattle.portal_keeper.specs.declared.change.Change.{Change}
@@ -31,7 +32,7 @@ use Rattle.portal_core.specs.Changed.{changed}
 use Rattle.portal_core.specs.ChangedRows.{changes_between, changes_of_people, org_body, org_body_with, org_changes}
 use Rattle.portal_core.specs.Entries.{DropOrg, DropRole, PutOrg, PutRole}
 use Rattle.portal_core.specs.EntriesOf.{drop_of_role, roles_in}
-use Rattle.portal_core.specs.KeptRows.{AreSized, kept_rows}
+use Rattle.portal_core.specs.KeptRows.{IsSized, kept_rows}
 use Rattle.portal_core.specs.Planned.{People}
 use Rattle.portal_core.specs.RowChanges.{planned_row_changes}
 use Rattle.portal_core.specs.State.{State}
@@ -121,10 +122,11 @@ is_there None is = absurd (cc)
 is_there (Some x) is = (x, refl)
 
 -- The row of an organization goes with the organization.
-removed : (name : List ℕ) (state : State) → IsValid state → AreSized state.tables
-    → IsValid (changed (People (org.Remove name)) state) → is_some (org_in state.people name) ≡ true
+removed : (name : List ℕ) (state : State) → IsValid state → IsSized state
+    → IsValid (changed (People (org.Remove name)) state) → IsSized (changed (People (org.Remove name)) state)
+    → is_some (org_in state.people name) ≡ true
     → planned_row_changes (People (org.Remove name)) state ≡ changes_of_people (org.Remove name) state.people
-removed name state valid sized also there =
+removed name state valid sized also also_sized there =
     changes_for-++ before after (map drop_of_role own) (DropOrg name ∷ [])
     ∙ ap₂ (λ (l m : List Change). l ++ m)
     (changes_for-map before after drop_of_role (λ role. Remove kind.Org role.org) own
@@ -160,30 +162,31 @@ removed name state valid sized also there =
 
     is : (n : List ℕ) → n ≡ name → body_at after kind.Org n ≡ None
     is n same =
-        body-org new also sized n
+        body-org new also also_sized n
         ∙ ap (org_body_with (memberships_in n new.people.roles))
         (ap (org_in new.people) same ∙ org_in-without_org state.people name)
 
-pub people-changes : (change : OrgChange) (call : Call) (state : State) → IsValid state → AreSized state.tables
-    → IsFitOrg (call_view_of call state) change → IsValid (changed (People change) state)
+pub people-changes : (change : OrgChange) (call : Call) (state : State) → IsValid state → IsSized state
+    → IsFitOrg (call_view_of call state) (owners_of state.sources) change → IsValid (changed (People change) state)
+    → IsSized (changed (People change) state)
     → planned_row_changes (People change) state ≡ changes_of_people change state.people
-people-changes (org.Create o) call state valid sized fit also =
+people-changes (org.Create o) call state valid sized fit also also_sized =
     changes_for-one (kept_rows state) (kept_rows (changed (People (org.Create o)) state)) (PutOrg o) _ _
     (body-org state valid sized o.name)
-    (body-org (changed (People (org.Create o)) state) also sized o.name)
-people-changes (org.Patch o) call state valid sized fit also =
+    (body-org (changed (People (org.Create o)) state) also also_sized o.name)
+people-changes (org.Patch o) call state valid sized fit also also_sized =
     changes_for-one (kept_rows state) (kept_rows (changed (People (org.Patch o)) state)) (PutOrg o) _ _
     (body-org state valid sized o.name)
-    (body-org (changed (People (org.Patch o)) state) also sized o.name)
-people-changes (org.Remove name) call state valid sized fit also =
-    removed name state valid sized also fit.own.exists
-people-changes (org.SetRole name user role) call state valid sized fit also =
+    (body-org (changed (People (org.Patch o)) state) also also_sized o.name)
+people-changes (org.Remove name) call state valid sized fit also also_sized =
+    removed name state valid sized also also_sized fit.own.exists
+people-changes (org.SetRole name user role) call state valid sized fit also also_sized =
     changes_for-one (kept_rows state) (kept_rows (changed (People (org.SetRole name user role)) state))
     (PutRole (record { org = name; user = user; role = role })) _ _
     (body-org state valid sized name)
-    (body-org (changed (People (org.SetRole name user role)) state) also sized name)
-people-changes (org.DropRole name user) call state valid sized fit also =
+    (body-org (changed (People (org.SetRole name user role)) state) also also_sized name)
+people-changes (org.DropRole name user) call state valid sized fit also also_sized =
     changes_for-one (kept_rows state) (kept_rows (changed (People (org.DropRole name user)) state))
     (DropRole name user) _ _
     (body-org state valid sized name)
-    (body-org (changed (People (org.DropRole name user)) state) also sized name)
+    (body-org (changed (People (org.DropRole name user)) state) also also_sized name)

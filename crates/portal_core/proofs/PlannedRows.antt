@@ -29,6 +29,7 @@ use Rattle.datastore_answers.specs.declared.resource_table.ResourceTable.{Resour
 use Rattle.datastore_answers.proofs.KeepLemmas.{found-in}
 use Rattle.datastore_table.specs.Put.{Worked, put_records}
 use Rattle.datastore_table.specs.declared.fault.TableFault.{TableFault}
+use Rattle.harvest_stages.specs.Stages.{sources_in}
 use Rattle.portal_calls.specs.declared.call.Call.{Call}
 use Rattle.portal_keeper.specs.Changed.{rows_after}
 use Rattle.portal_keeper.specs.Rows.{AreInOrder}
@@ -43,7 +44,7 @@ use Rattle.portal_core.specs.ChangedRows.{changes_of_plan, changes_of_tables, re
 use Rattle.portal_core.specs.ChangedRows.{removals_of_table, removals_unless}
 use Rattle.portal_core.specs.Entries.{state_after}
 use Rattle.portal_core.specs.Fit.{IsFit}
-use Rattle.portal_core.specs.KeptRows.{AreSized, kept_rows}
+use Rattle.portal_core.specs.KeptRows.{AreSized, IsSized, kept_rows}
 use Rattle.portal_core.specs.Parts.{IsConsistent, IsPlanned, state_of}
 use Rattle.portal_core.specs.Planned.{PlannedChange, Tables, claims_of, entries_of, planned_of}
 use Rattle.portal_core.specs.RowChanges.{effective_changes, planned_row_changes, row_changes}
@@ -59,12 +60,13 @@ use Rattle.portal_core.proofs.EffectiveChanges.{none-effective, rows_after-effec
 use Rattle.portal_core.proofs.InOrder.{kept_rows-in_order}
 use Rattle.portal_core.proofs.Keeping.{changed_valid}
 use Rattle.portal_core.proofs.PeopleRows.{people-changes}
+use Rattle.portal_core.proofs.SourceRows.{small-after, source-changes}
 use Rattle.portal_core.proofs.TableRows.{batch-changes, created, deleted-changes, dropped-table, worked-address}
 
 -- ---- what the changes of rows lead to
 
 pub planned-follow : (planned : PlannedChange) (call : Call) (state : State) → IsValid state → IsFit call state planned
-    → AreUnused state (claims_of planned) → AreSized state.tables → AreSized (changed planned state).tables
+    → AreUnused state (claims_of planned) → IsSized state → IsSized (changed planned state)
     → rows_after (planned_row_changes planned state) (kept_rows state) ≡ kept_rows (changed planned state)
 planned-follow planned call state valid fit unused sized also_sized =
     let made : state_after (entries_of planned state) state ≡ changed planned state =
@@ -75,7 +77,7 @@ planned-follow planned call state valid fit unused sized also_sized =
     subst (λ (new : State). rows_after
     (effective_changes (kept_rows state) (row_changes (entries_of planned state) new)) (kept_rows state)
     ≡ kept_rows new) made
-    (rows_after-effective (entries_of planned state) state valid.tables.ascending
+    (rows_after-effective (entries_of planned state) state valid.tables.ascending valid.sources
     (alone-in_state call state planned valid fit) before
     (subst (λ (new : State). AreInOrder (kept_rows new)) (sym made) after))
 
@@ -202,17 +204,34 @@ sized-tables (plan.Put a method records batch) parts consistent sized planned ty
 sized-tables (plan.DeleteRows a removal) parts consistent sized planned typed =
     sized-made a (without_rows removal.ids) (tables_of parts.tables) sized (λ t. refl) (λ t m is small. small)
 
--- The tables after a planned change are sized.
-pub planned-sized : (p : Plan) (parts : Parts) → IsConsistent parts → AreSized (state_of parts).tables
-    → IsPlanned p parts → IsTypedPlan p → AreSized (changed (planned_of p) (state_of parts)).tables
-planned-sized (portal.People change) parts consistent sized planned typed = sized
-planned-sized (portal.Datasets (dataset.Create d)) parts consistent sized planned typed = sized
-planned-sized (portal.Datasets (dataset.Replace d)) parts consistent sized planned typed =
-    sized-kept d.id d.resources (tables_of parts.tables) sized
-planned-sized (portal.Datasets (dataset.Remove id)) parts consistent sized planned typed =
-    sized-kept id [] (tables_of parts.tables) sized
-planned-sized (portal.Tables change) parts consistent sized planned typed =
-    sized-tables change parts consistent sized planned typed
+-- The state after a planned change is sized.
+pub planned-sized : (p : Plan) (parts : Parts) (call : Call) → IsConsistent parts → IsSized (state_of parts)
+    → IsFit call (state_of parts) (planned_of p) → IsPlanned p parts → IsTypedPlan p parts
+    → IsSized (changed (planned_of p) (state_of parts))
+planned-sized (portal.People change) parts call consistent sized fit planned typed = record {
+  tables = sized.tables;
+  next_jobs = sized.next_jobs;
+}
+planned-sized (portal.Datasets (dataset.Create d)) parts call consistent sized fit planned typed = record {
+  tables = sized.tables;
+  next_jobs = sized.next_jobs;
+}
+planned-sized (portal.Datasets (dataset.Replace d)) parts call consistent sized fit planned typed = record {
+  tables = sized-kept d.id d.resources (tables_of parts.tables) sized.tables;
+  next_jobs = sized.next_jobs;
+}
+planned-sized (portal.Datasets (dataset.Remove id)) parts call consistent sized fit planned typed = record {
+  tables = sized-kept id [] (tables_of parts.tables) sized.tables;
+  next_jobs = sized.next_jobs;
+}
+planned-sized (portal.Tables change) parts call consistent sized fit planned typed = record {
+  tables = sized-tables change parts consistent sized.tables planned typed;
+  next_jobs = sized.next_jobs;
+}
+planned-sized (portal.Sources change) parts call consistent sized fit planned typed = record {
+  tables = sized.tables;
+  next_jobs = small-after change (call_view_of call (state_of parts)) (sources_in parts.sources) sized.next_jobs fit typed;
+}
 
 -- ---- the changes of rows, by the parts
 
@@ -226,10 +245,10 @@ datasets-same (dataset.Replace d) parts =
 datasets-same (dataset.Remove id) parts =
     ap (λ (l : List Change). l ++ Remove kind.Set id ∷ []) (gone-without_room id [] parts.tables.tables)
 
-tables-planned : (p : TablePlan) (parts : Parts) (call : Call) → IsConsistent parts → AreSized (state_of parts).tables
+tables-planned : (p : TablePlan) (parts : Parts) (call : Call) → IsConsistent parts → IsSized (state_of parts)
     → IsFit call (state_of parts) (Tables (table.change_of p)) → table.IsPlanned p parts.tables → IsTypedTablePlan p
     → IsValid (changed (Tables (table.change_of p)) (state_of parts))
-    → AreSized (changed (Tables (table.change_of p)) (state_of parts)).tables
+    → IsSized (changed (Tables (table.change_of p)) (state_of parts))
     → changes_of_tables p parts.tables.tables ≡ planned_row_changes (Tables (table.change_of p)) (state_of parts)
 tables-planned (plan.Create t) parts call consistent sized fit planned typed also also_sized =
     sym (created (without_room t) (state_of parts) consistent.valid sized
@@ -252,24 +271,26 @@ tables-planned (plan.DeleteRows a removal) parts call consistent sized fit plann
     ∙ sym (deleted-changes a removal.ids fit.own.table (state_of parts) consistent.valid sized there typed also
     also_sized)
 
-pub plan-changes : (p : Plan) (parts : Parts) (call : Call) → IsConsistent parts → AreSized (state_of parts).tables
+pub plan-changes : (p : Plan) (parts : Parts) (call : Call) → IsConsistent parts → IsSized (state_of parts)
     → IsFit call (state_of parts) (planned_of p) → IsPlanned p parts
-    → AreUnused (state_of parts) (claims_of (planned_of p)) → IsTypedPlan p
+    → AreUnused (state_of parts) (claims_of (planned_of p)) → IsTypedPlan p parts
     → changes_of_plan p parts ≡ planned_row_changes (planned_of p) (state_of parts)
 plan-changes p parts call consistent sized fit planned unused typed =
     by p fit planned unused typed
     (changed_valid (planned_of p) call (state_of parts) consistent.valid fit unused)
-    (planned-sized p parts consistent sized planned typed)
+    (planned-sized p parts call consistent sized fit planned typed)
   where
     by : (q : Plan) → IsFit call (state_of parts) (planned_of q) → IsPlanned q parts
-        → AreUnused (state_of parts) (claims_of (planned_of q)) → IsTypedPlan q
+        → AreUnused (state_of parts) (claims_of (planned_of q)) → IsTypedPlan q parts
         → IsValid (changed (planned_of q) (state_of parts))
-        → AreSized (changed (planned_of q) (state_of parts)).tables
+        → IsSized (changed (planned_of q) (state_of parts))
         → changes_of_plan q parts ≡ planned_row_changes (planned_of q) (state_of parts)
     by (portal.People change) fits ready free right also also_sized =
-        sym (people-changes change call (state_of parts) consistent.valid sized fits also)
+        sym (people-changes change call (state_of parts) consistent.valid sized fits also also_sized)
     by (portal.Datasets change) fits ready free right also also_sized =
         datasets-same change parts
         ∙ sym (dataset-changes change call (state_of parts) consistent.valid sized fits free also also_sized)
     by (portal.Tables change) fits ready free right also also_sized =
         tables-planned change parts call consistent sized fits ready right also also_sized
+    by (portal.Sources change) fits ready free right also also_sized =
+        sym (source-changes change (state_of parts) consistent.valid sized free also also_sized)

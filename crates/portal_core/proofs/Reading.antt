@@ -17,6 +17,9 @@ use Rattle.datastore_answers.specs.TableAnswers.{TableAcceptsOnly, map_answer}
 use Rattle.datastore_answers.specs.declared.answer.TableAnswer.{TableAnswer}
 use Rattle.datastore_answers.specs.declared.answer.TableAnswer.TheVariants.{NoTable, Answered}
 use Rattle.datastore_answers.specs.declared.resource_table.ResourceTable.{ResourceTable}
+use Rattle.harvest_answers.proofs.Fitting as harvest
+use Rattle.harvest_sources.specs.Sources.{SourceState}
+use Rattle.harvest_sources.specs.declared.change.SourceChange.{SourceChange}
 use Rattle.org_roles.specs.declared.change.OrgChange.{OrgChange}
 use Rattle.organization_answers.proofs.Fitting as organization
 use Rattle.visibility.specs.CallView.{CallView}
@@ -24,7 +27,7 @@ use Rattle.portal_calls.specs.declared.event.Event.TheVariants.{Call as a_call}
 use Rattle.portal_core.proofs.Answering.{found_only, search_only}
 use Rattle.portal_core.specs.Search.{search_outcome}
 use Rattle.portal_core.proofs.Settling.{refused-same}
-use Rattle.portal_core.specs.Answer.{answer_on, call_view_of, of_people, of_datasets, of_tables, planned_answer}
+use Rattle.portal_core.specs.Answer.{answer_on, call_view_of, of_people, of_datasets, of_sources, of_tables, planned_answer}
 use Rattle.portal_core.specs.Known.{known_call}
 use Rattle.portal_core.specs.Planned.{PlannedChange, change_of}
 use Rattle.portal_core.specs.State.{State}
@@ -48,45 +51,59 @@ of_tables-nothing (Answered (Shown json)) none = tt
 of_tables-nothing (Answered (Refused denial)) none = tt
 of_tables-nothing (Answered (Accepted json change)) none = absurd none
 
-by_action : (a : Action) (view : CallView) (tables : List ResourceTable) → is_reading a ≡ true
-    → AcceptsNothing (answer_on (topic_of a) view tables)
-by_action action.PackageCreate view tables reads = absurd (cc)
-by_action action.PackageUpdate view tables reads = absurd (cc)
-by_action action.PackagePatch view tables reads = absurd (cc)
-by_action action.PackageDelete view tables reads = absurd (cc)
-by_action action.DatasetPurge view tables reads = absurd (cc)
-by_action action.PackageShow view tables reads =
+of_sources-nothing : (answer : Answer SourceChange) → AcceptsNothing answer → AcceptsNothing (of_sources answer)
+of_sources-nothing (Shown json) none = tt
+of_sources-nothing (Refused denial) none = tt
+of_sources-nothing (Accepted json change) none = absurd none
+
+by_action : (a : Action) (view : CallView) (tables : List ResourceTable) (sources : List SourceState)
+    → is_reading a ≡ true → AcceptsNothing (answer_on (topic_of a) view tables sources)
+by_action action.PackageCreate view tables sources reads = absurd (cc)
+by_action action.PackageUpdate view tables sources reads = absurd (cc)
+by_action action.PackagePatch view tables sources reads = absurd (cc)
+by_action action.PackageDelete view tables sources reads = absurd (cc)
+by_action action.DatasetPurge view tables sources reads = absurd (cc)
+by_action action.PackageShow view tables sources reads =
     of_datasets-nothing _ (show_only (λ change. ⊥) view (summaries_of tables))
-by_action action.PackageList view tables reads = of_datasets-nothing _ (list_only (λ change. ⊥) view)
-by_action action.PackageSearch view tables reads =
+by_action action.PackageList view tables sources reads = of_datasets-nothing _ (list_only (λ change. ⊥) view)
+by_action action.PackageSearch view tables sources reads =
     found_only (λ change. ⊥)
     (search_outcome view.call.request.body view.people view.datasets (summaries_of tables))
-by_action action.ResourceCreate view tables reads = absurd (cc)
-by_action action.ResourceUpdate view tables reads = absurd (cc)
-by_action action.ResourceDelete view tables reads = absurd (cc)
-by_action action.ResourceShow view tables reads =
+by_action action.ResourceCreate view tables sources reads = absurd (cc)
+by_action action.ResourceUpdate view tables sources reads = absurd (cc)
+by_action action.ResourceDelete view tables sources reads = absurd (cc)
+by_action action.ResourceShow view tables sources reads =
     of_datasets-nothing _ (resource_show_only (λ change. ⊥) view (summaries_of tables))
-by_action action.OrganizationCreate view tables reads = absurd (cc)
-by_action action.OrganizationPatch view tables reads = absurd (cc)
-by_action action.OrganizationDelete view tables reads = absurd (cc)
-by_action action.OrganizationShow view tables reads =
+by_action action.OrganizationCreate view tables sources reads = absurd (cc)
+by_action action.OrganizationPatch view tables sources reads = absurd (cc)
+by_action action.OrganizationDelete view tables sources reads = absurd (cc)
+by_action action.OrganizationShow view tables sources reads =
     of_people-nothing _ (organization.show-only (λ change. ⊥) view)
-by_action action.OrganizationList view tables reads =
+by_action action.OrganizationList view tables sources reads =
     of_people-nothing _ (organization.list-only (λ change. ⊥) view)
-by_action action.OrganizationListForUser view tables reads = tt
-by_action action.OrganizationMemberCreate view tables reads = absurd (cc)
-by_action action.OrganizationMemberDelete view tables reads = absurd (cc)
-by_action action.MemberList view tables reads = of_people-nothing _ (organization.members-only (λ change. ⊥) view)
-by_action action.UserList view tables reads = tt
-by_action action.DatastoreCreate view tables reads = absurd (cc)
-by_action action.DatastoreUpsert view tables reads = absurd (cc)
-by_action action.DatastoreDelete view tables reads = absurd (cc)
-by_action action.DatastoreSearch view tables reads = of_tables-nothing _ (search_only (λ change. ⊥) view tables)
-by_action action.DatastoreInfo view tables reads = of_tables-nothing _ (info_only (λ change. ⊥) view tables)
+by_action action.OrganizationListForUser view tables sources reads = tt
+by_action action.OrganizationMemberCreate view tables sources reads = absurd (cc)
+by_action action.OrganizationMemberDelete view tables sources reads = absurd (cc)
+by_action action.MemberList view tables sources reads = of_people-nothing _ (organization.members-only (λ change. ⊥) view)
+by_action action.UserList view tables sources reads = tt
+by_action action.DatastoreCreate view tables sources reads = absurd (cc)
+by_action action.DatastoreUpsert view tables sources reads = absurd (cc)
+by_action action.DatastoreDelete view tables sources reads = absurd (cc)
+by_action action.DatastoreSearch view tables sources reads = of_tables-nothing _ (search_only (λ change. ⊥) view tables)
+by_action action.DatastoreInfo view tables sources reads = of_tables-nothing _ (info_only (λ change. ⊥) view tables)
+by_action action.HarvestSourceCreate view tables sources reads = absurd (cc)
+by_action action.HarvestSourceUpdate view tables sources reads = absurd (cc)
+by_action action.HarvestSourceDelete view tables sources reads = absurd (cc)
+by_action action.HarvestSourceShow view tables sources reads =
+    of_sources-nothing _ (harvest.show-only (λ change. ⊥) view sources)
+by_action action.HarvestSourceList view tables sources reads = tt
+by_action action.HarvestJobCreate view tables sources reads = absurd (cc)
+by_action action.HarvestJobShow view tables sources reads =
+    of_sources-nothing _ (harvest.job-only (λ change. ⊥) view sources)
 
 pub reading-nothing : (call : Call) (view : State) → is_reading call.request.action ≡ true
     → AcceptsNothing (planned_answer call view)
-reading-nothing call view reads = by_action call.request.action (call_view_of call view) view.tables reads
+reading-nothing call view reads = by_action call.request.action (call_view_of call view) view.tables view.sources reads
 
 nothing-same : (answer : Answer PlannedChange) (call : Call) (state : State) → AcceptsNothing answer
     → (outcome_of (map_answer (λ planned. change_of planned (view_of call.caller state)) answer) call state).is_accepted

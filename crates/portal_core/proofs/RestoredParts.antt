@@ -1,17 +1,28 @@
 -- Parts that are read from values make up a valid state, and no other state has these values.
-use Rattle.std.proofs.Common.{◌≡◌, ◌≢◌, ◌∙◌, List, [], ◌∷◌, All, map}
+use Rattle.std.proofs.Common.{◌≡◌, ◌≢◌, ◌∙◌, ℕ, List, [], ◌∷◌, All, map}
 use Rattle.std.proofs.Common.{refl, sym, ap, subst, Contains}
+use Rattle.std.specs.Prelude.{is_some, find}
+use Rattle.std.specs.Str.{bytes_eq}
+use Rattle.std.proofs.lemmas.List.Elements.{All-map}
+use Rattle.std.proofs.lemmas.Simd.{map-map}
 use Rattle.portal_base.specs.Moment.{IsMoment}
-use Rattle.portal_base.specs.Ordered.{IsAscending}
+use Rattle.portal_base.specs.Ordered.{IsAscending, ascending}
 use Rattle.portal_base.proofs.Unique.{IsIn}
 use Rattle.portal_base.proofs.Upserted.{All-IsIn, All-each}
 use Rattle.org_roles.specs.PeopleLists.{PeopleLists}
 use Rattle.org_roles.specs.declared.entry.Membership.{Membership}
 use Rattle.org_roles.specs.declared.entry.Org.{Org}
-use Rattle.dataset_answers.specs.Sound.{IsSound}
+use Rattle.dataset_answers.specs.Sound.{IsSound, OrgExists}
 use Rattle.dataset_rows.specs.Rows.{IsWellTyped}
 use Rattle.datastore_answers.specs.Tables.{tables_of}
 use Rattle.datastore_answers.specs.declared.resource_table.ResourceTable.{ResourceTable}
+use Rattle.harvest_rows.specs.KeptHarvests.{kept_job_cmp}
+use Rattle.harvest_rows.specs.declared.kept_harvests.KeptHarvests.{KeptHarvests}
+use Rattle.harvest_sources.specs.Sources.{SourceState}
+use Rattle.harvest_stages.specs.AtRest.{IsAtRest, all_jobs, at_rest}
+use Rattle.harvest_stages.specs.Stages.{sources_in}
+use Rattle.harvest_stages.proofs.PartLemmas.{map-left}
+use Rattle.harvest_stages.proofs.RestLemmas.{all_rest, sources_rest}
 use Rattle.packages.specs.Order.{dataset_cmp}
 use Rattle.packages.specs.Shelf.{datasets_of}
 use Rattle.packages.specs.declared.package.Package.{Package}
@@ -22,13 +33,14 @@ use Rattle.portal_rows.specs.declared.kept_values.KeptValues.{KeptValues}
 use Rattle.portal_rows.specs.declared.org_reading.OrgWithRoles.{OrgWithRoles}
 use Rattle.portal_core.specs.Indexes.{IsIndexed}
 use Rattle.portal_core.specs.Parts.{IsConsistent, state_of}
-use Rattle.portal_core.specs.Restored.{ArePeopleOf, AreShelvable, AreTablesOf}
+use Rattle.portal_core.specs.Restored.{AreHarvestsOf, ArePeopleOf, AreShelvable, AreTablesOf}
 use Rattle.portal_core.specs.State.{State, quota_used_cmp}
 use Rattle.portal_core.specs.Typed.{IsTyped}
 use Rattle.portal_core.specs.Valid.{HasHome, IsValid}
-use Rattle.portal_core.specs.Values.{values_of, with_roles}
+use Rattle.portal_core.specs.Values.{harvests_of, values_of, with_roles}
 use Rattle.portal_core.specs.declared.parts.Parts.{Parts}
 use Rattle.portal_core.proofs.RestoredDatasets.{same-sound}
+use Rattle.portal_core.proofs.RestoredSources.{typed-at_rest}
 
 -- ---- organizations
 
@@ -47,12 +59,13 @@ same-orgs one other kept first second =
 
 -- ---- the state of the parts
 
-pub parts-consistent : (values : KeptValues) (parts : Parts) → AreKeptValues values
+pub parts-consistent : (values : KeptValues) (harvests : KeptHarvests) (parts : Parts) → AreKeptValues values
     → ArePeopleOf values.orgs parts.people.people → AreShelvable parts.people.people values.datasets
     → datasets_of parts.shelf ≡ values.datasets → IsIndexed parts.shelf parts.indexes
-    → AreTablesOf (datasets_of parts.shelf) values.tables (tables_of parts.tables) → parts.quota_used.used ≡ []
+    → AreTablesOf (datasets_of parts.shelf) values.tables (tables_of parts.tables)
+    → AreHarvestsOf parts.people.people harvests (sources_in parts.sources) → parts.quota_used.used ≡ []
     → IsConsistent parts
-parts-consistent values parts kept people shelvable datasets shelved tables none = record {
+parts-consistent values harvests parts kept people shelvable datasets shelved tables sources none = record {
   valid = record {
     people = people.sorted;
     orgs = people.named;
@@ -63,6 +76,8 @@ parts-consistent values parts kept people shelvable datasets shelved tables none
     sound = subst (All (IsSound parts.people.people)) (sym datasets) shelvable.sound;
     tables = tables.consistent;
     homes = tables.homes;
+    sources = sources.valid;
+    owners = sources.owners;
     quota_used = subst (IsAscending quota_used_cmp) (sym none) tt;
   };
   shelved = shelved;
@@ -77,6 +92,15 @@ parts-values values parts people datasets tables = λ i. record {
   tables = tables.same i;
 }
 
+pub parts-harvests : (harvests : KeptHarvests) (parts : Parts)
+    → AreHarvestsOf parts.people.people harvests (sources_in parts.sources) → harvests_of (state_of parts) ≡ harvests
+parts-harvests harvests parts sources =
+    let jobs : (harvests_of (state_of parts)).jobs ≡ harvests.jobs =
+    ap (λ (ss : List SourceState). ascending kept_job_cmp (all_jobs ss))
+    (map-left at_rest (sources_in parts.sources) (All-IsIn IsAtRest (sources_in parts.sources) sources.rest))
+    ∙ sources.jobs in
+    λ i. record { sources = sources.bare i; jobs = jobs i }
+
 orgs-created : (roles : List Membership) (orgs : List Org) (kept : List OrgWithRoles)
     → map (with_roles roles) orgs ≡ kept → All IsOrgWithRoles kept → All (λ (o : Org). IsMoment o.created) orgs
 orgs-created roles orgs kept same all =
@@ -84,17 +108,24 @@ orgs-created roles orgs kept same all =
     (λ o m. (All-IsIn IsOrgWithRoles kept all (with_roles roles o)
     (subst (IsIn (with_roles roles o)) same (IsIn-map (with_roles roles) o orgs m))).created)
 
-pub parts-typed : (values : KeptValues) (parts : Parts) → AreKeptValues values
+pub parts-typed : (values : KeptValues) (harvests : KeptHarvests) (parts : Parts) → AreKeptValues values
     → ArePeopleOf values.orgs parts.people.people → datasets_of parts.shelf ≡ values.datasets
-    → AreTablesOf (datasets_of parts.shelf) values.tables (tables_of parts.tables) → IsTyped (state_of parts)
-parts-typed values parts kept people datasets tables = record {
+    → AreTablesOf (datasets_of parts.shelf) values.tables (tables_of parts.tables)
+    → AreHarvestsOf parts.people.people harvests (sources_in parts.sources) → IsTyped (state_of parts)
+parts-typed values harvests parts kept people datasets tables sources = record {
   orgs = orgs-created parts.people.people.roles parts.people.people.orgs values.orgs people.orgs kept.orgs;
   datasets = subst (All IsWellTyped) (sym datasets) kept.datasets;
   tables = tables.sized;
   targets = tables.targets;
+  sources = sources.typed;
 }
 
 -- ---- no state has these values
+
+-- An organization exists among other people with the same organizations.
+same-owner : (one other : PeopleLists) (name : List ℕ) → one.orgs ≡ other.orgs → OrgExists one name → OrgExists other name
+same-owner one other name same is =
+    ap (λ (orgs : List Org). is_some (find (λ o. bytes_eq o.name name) orgs)) (sym same) ∙ is
 
 -- Each organization of a valid state has a name.
 pub no-people : (values : KeptValues) → (All (λ (o : OrgWithRoles). o.org.name ≢ []) values.orgs → ⊥) → (state : State)
@@ -119,6 +150,25 @@ no-shelf values people of none state valid same =
           (All-IsIn (IsSound state.people) state.datasets valid.sound d m));
       names = valid.names;
     }))
+
+-- its sources at rest may be the sources of a state with its people,
+pub no-sources : (values : KeptValues) (harvests : KeptHarvests) (people : PeopleLists) → ArePeopleOf values.orgs people
+    → ((sources : List SourceState) → AreHarvestsOf people harvests sources → ⊥) → (state : State) → IsValid state
+    → IsTyped state → values_of state ≡ values → harvests_of state ≡ harvests → ⊥
+no-sources values harvests people of none state valid typed same own =
+    let orgs : state.people.orgs ≡ people.orgs =
+    same-orgs state.people people values.orgs (ap (λ (v : KeptValues). v.orgs) same) of.orgs in
+    none (map at_rest state.sources) (record {
+      bare = map-map (λ (s : SourceState). s.source) at_rest state.sources ∙ ap (λ (h : KeptHarvests). h.sources) own;
+      jobs = ap (λ (h : KeptHarvests). h.jobs) own;
+      valid = sources_rest state.sources valid.sources;
+      owners = All-map (λ (s : SourceState). OrgExists people s.source.owner_org) at_rest state.sources
+          (All-each (λ (s : SourceState). OrgExists people s.source.owner_org) state.sources
+          (λ s m. same-owner state.people people s.source.owner_org orgs
+          (All-IsIn (λ (t : SourceState). OrgExists state.people t.source.owner_org) state.sources valid.owners s m)));
+      rest = all_rest state.sources;
+      typed = typed-at_rest state.sources typed.sources;
+    })
 
 -- and its tables may be the tables of a state with its datasets.
 pub no-tables : (values : KeptValues) (datasets : List Package) → datasets ≡ values.datasets

@@ -15,6 +15,7 @@ use Rattle.datastore_answers.specs.Changed.{with_table_at}
 use Rattle.datastore_answers.specs.Order.{address_cmp, at_address, is_at, table_cmp, table_cmp_total}
 use Rattle.datastore_answers.specs.declared.address.Address.{Address}
 use Rattle.datastore_answers.specs.declared.resource_table.ResourceTable.{ResourceTable}
+use Rattle.harvest_sources.specs.Sources.{AreSources}
 use Rattle.portal_core.specs.State.{State}
 use Rattle.portal_keeper.specs.Changed.{rows_after, said_by, said_last}
 use Rattle.portal_keeper.specs.Rows.{AreInOrder, IsKey-row_at, body_at, key_cmp, row_at, row_cmp, row_cmp_total}
@@ -24,11 +25,12 @@ use Rattle.portal_keeper.specs.declared.row.RowKind.{RowKind}
 use Rattle.portal_keeper.proofs.RowLemmas.{body_at-rows_after, in_order-rows_after, same_key, same_rows}
 use Rattle.portal_core.specs.Alone.{AllDropAlone}
 use Rattle.portal_core.specs.Entries.{Entry, PutOrg, DropOrg, PutRole, DropRole, PutDataset, EditDataset, DropDataset, PutTable}
-use Rattle.portal_core.specs.Entries.{DropTable, PutRow, DropRow, changed_by, rows_at, state_after, table_of, with_row}
-use Rattle.portal_core.specs.Entries.{without_row}
+use Rattle.portal_core.specs.Entries.{DropTable, PutRow, DropRow, OfSources, changed_by, rows_at, state_after, table_of}
+use Rattle.portal_core.specs.Entries.{with_row, without_row}
 use Rattle.portal_core.specs.KeptRows.{kept_rows, listed_rows}
 use Rattle.portal_core.specs.RowChanges.{change_at, change_to, entry_key, row_changes}
 use Rattle.portal_core.proofs.EntryLemmas.{IsOther, entry-others}
+use Rattle.portal_core.proofs.KeyedSources.{AreKeyed, keyed-after, keyed-valid}
 use Rattle.portal_core.proofs.RowMembers.{IsInBoth, found-member, in_both-itself, in_both-then}
 
 -- ---- tables stay in their order
@@ -68,20 +70,38 @@ tables-ascend (PutTable head) state up =
 tables-ascend (DropTable address) state up = IsAscending-dropped table_cmp (at_address address) state.tables up
 tables-ascend (PutRow address row) state up = made-ascend address (with_row row) (λ t. refl) state.tables up
 tables-ascend (DropRow address id) state up = made-ascend address (without_row id) (λ t. refl) state.tables up
+tables-ascend (OfSources entry) state up = up
+
+-- ---- sources keep their own jobs
+
+sources-own : (entry : Entry) (state : State) → AreKeyed state.sources
+    → AreKeyed (changed_by entry state).sources
+sources-own (PutOrg org) state keyed = keyed
+sources-own (DropOrg name) state keyed = keyed
+sources-own (PutRole role) state keyed = keyed
+sources-own (DropRole org user) state keyed = keyed
+sources-own (PutDataset dataset) state keyed = keyed
+sources-own (EditDataset id edit) state keyed = keyed
+sources-own (DropDataset id) state keyed = keyed
+sources-own (PutTable head) state keyed = keyed
+sources-own (DropTable address) state keyed = keyed
+sources-own (PutRow address row) state keyed = keyed
+sources-own (DropRow address id) state keyed = keyed
+sources-own (OfSources entry) state keyed = keyed-after entry state.sources keyed
 
 -- ---- rows at keys that no entry is about
 
 -- A row at another key than those of all entries is among the rows before them and after them, or in neither.
 pub entries-others : (entries : List Entry) (state : State) (r : KeptRow) → IsAscending table_cmp state.tables
-    → AllDropAlone entries state → ((entry : Entry) → IsIn entry entries → IsOther (entry_key entry) r)
+    → AreKeyed state.sources → AllDropAlone entries state → ((entry : Entry) → IsIn entry entries → IsOther (entry_key entry) r)
     → IsInBoth r (listed_rows state) (listed_rows (state_after entries state))
-entries-others [] state r up first other = in_both-itself r (listed_rows state)
-entries-others (entry ∷ entries) state r up first other =
+entries-others [] state r up keyed first other = in_both-itself r (listed_rows state)
+entries-others (entry ∷ entries) state r up keyed first other =
     in_both-then r (listed_rows state) (listed_rows (changed_by entry state))
     (listed_rows (state_after entries (changed_by entry state)))
-    (entry-others entry state r up first.0 (other entry (inl refl)))
-    (entries-others entries (changed_by entry state) r (tables-ascend entry state up) first.1
-    (λ later m. other later (inr m)))
+    (entry-others entry state r up keyed first.0 (other entry (inl refl)))
+    (entries-others entries (changed_by entry state) r (tables-ascend entry state up) (sources-own entry state keyed)
+    first.1 (λ later m. other later (inr m)))
 
 -- ---- bodies of rows in order
 
@@ -198,20 +218,21 @@ other_at its_kind its_key kind key r other here =
 
 -- The body at a key that no entry is about stays.
 pub body-stays : (entries : List Entry) (state : State) (kind : RowKind) (key : List ℕ)
-    → IsAscending table_cmp state.tables → AllDropAlone entries state
+    → IsAscending table_cmp state.tables → AreSources state.sources → AllDropAlone entries state
     → AreInOrder (kept_rows (state_after entries state)) → AreOthers entries kind key
     → body_at (kept_rows state) kind key ≡ body_at (kept_rows (state_after entries state)) kind key
-body-stays entries state kind key up first after none =
+body-stays entries state kind key up are first after none =
     same-body (kept_rows state) (kept_rows (state_after entries state)) kind key after
     (λ r here. kept-listed state (state_after entries state) r
-    (entries-others entries state r up first
+    (entries-others entries state r up (keyed-valid state.sources are) first
     (λ entry m. other_at (entry_key entry).0 (entry_key entry).1 kind key r (none entry m) here)))
 
 pub rows_after-row_changes : (entries : List Entry) (state : State) → IsAscending table_cmp state.tables
-    → AllDropAlone entries state → AreInOrder (kept_rows state) → AreInOrder (kept_rows (state_after entries state))
+    → AreSources state.sources → AllDropAlone entries state → AreInOrder (kept_rows state)
+    → AreInOrder (kept_rows (state_after entries state))
     → rows_after (row_changes entries (state_after entries state)) (kept_rows state)
     ≡ kept_rows (state_after entries state)
-rows_after-row_changes entries state up first before after =
+rows_after-row_changes entries state up are first before after =
     same_rows (rows_after changes (kept_rows state)) (kept_rows new)
     (in_order-rows_after changes (kept_rows state) before) after
     (λ kind key. body_at-rows_after changes (kept_rows state) kind key
@@ -232,4 +253,4 @@ rows_after-row_changes entries state up first before after =
         ap (λ (o : Option (Option (List ℕ))). unwrap_or o (body_at (kept_rows state) kind key)) said
     by kind key (inr none) =
         ap (λ (o : Option (Option (List ℕ))). unwrap_or o (body_at (kept_rows state) kind key)) none.0
-        ∙ body-stays entries state kind key up first after none.1
+        ∙ body-stays entries state kind key up are first after none.1

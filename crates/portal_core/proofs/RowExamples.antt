@@ -1,12 +1,17 @@
 -- Worked examples: the rows of a state, and the changes of rows that follow from entries. ann has a role in `city`. Resource
--- 1 of the dataset `1` has a table with one row, and resources 2 and 10 have tables without rows.
-use Rattle.std.proofs.Common.{◌≡◌, ℕ, List, [], ◌∷◌, Some, map, refl}
+-- 1 of the dataset `1` has a table with one row, and resources 2 and 10 have tables without rows. The source `parks` has the
+-- jobs 2 and 10.
+use Rattle.std.proofs.Common.{◌≡◌, ℕ, List, [], ◌∷◌, Some, None, map, refl}
 use Rattle.std.specs.Prelude.{codes, pos}
 use Rattle.std.specs.Fmt.{digits}
 use Rattle.table_schema.specs.declared.cell.Cell.TheVariants as cell
 use Rattle.datastore_table.specs.declared.row.Row.{Row}
 use Rattle.datastore_answers.specs.declared.address.Address.{Address}
 use Rattle.datastore_answers.specs.declared.resource_table.ResourceTable.{ResourceTable}
+use Rattle.harvest_sources.specs.Entries.{DropJob}
+use Rattle.harvest_sources.specs.Jobs.{new_job}
+use Rattle.harvest_sources.specs.Sources.{SourceState}
+use Rattle.harvest_sources.specs.declared.source.HarvestSource.{HarvestSource}
 use Rattle.org_roles.specs.declared.entry.Membership.{Membership}
 use Rattle.org_roles.specs.declared.entry.Org.{Org}
 use Rattle.org_roles.specs.declared.role.Role.TheVariants.{Admin}
@@ -22,7 +27,7 @@ use Rattle.portal_keeper.specs.declared.row.RowKind.TheVariants as kind
 use Rattle.portal_rows.specs.OrgRows.{org_row}
 use Rattle.portal_rows.specs.TableRows.{cells_row, twenty_digits}
 use Rattle.portal_rows.specs.VersionRow.{version_row}
-use Rattle.portal_core.specs.Entries.{Entry, DropOrg, DropRole, DropRow, DropTable, PutRow, rows_at, state_after}
+use Rattle.portal_core.specs.Entries.{Entry, DropOrg, DropRole, DropRow, DropTable, OfSources, PutRow, rows_at, state_after}
 use Rattle.portal_core.specs.KeptRows.{kept_rows, row_targets}
 use Rattle.portal_core.specs.RowChanges.{effective_changes, row_changes}
 
@@ -58,16 +63,39 @@ oak = record { id = 1; cells = cell.Text (codes "oak") ∷ [] }
 abbrev heights : ResourceTable
 heights = table_with 1 (1 ∷ 2 ∷ []) (oak ∷ [])
 
+abbrev parks : HarvestSource
+parks = record {
+  name = codes "parks";
+  title = codes "Parks";
+  url = codes "http://city.example/parks";
+  owner_org = codes "city";
+  next_job = 11;
+}
+
+abbrev of_parks : SourceState
+of_parks = record {
+  source = parks;
+  jobs = new_job (codes "parks") 2 (pos 0) ∷ new_job (codes "parks") 10 (pos 0) ∷ [];
+  listing = None;
+}
+
 abbrev state : State
 state = record {
   people = record { users = []; orgs = city ∷ []; roles = ann ∷ [] };
   datasets = trees ∷ [];
   tables = heights ∷ table_with 2 [] [] ∷ table_with 10 [] [] ∷ [];
+  sources = of_parks ∷ [];
   quota_used = [];
 }
 
 abbrev bare : State
-bare = record { people = record { users = []; orgs = []; roles = [] }; datasets = []; tables = []; quota_used = [] }
+bare = record {
+  people = record { users = []; orgs = []; roles = [] };
+  datasets = [];
+  tables = [];
+  sources = [];
+  quota_used = [];
+}
 
 -- the number of a row's kind, and its key
 abbrev key_of : KeptRow → ℕ × List ℕ
@@ -88,6 +116,9 @@ keys_in_order : map key_of (kept_rows state)
     ∷ (4, codes "1.10")
     ∷ (4, codes "1.2")
     ∷ (5, codes "1.1/00000000000000000001")
+    ∷ (6, codes "parks")
+    ∷ (7, codes "parks.10")
+    ∷ (7, codes "parks.2")
     ∷ []
 unfolding twenty_digits digits
 keys_in_order = refl
@@ -112,6 +143,11 @@ org_dropped : changes (DropRole (codes "city") (codes "ann") ∷ DropOrg (codes 
     ≡ Remove kind.Org (codes "city") ∷ Remove kind.Org (codes "city") ∷ []
 unfolding twenty_digits digits
 org_dropped = refl
+
+-- A job has a row of its own, whose key is the job's id.
+job_dropped : changes (OfSources (DropJob (codes "parks") 2) ∷ []) ≡ Remove kind.Job (codes "parks.2") ∷ []
+unfolding twenty_digits digits
+job_dropped = refl
 
 -- The drop of what is not there changes nothing.
 nothing_dropped : effective_changes (kept_rows state) (changes (DropOrg (codes "lake") ∷ DropRow (of_number 2) 1 ∷ []))

@@ -49,41 +49,50 @@ in_both-cons r x xs ys same = (into-cons r x xs ys same.0, into-cons r x ys xs s
 -- ---- items of a list, each made into another
 
 -- An item that is not made of those with a key is made of the same items after those are dropped.
-pub in_both-dropped : {X Y : Type 0} (f : X → Y) (at : X → Ordering) (xs : List X) (r : Y)
-    → ((z : X) → r ≡ f z → is_eq (at z) ≡ false) → IsInBoth r (map f xs) (map f (dropped at xs))
-in_both-dropped {X} {Y} f at xs r other = (into, from)
+pub in_both-dropped_in : {X Y : Type 0} (f : X → Y) (at : X → Ordering) (xs : List X) (r : Y)
+    → ((z : X) → IsIn z xs → r ≡ f z → is_eq (at z) ≡ false) → IsInBoth r (map f xs) (map f (dropped at xs))
+in_both-dropped_in {X} {Y} f at xs r other = (into, from)
   where
     into : IsIn r (map f xs) → IsIn r (map f (dropped at xs))
     into m =
         let w = map-IsIn f r xs m in
         subst (λ (q : Y). IsIn q (map f (dropped at xs))) (sym w.2)
-        (IsIn-map f w.0 (dropped at xs) (dropped-IsIn at w.0 xs w.1 (other w.0 w.2)))
+        (IsIn-map f w.0 (dropped at xs) (dropped-IsIn at w.0 xs w.1 (other w.0 w.1 w.2)))
 
     from : IsIn r (map f (dropped at xs)) → IsIn r (map f xs)
     from m =
         let w = map-IsIn f r (dropped at xs) m in
         subst (λ (q : Y). IsIn q (map f xs)) (sym w.2) (IsIn-map f w.0 xs (IsIn-dropped at w.0 xs w.1).0)
 
+pub in_both-dropped : {X Y : Type 0} (f : X → Y) (at : X → Ordering) (xs : List X) (r : Y)
+    → ((z : X) → r ≡ f z → is_eq (at z) ≡ false) → IsInBoth r (map f xs) (map f (dropped at xs))
+in_both-dropped f at xs r other = in_both-dropped_in f at xs r (λ z m made. other z made)
+
 -- The same after an item is put, if it is made of no item that is equal to it.
-pub in_both-upserted : {X Y : Type 0} (f : X → Y) (cmp : X → X → Ordering) (o : IsTotalOrder cmp) (x : X) (xs : List X)
-    (r : Y) → ((z : X) → r ≡ f z → is_eq (cmp z x) ≡ false) → IsInBoth r (map f xs) (map f (upserted cmp x xs))
-in_both-upserted {X} {Y} f cmp o x xs r other = (into, from)
+pub in_both-upserted_in : {X Y : Type 0} (f : X → Y) (cmp : X → X → Ordering) (o : IsTotalOrder cmp) (x : X) (xs : List X)
+    (r : Y) → ((z : X) → IsIn z (x ∷ xs) → r ≡ f z → is_eq (cmp z x) ≡ false)
+    → IsInBoth r (map f xs) (map f (upserted cmp x xs))
+in_both-upserted_in {X} {Y} f cmp o x xs r other = (into, from)
   where
     into : IsIn r (map f xs) → IsIn r (map f (upserted cmp x xs))
     into m =
         let w = map-IsIn f r xs m in
         subst (λ (q : Y). IsIn q (map f (upserted cmp x xs))) (sym w.2)
-        (IsIn-map f w.0 (upserted cmp x xs) (upserted-IsIn_other cmp x w.0 xs w.1 (other w.0 w.2)))
+        (IsIn-map f w.0 (upserted cmp x xs) (upserted-IsIn_other cmp x w.0 xs w.1 (other w.0 (inr w.1) w.2)))
 
     was : (z : X) → r ≡ f z → (z ≡ x) ⊎ (IsIn z xs × (is_eq (cmp z x) ≡ false)) → IsIn r (map f xs)
     was z made (inl same) =
-        absurd (true≢false (sym (ap is_eq (ap (λ (w : X). cmp w x) same ∙ tied_itself o x)) ∙ other z made))
+        absurd (true≢false (sym (ap is_eq (ap (λ (w : X). cmp w x) same ∙ tied_itself o x)) ∙ other z (inl same) made))
     was z made (inr old) = subst (λ (q : Y). IsIn q (map f xs)) (sym made) (IsIn-map f z xs old.0)
 
     from : IsIn r (map f (upserted cmp x xs)) → IsIn r (map f xs)
     from m =
         let w = map-IsIn f r (upserted cmp x xs) m in
         was w.0 w.2 (IsIn-upserted cmp x w.0 xs w.1)
+
+pub in_both-upserted : {X Y : Type 0} (f : X → Y) (cmp : X → X → Ordering) (o : IsTotalOrder cmp) (x : X) (xs : List X)
+    (r : Y) → ((z : X) → r ≡ f z → is_eq (cmp z x) ≡ false) → IsInBoth r (map f xs) (map f (upserted cmp x xs))
+in_both-upserted f cmp o x xs r other = in_both-upserted_in f cmp o x xs r (λ z m made. other z made)
 
 -- The same if two functions make the item of the same items.
 pub in_both-made : {X Y : Type 0} (f g : X → Y) (xs : List X) (r : Y) → ((z : X) → r ≡ f z → f z ≡ g z)
@@ -120,20 +129,24 @@ flat_map-IsIn {X} {Y} f z (x ∷ xs) m = by (flat_map-IsIn f z xs) (IsIn-either 
     by go (inr n) = let w = go n in (w.0, inr w.1, w.2)
 
 -- An item is in the same lists if each of them is changed without it.
-pub in_both-each : {X Y : Type 0} (f : X → List Y) (make : X → X) (xs : List X) (r : Y)
-    → ((x : X) → IsInBoth r (f x) (f (make x))) → IsInBoth r (flat_map f xs) (flat_map f (map make xs))
-in_both-each {X} {Y} f make xs r each = (into, from)
+pub in_both-each_in : {X Y : Type 0} (f : X → List Y) (make : X → X) (xs : List X) (r : Y)
+    → ((x : X) → IsIn x xs → IsInBoth r (f x) (f (make x))) → IsInBoth r (flat_map f xs) (flat_map f (map make xs))
+in_both-each_in {X} {Y} f make xs r each = (into, from)
   where
     into : IsIn r (flat_map f xs) → IsIn r (flat_map f (map make xs))
     into m =
         let w = flat_map-IsIn f r xs m in
-        IsIn-flat_map f r (make w.0) (map make xs) (IsIn-map make w.0 xs w.1) ((each w.0).0 w.2)
+        IsIn-flat_map f r (make w.0) (map make xs) (IsIn-map make w.0 xs w.1) ((each w.0 w.1).0 w.2)
 
     from : IsIn r (flat_map f (map make xs)) → IsIn r (flat_map f xs)
     from m =
         let w = flat_map-IsIn f r (map make xs) m in
         let old = map-IsIn make w.0 xs w.1 in
-        IsIn-flat_map f r old.0 xs old.1 ((each old.0).1 (subst (λ (x : X). IsIn r (f x)) old.2 w.2))
+        IsIn-flat_map f r old.0 xs old.1 ((each old.0 old.1).1 (subst (λ (x : X). IsIn r (f x)) old.2 w.2))
+
+pub in_both-each : {X Y : Type 0} (f : X → List Y) (make : X → X) (xs : List X) (r : Y)
+    → ((x : X) → IsInBoth r (f x) (f (make x))) → IsInBoth r (flat_map f xs) (flat_map f (map make xs))
+in_both-each f make xs r each = in_both-each_in f make xs r (λ x m. each x)
 
 -- ---- items by their keys
 

@@ -31,8 +31,9 @@ use Rattle.dataset_answers.specs.Fit.{IsFitDataset}
 use Rattle.dataset_answers.specs.Sound.{IsSound, IsId}
 use Rattle.dataset_answers.specs.declared.change.DatasetChange.{DatasetChange}
 use Rattle.dataset_answers.specs.declared.change.DatasetChange.TheVariants as dataset
+use Rattle.harvest_stages.specs.Stages.{sources_in}
 use Rattle.portal_core.specs.Answer.{call_view_of}
-use Rattle.portal_core.specs.Planned.{PlannedChange, People, Datasets, Tables, claims_of}
+use Rattle.portal_core.specs.Planned.{PlannedChange, People, Datasets, Tables, Sources, claims_of}
 use Rattle.portal_core.specs.Changed.{AreUnused, is_in_use}
 use Rattle.portal_core.specs.Fit.{IsFit}
 use Rattle.portal_core.specs.Opened.{opened, is_opening}
@@ -42,7 +43,7 @@ use Rattle.portal_core.specs.declared.change.Claim.TheVariants.{DatasetName, Dat
 use Rattle.portal_core.specs.declared.parts.Parts.{Parts}
 use Rattle.portal_core.specs.declared.opening.Opening.{Opening}
 use Rattle.portal_base.proofs.IdForms.{id_is_no_name}
-use Rattle.portal_core.proofs.Keeping.{first_unused, unfaulted, opened_valid}
+use Rattle.portal_core.proofs.Keeping.{first_unused, unfaulted, opened_valid, source-taken}
 
 -- ---- names and ids
 
@@ -189,6 +190,7 @@ pub unrefused : (change : PlannedChange) (parts : Parts) (call : Call) → IsCon
 unrefused (People change) parts call consistent fit unused = unfaulted change call (state_of parts) fit unused
 unrefused (Datasets change) parts call consistent fit unused = taken change parts call consistent fit unused
 unrefused (Tables change) parts call consistent fit unused = tt
+unrefused (Sources change) parts call consistent fit unused = source-taken change call (state_of parts) fit unused
 
 -- ---- an opening
 
@@ -207,19 +209,19 @@ empty_shelved shelf none no_room =
     same : empty ≡ shelf
     same = rw (none, no_room) refl
 
--- Parts with the people of an opening, nothing on the shelf and nothing charged make up a valid state.
+-- Parts with the people of an opening, nothing on the shelf, no source and nothing charged make up a valid state.
 pub opened_consistent : (parts : Parts) (opening : Opening) → is_opening opening ≡ true
     → parts.people.people.users ≡ ascending user_cmp opening.users
     → parts.people.people.orgs ≡ ascending org_cmp opening.orgs
     → parts.people.people.roles ≡ ascending membership_cmp opening.roles
     → parts.shelf.entries ≡ [] → parts.shelf.room ≡ None → parts.indexes.index.entries ≡ []
-    → parts.indexes.counters.entries ≡ [] → parts.tables.tables ≡ [] → parts.quota_used.used ≡ []
-    → IsConsistent parts
-opened_consistent parts opening fit users orgs roles none no_room no_terms no_counts no_table no_charge =
+    → parts.indexes.counters.entries ≡ [] → parts.tables.tables ≡ [] → sources_in parts.sources ≡ []
+    → parts.quota_used.used ≡ [] → IsConsistent parts
+opened_consistent parts opening fit users orgs roles none no_room no_terms no_counts no_table no_source no_charge =
     let datasets : datasets_of parts.shelf ≡ [] =
     ap (λ (es : List (ℕ × Package)). ascending dataset_cmp (map (λ (e : ℕ × Package). e.1) es)) none in
     let tables : tables_of parts.tables ≡ [] = ap (map without_room) no_table in
-    let same : opened opening ≡ state_of parts = rw (users, orgs, roles, datasets, tables, no_charge) refl in
+    let same : opened opening ≡ state_of parts = rw (users, orgs, roles, datasets, tables, no_source, no_charge) refl in
     record {
       valid = subst IsValid same (opened_valid opening fit);
       shelved = record {

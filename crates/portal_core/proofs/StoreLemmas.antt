@@ -11,9 +11,9 @@ use Rattle.portal_keeper.specs.declared.change.Change.{Change}
 use Rattle.portal_keeper.specs.declared.row.KeptRow.{KeptRow}
 use Rattle.portal_core.specs.Changed.{AreUnused, changed, charge_of, charged, with_charge, with_planned}
 use Rattle.portal_core.specs.Fit.{IsFit}
-use Rattle.portal_core.specs.KeptRows.{AreSized, kept_rows}
+use Rattle.portal_core.specs.KeptRows.{IsSized, kept_rows}
 use Rattle.portal_core.specs.Parts.{IsConsistent, planned_in, state_of, with_prepared}
-use Rattle.portal_core.specs.Planned.{Datasets, People, PlannedChange, Tables, claims_of}
+use Rattle.portal_core.specs.Planned.{Datasets, People, PlannedChange, Sources, Tables, claims_of}
 use Rattle.portal_core.specs.PortalValue.{AreKept}
 use Rattle.portal_core.specs.RowChanges.{planned_row_changes}
 use Rattle.portal_core.specs.State.{State}
@@ -51,7 +51,7 @@ pub same_kept : (rows : Option (List KeptRow)) (old new : Parts) → AreKept row
     → IsIndexed new.shelf new.indexes → AreKept rows new
 same_kept rows old new kept same shelved = record {
   consistent = kept_consistent old new kept.consistent same shelved;
-  sized = subst (λ (s : State). AreSized s.tables) (sym same) kept.sized;
+  sized = subst IsSized (sym same) kept.sized;
   kept = subst (λ (s : State). Shows rows (kept_rows s)) (sym same) kept.kept;
 }
 
@@ -72,6 +72,7 @@ quota_used-changed : (planned : PlannedChange) (state : State) → (changed plan
 quota_used-changed (People change) state = refl
 quota_used-changed (Datasets change) state = refl
 quota_used-changed (Tables change) state = refl
+quota_used-changed (Sources change) state = refl
 
 -- A prepared change that is made is the planned one, charged.
 pub made_planned : (planned : PlannedChange) (call : Call) (prepared : Prepared) (state before after : State)
@@ -100,7 +101,7 @@ refused_kept old new before after kept same shelved rows =
 pub applied_kept : (planned : PlannedChange) (call : Call) (before after : Parts) (old new : Option (List KeptRow))
     → AreKept old before → IsFit call (view_of call.caller (state_of before)) planned
     → AreUnused (state_of before) (claims_of planned)
-    → AreSized (changed planned (state_of before)).tables
+    → IsSized (changed planned (state_of before))
     → state_of after ≡ with_planned call planned (state_of before) → IsIndexed after.shelf after.indexes
     → ChangesRows old (planned_row_changes planned (state_of before)) new → AreKept new after
 applied_kept planned call before after old new kept fit unused sized is shelved rows =
@@ -109,7 +110,7 @@ applied_kept planned call before after old new kept fit unused sized is shelved 
     charged-rows call.caller call.size (changed planned state) in
     record {
       consistent = applied_consistent planned call before after kept.consistent fit unused is shelved;
-      sized = subst (λ (s : State). AreSized s.tables) (sym is) (sized_charged planned call state sized);
+      sized = subst IsSized (sym is) (sized_charged planned call state sized);
       kept = subst (λ (s : State). Shows new (kept_rows s)) (sym is)
           (subst (Shows new) (sym charged)
           (shown_changed old new (planned_row_changes planned state) (kept_rows state)
@@ -118,11 +119,10 @@ applied_kept planned call before after old new kept fit unused sized is shelved 
           unused kept.sized sized)));
     }
   where
-    sized_charged : (planned : PlannedChange) (call : Call) (state : State) → AreSized (changed planned state).tables
-        → AreSized (with_planned call planned state).tables
-    sized_charged planned call state sized = by call.caller sized
+    sized_charged : (planned : PlannedChange) (call : Call) (state : State) → IsSized (changed planned state)
+        → IsSized (with_planned call planned state)
+    sized_charged planned call state sized = by call.caller
       where
-        by : (caller : Caller) → AreSized (changed planned state).tables
-            → AreSized (charged caller call.size (changed planned state)).tables
-        by Anonymous s = s
-        by (Named user) s = s
+        by : (caller : Caller) → IsSized (charged caller call.size (changed planned state))
+        by Anonymous = sized
+        by (Named user) = record { tables = sized.tables; next_jobs = sized.next_jobs }

@@ -42,7 +42,7 @@ use Rattle.portal_core.specs.ChangedRows.{IsKey-row_at_id, cells_body, changes_o
 use Rattle.portal_core.specs.ChangedRows.{put_of, removals_of_id, removals_of_ids, removals_of_table}
 use Rattle.portal_core.specs.Entries.{DropRow, PutRow, PutTable, row_at_id, rows_of}
 use Rattle.portal_core.specs.EntriesOf.{drops_of, entries_of_batch, head_of, head_with, puts_of, rows_written}
-use Rattle.portal_core.specs.KeptRows.{AreSized, kept_rows, resource_id, table_rows}
+use Rattle.portal_core.specs.KeptRows.{IsSized, kept_rows, resource_id, table_rows}
 use Rattle.portal_core.specs.Planned.{Tables}
 use Rattle.portal_core.specs.RowChanges.{planned_row_changes}
 use Rattle.portal_core.specs.State.{State}
@@ -90,9 +90,9 @@ found-changed a make t keeps (u ∷ tables) there = by (is_at a u) refl there (f
 
 -- ---- a new table
 
-pub created : (t : ResourceTable) (state : State) → IsValid state → AreSized state.tables
+pub created : (t : ResourceTable) (state : State) → IsValid state → IsSized state
     → found (at_address t.address) state.tables ≡ None → IsValid (changed (Tables (table.Create t)) state)
-    → AreSized (changed (Tables (table.Create t)) state).tables
+    → IsSized (changed (Tables (table.Create t)) state)
     → planned_row_changes (Tables (table.Create t)) state ≡ map put_of (table_rows t)
 created t state valid sized none also also_sized =
     changes_for-cons before after (PutTable (head_of t)) (map (PutRow t.address) t.table.rows) _ _
@@ -144,9 +144,9 @@ created t state valid sized none also also_sized =
 
 -- ---- a table that goes
 
-pub dropped-table : (a : Address) (t : ResourceTable) (state : State) → IsValid state → AreSized state.tables
+pub dropped-table : (a : Address) (t : ResourceTable) (state : State) → IsValid state → IsSized state
     → found (at_address a) state.tables ≡ Some t → IsValid (changed (Tables (table.Remove a)) state)
-    → AreSized (changed (Tables (table.Remove a)) state).tables
+    → IsSized (changed (Tables (table.Remove a)) state)
     → planned_row_changes (Tables (table.Remove a)) state ≡ removals_of_table t
 dropped-table a t state valid sized there also also_sized =
     ap (λ (o : Option ResourceTable). changes_for (kept_rows state) (kept_rows new) (drops_of o)) there
@@ -215,10 +215,10 @@ worked-address t (Ok worked) = refl
 worked-address t (Err fault) = refl
 
 pub batch-changes : (a : Address) (method : Method) (records : List Json) (work : Written) (t : ResourceTable)
-    (state : State) → IsValid state → AreSized state.tables → found (at_address a) state.tables ≡ Some t
+    (state : State) → IsValid state → IsSized state → found (at_address a) state.tables ≡ Some t
     → put_records method records t.table ≡ Ok (worked_on t.table.rows work) → IsAscending row_cmp work.changed
     → AreThoseOf work.written work.changed → IsValid (changed (Tables (table.Put a method records)) state)
-    → AreSized (changed (Tables (table.Put a method records)) state).tables
+    → IsSized (changed (Tables (table.Put a method records)) state)
     → planned_row_changes (Tables (table.Put a method records)) state ≡ changes_of_batch work t
 batch-changes a method records work t state valid sized there put up those also also_sized =
     ap (λ (o : Option ResourceTable). changes_for before after (puts_of method records o)) there
@@ -308,9 +308,9 @@ cut-none ids rows id m =
         absurd (true≢false (sym left ∙ ap not gone))
 
 pub deleted-changes : (a : Address) (ids : List ℕ) (t : ResourceTable) (state : State) → IsValid state
-    → AreSized state.tables → found (at_address a) state.tables ≡ Some t → All (λ id. id < 2 ^ 64) ids
+    → IsSized state → found (at_address a) state.tables ≡ Some t → All (λ id. id < 2 ^ 64) ids
     → IsValid (changed (Tables (table.DeleteRows a ids)) state)
-    → AreSized (changed (Tables (table.DeleteRows a ids)) state).tables
+    → IsSized (changed (Tables (table.DeleteRows a ids)) state)
     → planned_row_changes (Tables (table.DeleteRows a ids)) state ≡ removals_of_ids ids t
 deleted-changes a ids t state valid sized there ids_small also also_sized =
     changes_for-each before after (DropRow a) (removals_of_id (resource_id a) t.table.rows) ids each

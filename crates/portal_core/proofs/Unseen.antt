@@ -10,6 +10,7 @@ use Rattle.std.proofs.lemmas.Slice.Eq.{bytes_eq-Decides}
 use Rattle.portal_base.specs.declared.caller.Caller.{Caller}
 use Rattle.portal_base.specs.declared.caller.Caller.TheVariants.{Anonymous}
 use Rattle.portal_base.specs.declared.json_value.Json.{Json}
+use Rattle.portal_base.specs.Ordered.{found}
 use Rattle.portal_base.proofs.Filtered.{IsIn-filter}
 use Rattle.portal_base.proofs.Unique.{IsIn, IsIn-Contains, Contains-IsIn}
 use Rattle.portal_base.proofs.Upserted.{All-IsIn, Contains-dropped, Contains-upserted, dropped-Contains}
@@ -27,6 +28,12 @@ use Rattle.datastore_answers.specs.Order.{at_address, is_at, table_cmp}
 use Rattle.datastore_answers.specs.declared.address.Address.{Address}
 use Rattle.datastore_answers.specs.declared.resource_table.ResourceTable.{ResourceTable}
 use Rattle.datastore_answers.proofs.KeepLemmas.{at-is}
+use Rattle.harvest_answers.specs.View.{sees_source}
+use Rattle.harvest_sources.specs.Entries.{DropJob, DropSource, PutJob, PutListing, PutSource, SourceEntry, with_job}
+use Rattle.harvest_sources.specs.Entries.{changed_by as sources_changed_by, with_jobs_of, with_listing, with_source_at}
+use Rattle.harvest_sources.specs.Entries.{without_job}
+use Rattle.harvest_sources.specs.Sources.{SourceState, source_at, source_cmp}
+use Rattle.harvest_sources.specs.declared.source.HarvestSource.{HarvestSource}
 use Rattle.portal_calls.specs.declared.answer.Answer.{Answer}
 use Rattle.portal_calls.specs.declared.answer.Answer.TheVariants.{Accepted}
 use Rattle.portal_calls.specs.declared.call.Call.{Call}
@@ -36,10 +43,10 @@ use Rattle.visibility.specs.Visibility.{sees_in}
 use Rattle.portal_core.specs.Change.{Change}
 use Rattle.portal_core.specs.Changed.{applied, charged, is_in_use}
 use Rattle.portal_core.specs.Entries.{Entry, PutOrg, DropOrg, PutRole, DropRole, PutDataset, EditDataset}
-use Rattle.portal_core.specs.Entries.{DropDataset, PutTable, DropTable, PutRow, DropRow, changed_by, rows_at}
+use Rattle.portal_core.specs.Entries.{DropDataset, PutTable, DropTable, PutRow, DropRow, OfSources, changed_by, rows_at}
 use Rattle.portal_core.specs.Entries.{state_after, table_of, with_row, without_row}
 use Rattle.portal_core.specs.Hidden.{AreUnseen, IsEntryUnseen, IsHidden, IsHiddenBetween, IsHiddenChange, IsIdUnseen}
-use Rattle.portal_core.specs.Hidden.{IsRoleUnseen, is_caller, is_kept}
+use Rattle.portal_core.specs.Hidden.{IsRoleUnseen, is_caller, is_kept, source_of_entry}
 use Rattle.portal_core.specs.Known.{is_known, known_call}
 use Rattle.portal_core.specs.State.{State}
 use Rattle.portal_core.specs.Step.{answer_in, outcome_of, outcome_unless_in_use}
@@ -47,6 +54,7 @@ use Rattle.portal_core.specs.View.{is_own_quota, is_table_seen}
 use Rattle.portal_core.specs.declared.change.Claim.{Claim}
 use Rattle.portal_core.proofs.Charging.{state_after-quota}
 use Rattle.portal_core.proofs.Hiding.{charged-between, hidden-none, unchanged-hidden}
+use Rattle.portal_core.proofs.KeyedSources.{name-of_put}
 use Rattle.portal_core.proofs.TableViewing.{any-is}
 
 -- ---- what no entry names
@@ -103,6 +111,7 @@ dataset-stays (PutTable head) state d other m = m
 dataset-stays (DropTable address) state d other m = m
 dataset-stays (PutRow address row) state d other m = m
 dataset-stays (DropRow address id) state d other m = m
+dataset-stays (OfSources e) state d other m = m
 
 -- and brings none in its place.
 dataset-stood : (entry : Entry) (state : State) (d : Package) → is_about_dataset d.id entry ≡ false
@@ -134,6 +143,7 @@ dataset-stood (PutTable head) state d other m = m
 dataset-stood (DropTable address) state d other m = m
 dataset-stood (PutRow address row) state d other m = m
 dataset-stood (DropRow address id) state d other m = m
+dataset-stood (OfSources e) state d other m = m
 
 -- ---- tables
 
@@ -196,6 +206,7 @@ table-stays (DropRole org user) state t other m = m
 table-stays (PutDataset d) state t other m = m
 table-stays (EditDataset id edit) state t other m = m
 table-stays (DropDataset id) state t other m = m
+table-stays (OfSources e) state t other m = m
 
 table-stood : (entry : Entry) (state : State) (t : ResourceTable) → is_about_tables t.address.dataset entry ≡ false
     → Contains (changed_by entry state).tables t → Contains state.tables t
@@ -223,6 +234,7 @@ table-stood (DropRole org user) state t other m = m
 table-stood (PutDataset d) state t other m = m
 table-stood (EditDataset id edit) state t other m = m
 table-stood (DropDataset id) state t other m = m
+table-stood (OfSources e) state t other m = m
 
 -- ---- roles
 
@@ -248,6 +260,7 @@ role-stays (PutTable head) state m other within = within
 role-stays (DropTable address) state m other within = within
 role-stays (PutRow address row) state m other within = within
 role-stays (DropRow address id) state m other within = within
+role-stays (OfSources e) state m other within = within
 
 role-stood : (entry : Entry) (state : State) (m : Membership) → is_about_role m entry ≡ false
     → Contains (changed_by entry state).people.roles m → Contains state.people.roles m
@@ -273,6 +286,119 @@ role-stood (PutTable head) state m other within = within
 role-stood (DropTable address) state m other within = within
 role-stood (PutRow address row) state m other within = within
 role-stood (DropRow address id) state m other within = within
+role-stood (OfSources e) state m other within = within
+
+-- ---- sources
+
+-- The entry is about the source of that name.
+abbrev is_about_source : List ℕ → Entry → Bool
+is_about_source name (OfSources e) = bytes_eq name (source_of_entry e)
+is_about_source name entry = false
+
+-- What is made of another source leaves a source where it is,
+other-stays : (name : List ℕ) (f : SourceState → SourceState) (s : SourceState) (sources : List SourceState)
+    → bytes_eq s.source.name name ≡ false → Contains sources s → Contains (with_source_at name f sources) s
+other-stays name f s sources other m =
+    map-stays (λ t. if bytes_eq t.source.name name then f t else t) s sources
+    (ap (λ b. if b then f s else s) other) m
+
+-- and brings none in its place.
+other-stood : (name : List ℕ) (f : SourceState → SourceState) → ((t : SourceState) → (f t).source ≡ t.source)
+    → (s : SourceState) (sources : List SourceState) → bytes_eq s.source.name name ≡ false
+    → Contains (with_source_at name f sources) s → Contains sources s
+other-stood name f keeps s sources other m =
+    let z = map-was (λ t. if bytes_eq t.source.name name then f t else t) s sources m in
+    by z.0 z.1 z.2 (bytes_eq z.0.source.name name) refl
+  where
+    by : (t : SourceState) → Contains sources t → s ≡ (if bytes_eq t.source.name name then f t else t) → (b : Bool)
+        → bytes_eq t.source.name name ≡ b → Contains sources s
+    by t within is true named =
+        let same : s.source ≡ t.source =
+        ap (λ (u : SourceState). u.source) (is ∙ ap (λ b. if b then f t else t) named) ∙ keeps t in
+        let about : bytes_eq s.source.name name ≡ true =
+        ap (λ (u : HarvestSource). bytes_eq u.name name) same ∙ named in
+        absurd (cc)
+    by t within is false named = subst (Contains sources) (sym (is ∙ ap (λ b. if b then f t else t) named)) within
+
+put-stays : (source : HarvestSource) (s : SourceState) (sources : List SourceState)
+    → bytes_eq s.source.name source.name ≡ false → Contains sources s
+    → Contains (sources_changed_by (PutSource source) sources) s
+put-stays source s sources other m =
+    let old : Option SourceState = found (source_at source.name) sources in
+    upserted-Contains_other source_cmp (with_jobs_of source old) s sources m
+    (ap (λ (u : HarvestSource). is_eq (source_at u.name s)) (name-of_put source old)
+    ∙ is_eq-slice_cmp s.source.name source.name ∙ other)
+
+put-stood : (source : HarvestSource) (s : SourceState) (sources : List SourceState)
+    → bytes_eq s.source.name source.name ≡ false
+    → Contains (sources_changed_by (PutSource source) sources) s → Contains sources s
+put-stood source s sources other m = by (Contains-upserted source_cmp new s sources m)
+  where
+    old : Option SourceState
+    old = found (source_at source.name) sources
+
+    new : SourceState
+    new = with_jobs_of source old
+
+    by : (s ≡ new) ⊎ (Contains sources s × (is_eq (source_cmp s new) ≡ false)) → Contains sources s
+    by (inl is) =
+        let about : bytes_eq s.source.name source.name ≡ true =
+        (bytes_eq-Decides s.source.name source.name).1
+        (ap (λ (u : HarvestSource). u.name) (ap (λ (t : SourceState). t.source) is ∙ name-of_put source old)) in
+        absurd (cc)
+    by (inr was) = was.0
+
+source_entry-stays : (entry : SourceEntry) (sources : List SourceState) (s : SourceState)
+    → bytes_eq s.source.name (source_of_entry entry) ≡ false → Contains sources s
+    → Contains (sources_changed_by entry sources) s
+source_entry-stays (PutSource source) sources s other m = put-stays source s sources other m
+source_entry-stays (DropSource name) sources s other m =
+    dropped-Contains (source_at name) s sources m (is_eq-slice_cmp s.source.name name ∙ other)
+source_entry-stays (PutJob job) sources s other m = other-stays job.source (with_job job) s sources other m
+source_entry-stays (DropJob name number) sources s other m = other-stays name (without_job number) s sources other m
+source_entry-stays (PutListing name listing) sources s other m = other-stays name (with_listing listing) s sources other m
+
+source_entry-stood : (entry : SourceEntry) (sources : List SourceState) (s : SourceState)
+    → bytes_eq s.source.name (source_of_entry entry) ≡ false → Contains (sources_changed_by entry sources) s
+    → Contains sources s
+source_entry-stood (PutSource source) sources s other m = put-stood source s sources other m
+source_entry-stood (DropSource name) sources s other m = (Contains-dropped (source_at name) s sources m).0
+source_entry-stood (PutJob job) sources s other m =
+    other-stood job.source (with_job job) (λ t. refl) s sources other m
+source_entry-stood (DropJob name number) sources s other m =
+    other-stood name (without_job number) (λ t. refl) s sources other m
+source_entry-stood (PutListing name listing) sources s other m =
+    other-stood name (with_listing listing) (λ t. refl) s sources other m
+
+source-stays : (entry : Entry) (state : State) (s : SourceState) → is_about_source s.source.name entry ≡ false
+    → Contains state.sources s → Contains (changed_by entry state).sources s
+source-stays (OfSources e) state s other m = source_entry-stays e state.sources s other m
+source-stays (PutOrg org) state s other m = m
+source-stays (DropOrg name) state s other m = m
+source-stays (PutRole role) state s other m = m
+source-stays (DropRole org user) state s other m = m
+source-stays (PutDataset d) state s other m = m
+source-stays (EditDataset id edit) state s other m = m
+source-stays (DropDataset id) state s other m = m
+source-stays (PutTable head) state s other m = m
+source-stays (DropTable address) state s other m = m
+source-stays (PutRow address row) state s other m = m
+source-stays (DropRow address id) state s other m = m
+
+source-stood : (entry : Entry) (state : State) (s : SourceState) → is_about_source s.source.name entry ≡ false
+    → Contains (changed_by entry state).sources s → Contains state.sources s
+source-stood (OfSources e) state s other m = source_entry-stood e state.sources s other m
+source-stood (PutOrg org) state s other m = m
+source-stood (DropOrg name) state s other m = m
+source-stood (PutRole role) state s other m = m
+source-stood (DropRole org user) state s other m = m
+source-stood (PutDataset d) state s other m = m
+source-stood (EditDataset id edit) state s other m = m
+source-stood (DropDataset id) state s other m = m
+source-stood (PutTable head) state s other m = m
+source-stood (DropTable address) state s other m = m
+source-stood (PutRow address row) state s other m = m
+source-stood (DropRow address id) state s other m = m
 
 -- ---- all entries
 
@@ -313,6 +439,7 @@ users-same (entry ∷ entries) state = users-same entries (changed_by entry stat
     same (DropTable address) = refl
     same (PutRow address row) = refl
     same (DropRow address id) = refl
+    same (OfSources e) = refl
 
 -- No entry of an organization is unseen.
 orgs-same : (caller : Caller) (there : State) (entries : List Entry) (state : State)
@@ -335,6 +462,7 @@ orgs-same caller there (entry ∷ entries) state unseen =
     same (DropTable address) is = refl
     same (PutRow address row) is = refl
     same (DropRow address id) is = refl
+    same (OfSources e) is = refl
 
 -- ---- what is seen is named by no unseen entry
 
@@ -358,6 +486,7 @@ unnamed-dataset caller state d within seen (PutTable head) unseen = refl
 unnamed-dataset caller state d within seen (DropTable address) unseen = refl
 unnamed-dataset caller state d within seen (PutRow address row) unseen = refl
 unnamed-dataset caller state d within seen (DropRow address id) unseen = refl
+unnamed-dataset caller state d within seen (OfSources e) unseen = refl
 
 -- A table that is seen is of a dataset that is seen.
 other-tables : (caller : Caller) (state : State) (id : List ℕ) → IsIdUnseen caller state id → (t : ResourceTable)
@@ -383,6 +512,7 @@ unnamed-table caller state t seen (DropRole org user) unseen = refl
 unnamed-table caller state t seen (PutDataset d) unseen = refl
 unnamed-table caller state t seen (EditDataset id edit) unseen = refl
 unnamed-table caller state t seen (DropDataset id) unseen = refl
+unnamed-table caller state t seen (OfSources e) unseen = refl
 
 either : (a b : Bool) → a ≡ false → b ≡ false → (a || b) ≡ false
 either a b is_a is_b = rw (is_a, is_b) refl
@@ -414,6 +544,26 @@ unnamed-role caller state m seen (PutTable head) unseen = refl
 unnamed-role caller state m seen (DropTable address) unseen = refl
 unnamed-role caller state m seen (PutRow address row) unseen = refl
 unnamed-role caller state m seen (DropRow address id) unseen = refl
+unnamed-role caller state m seen (OfSources e) unseen = refl
+
+unnamed-source : (caller : Caller) (state : State) (s : SourceState) → Contains state.sources s
+    → sees_source state.people caller s ≡ true → (entry : Entry) → IsEntryUnseen caller state entry
+    → is_about_source s.source.name entry ≡ false
+unnamed-source caller state s within seen (OfSources e) unseen =
+    not_true (bytes_eq s.source.name (source_of_entry e))
+    (λ is. let not_seen : sees_source state.people caller s ≡ false =
+    unseen s within ((bytes_eq-Decides s.source.name (source_of_entry e)).0 is) in cc)
+unnamed-source caller state s within seen (PutOrg org) unseen = refl
+unnamed-source caller state s within seen (DropOrg name) unseen = refl
+unnamed-source caller state s within seen (PutRole role) unseen = refl
+unnamed-source caller state s within seen (DropRole org user) unseen = refl
+unnamed-source caller state s within seen (PutDataset d) unseen = refl
+unnamed-source caller state s within seen (EditDataset id edit) unseen = refl
+unnamed-source caller state s within seen (DropDataset id) unseen = refl
+unnamed-source caller state s within seen (PutTable head) unseen = refl
+unnamed-source caller state s within seen (DropTable address) unseen = refl
+unnamed-source caller state s within seen (PutRow address row) unseen = refl
+unnamed-source caller state s within seen (DropRow address id) unseen = refl
 
 -- ---- unseen entries
 
@@ -441,6 +591,12 @@ unseen-between caller state entries unseen = record {
         entries state t (λ e is. unnamed-table caller state t kept e (before e is)) within;
     stood = λ t within kept. stood-through (λ s. s.tables) (λ t e. is_about_tables t.address.dataset e) table-stood
         entries state t (λ e is. unnamed-table caller now t kept e (after e is)) within;
+  };
+  sources = record {
+    stays = λ u within kept. stays-through (λ s. s.sources) (λ u e. is_about_source u.source.name e) source-stays
+        entries state u (λ e is. unnamed-source caller state u within kept e (before e is)) within;
+    stood = λ u within kept. stood-through (λ s. s.sources) (λ u e. is_about_source u.source.name e) source-stood
+        entries state u (λ e is. unnamed-source caller now u within kept e (after e is)) within;
   };
   quota_used = subst (IsHiddenChange (is_own_quota caller) (is_own_quota caller) state.quota_used)
       (sym (state_after-quota entries state))

@@ -1,6 +1,6 @@
 -- The values of a valid state have rows in a store, and their rows are those of the state.
-use Rattle.std.proofs.Common.{◌≡◌, ℕ, ◌==◌, ◌<◌, ◌^◌, Bool, true, false, ◌&&◌, not, List, [], ◌∷◌, ◌++◌, All, map, inl}
-use Rattle.std.proofs.Common.{inr, refl, sym, ap, subst, arith}
+use Rattle.std.proofs.Common.{◌≡◌, ◌∙◌, ℕ, ◌==◌, ◌<◌, ◌^◌, Bool, true, false, ◌&&◌, not, List, [], ◌∷◌, ◌++◌, All, map, inl}
+use Rattle.std.proofs.Common.{inr, refl, sym, ap, subst, arith, append_assoc}
 use Rattle.std.specs.Prelude.{if◌then◌else◌}
 use Rattle.std.specs.Cmp.Lexicographic.{slice_cmp}
 use Rattle.std.specs.List.{flat_map, list_all}
@@ -27,26 +27,30 @@ use Rattle.datastore_answers.specs.Order.{table_cmp, table_cmp_total}
 use Rattle.datastore_answers.specs.declared.address.Address.{Address}
 use Rattle.datastore_answers.specs.declared.resource_table.ResourceTable.{ResourceTable}
 use Rattle.datastore_answers.proofs.ReferenceLemmas.{kept-each}
+use Rattle.harvest_rows.specs.KeptHarvests.{rows_of_harvests}
+use Rattle.harvest_rows.specs.Rows.{job_rows, source_rows}
+use Rattle.harvest_sources.specs.Sources.{SourceState}
 use Rattle.portal_keeper.specs.Rows.{row_cmp, row_cmp_total}
 use Rattle.portal_keeper.specs.declared.row.KeptRow.{KeptRow}
-use Rattle.portal_rows.specs.KeptValues.{AreKeptValues, IsKeptOf, IsKeptRow, IsKeptTable, kept_org_cmp, kept_org_row}
+use Rattle.portal_rows.specs.KeptValues.{AreKeptValues, IsKeptRow, IsKeptTable, kept_org_cmp, kept_org_row}
 use Rattle.portal_rows.specs.KeptValues.{kept_table_cmp, kept_table_cmp_total, rows_of_values}
 use Rattle.portal_rows.specs.KeptValues as values
 use Rattle.portal_rows.specs.OrgRows.{IsOrgWithRoles, org_rows}
 use Rattle.portal_rows.specs.VersionRow.{version_row}
 use Rattle.portal_rows.specs.declared.kept_tables.KeptTable.{KeptTable}
-use Rattle.portal_rows.proofs.KeptOrder.{rows_of_values-in_order}
 use Rattle.portal_rows.proofs.MemberLemmas.{ascending-made}
 use Rattle.portal_rows.proofs.OrderLemmas.{memberships_in-own}
-use Rattle.portal_core.specs.KeptRows.{dataset_row, kept_rows, listed_rows, resource_id, row_target, row_targets, table_rows}
+use Rattle.portal_core.specs.KeptRows.{IsSized, dataset_row, kept_rows, listed_rows, resource_id, row_target, row_targets, table_rows}
 use Rattle.portal_core.specs.State.{State}
-use Rattle.portal_core.specs.Typed.{IsTyped}
+use Rattle.portal_core.specs.Typed.{IsTyped, IsTypedSource}
 use Rattle.portal_core.specs.Valid.{IsValid}
-use Rattle.portal_core.specs.Values.{kept_table, values_of, with_roles}
+use Rattle.portal_core.specs.Values.{AreRowsOf, harvests_of, kept_table, values_of, with_roles}
+use Rattle.portal_core.proofs.HarvestValues.{harvest_rows-both, harvests-kept}
 use Rattle.portal_core.proofs.InOrder.{kept_rows-in_order, within-id}
 use Rattle.portal_core.proofs.KeyLemmas.{same_address}
 use Rattle.portal_core.proofs.RowMembers.{IsInBoth, IsIn-flat_map, flat_map-IsIn, in_both-append, in_both-cons}
-use Rattle.portal_core.proofs.RowMembers.{in_both-itself}
+use Rattle.portal_core.proofs.RowMembers.{in_both-itself, in_both-then}
+use Rattle.portal_core.proofs.RowParts.{both-in_order}
 
 -- ---- organizations
 
@@ -154,6 +158,14 @@ values-kept state valid typed = record {
       (All-IsIn (λ (t : ResourceTable). t.address.number < 2 ^ 32) state.tables typed.tables.numbers));
 }
 
+-- A state whose fields have values of their types is sized.
+pub typed-sized : (state : State) → IsTyped state → IsSized state
+typed-sized state typed = record {
+  tables = typed.tables;
+  next_jobs = All-each (λ (s : SourceState). s.source.next_job < 2 ^ 64) state.sources
+      (λ s m. (All-IsIn IsTypedSource state.sources typed.sources s m).source);
+}
+
 -- ---- their rows
 
 org_rows-of : (roles : List Membership) (orgs : List Org)
@@ -184,8 +196,17 @@ table_rows-both tables r = (into, from)
         (IsIn-ascending kept_table_cmp (kept_table t.0) (map kept_table tables) (IsIn-map kept_table t.0 tables t.1))
         t.2
 
-listed-both : (state : State) (r : KeptRow) → IsInBoth r (values.listed_rows (values_of state)) (listed_rows state)
-listed-both state r =
+-- the rows of organizations, datasets and tables, in the orders of the state's lists
+abbrev front_rows : State → List KeptRow
+front_rows state =
+    version_row ∷ (org_rows state.people ++ (map dataset_row state.datasets ++ flat_map table_rows state.tables))
+
+-- the rows of sources and jobs
+abbrev back_rows : State → List KeptRow
+back_rows state = source_rows state.sources ++ job_rows state.sources
+
+front-both : (state : State) (r : KeptRow) → IsInBoth r (values.listed_rows (values_of state)) (front_rows state)
+front-both state r =
     let v = values_of state in
     let datasets = map dataset_row state.datasets in
     let tables = flat_map table_rows state.tables in
@@ -198,16 +219,43 @@ listed-both state r =
     (in_both-append r datasets kept_tables datasets tables (in_both-itself r datasets)
     (table_rows-both state.tables r)))
 
-pub rows_of_values-kept : (state : State) → IsValid state → IsTyped state
-    → rows_of_values (values_of state) ≡ kept_rows state
-rows_of_values-kept state valid typed =
-    unique row_cmp row_cmp_total (rows_of_values (values_of state)) (kept_rows state)
-    (rows_of_values-in_order (values_of state) (values-kept state valid typed))
-    (kept_rows-in_order state valid typed.tables)
-    (λ r m. IsIn-ascending row_cmp r (listed_rows state)
-    ((listed-both state r).0 (ascending-IsIn row_cmp r (values.listed_rows (values_of state)) m)))
-    (λ r m. IsIn-ascending row_cmp r (values.listed_rows (values_of state))
-    ((listed-both state r).1 (ascending-IsIn row_cmp r (listed_rows state) m)))
+listed-parts : (state : State) → listed_rows state ≡ front_rows state ++ back_rows state
+listed-parts state =
+    let orgs = org_rows state.people in
+    let datasets = map dataset_row state.datasets in
+    let tables = flat_map table_rows state.tables in
+    ap (λ (l : List KeptRow). version_row ∷ l)
+    (ap (λ (l : List KeptRow). orgs ++ l) (sym (append_assoc datasets tables (back_rows state)))
+    ∙ sym (append_assoc orgs (datasets ++ tables) (back_rows state)))
 
-pub kept_of-values : (state : State) → IsValid state → IsTyped state → IsKeptOf (values_of state) (kept_rows state)
-kept_of-values state valid typed = (values-kept state valid typed, rows_of_values-kept state valid typed)
+-- the rows of the state's values
+abbrev rows_of_both : State → List KeptRow
+rows_of_both state = rows_of_values (values_of state) ++ rows_of_harvests (harvests_of state)
+
+listed-both : (state : State) (r : KeptRow) → IsInBoth r (rows_of_both state) (listed_rows state)
+listed-both state r =
+    let listed = values.listed_rows (values_of state) in
+    subst (IsInBoth r (rows_of_both state)) (sym (listed-parts state))
+    (in_both-append r (rows_of_values (values_of state)) (rows_of_harvests (harvests_of state)) (front_rows state)
+    (back_rows state)
+    (in_both-then r (rows_of_values (values_of state)) listed (front_rows state)
+    (ascending-IsIn row_cmp r listed, IsIn-ascending row_cmp r listed) (front-both state r))
+    (harvest_rows-both state r))
+
+pub rows_of_values-kept : (state : State) → IsValid state → IsTyped state
+    → rows_of_values (values_of state) ++ rows_of_harvests (harvests_of state) ≡ kept_rows state
+rows_of_values-kept state valid typed =
+    unique row_cmp row_cmp_total (rows_of_both state) (kept_rows state)
+    (both-in_order (values_of state) (harvests_of state) (values-kept state valid typed)
+    (harvests-kept state valid typed))
+    (kept_rows-in_order state valid (typed-sized state typed))
+    (λ r m. IsIn-ascending row_cmp r (listed_rows state) ((listed-both state r).0 m))
+    (λ r m. (listed-both state r).1 (ascending-IsIn row_cmp r (listed_rows state) m))
+
+pub values-rows : (state : State) → IsValid state → IsTyped state
+    → AreRowsOf (values_of state) (harvests_of state) (kept_rows state)
+values-rows state valid typed = record {
+  values_kept = values-kept state valid typed;
+  harvests_kept = harvests-kept state valid typed;
+  same = rows_of_values-kept state valid typed;
+}

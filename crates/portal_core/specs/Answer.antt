@@ -10,7 +10,11 @@ use Rattle.datastore_answers.specs.TableAnswers.{map_answer}
 use Rattle.datastore_answers.specs.declared.answer.TableAnswer.{TableAnswer}
 use Rattle.datastore_answers.specs.declared.answer.TableAnswer.TheVariants.{NoTable, Answered}
 use Rattle.datastore_answers.specs.declared.resource_table.ResourceTable.{ResourceTable}
+use Rattle.harvest_answers.specs.Answers as harvest
+use Rattle.harvest_sources.specs.Sources.{SourceState}
+use Rattle.harvest_sources.specs.declared.change.SourceChange.{SourceChange}
 use Rattle.organization_answers.specs.Answers as organization
+use Rattle.organization_answers.specs.Owners.{owners_of}
 use Rattle.portal_calls.specs.Topic.{topic_of}
 use Rattle.portal_calls.specs.declared.answer.Answer.{Answer}
 use Rattle.portal_calls.specs.declared.answer.Answer.TheVariants.{Shown, Refused, Accepted}
@@ -24,7 +28,7 @@ use Rattle.portal_calls.specs.declared.topic.Topic.TheVariants as topic
 use Rattle.visibility.specs.CallView.{CallView}
 use Rattle.portal_core.specs.State.{State, accepted_bytes_of}
 use Rattle.portal_core.specs.Change.{Change}
-use Rattle.portal_core.specs.Planned.{PlannedChange, People, Datasets, Tables, change_of}
+use Rattle.portal_core.specs.Planned.{PlannedChange, People, Datasets, Tables, Sources, change_of}
 use Rattle.portal_core.specs.Queries.{answer_to_query}
 use Rattle.portal_core.specs.Search.{answer_to_search}
 use Rattle.portal_core.specs.declared.quota.QuotaUsed.{QuotaUsed}
@@ -74,17 +78,26 @@ of_tables (Answered (Shown json)) = Shown json
 of_tables (Answered (Refused denial)) = Refused denial
 of_tables (Answered (Accepted json change)) = Accepted json (Tables change)
 
--- the answer to an action, by what the action is about
-abbrev pub answer_on : Topic → CallView → List ResourceTable → Answer PlannedChange
-answer_on (topic.Organizations action) view tables = of_people (organization.answer_to_action action view)
-answer_on (topic.Datasets action) view tables = of_datasets (dataset.answer_to_action action view (summaries_of tables))
-answer_on topic.Search view tables = answer_to_search view (summaries_of tables)
-answer_on (topic.Tables action) view tables = of_tables (table.answer_to_action action view tables)
-answer_on (topic.Queries action) view tables = of_tables (answer_to_query action view tables)
+-- an answer on sources of harvests as one on the portal
+abbrev pub of_sources : Answer SourceChange → Answer PlannedChange
+of_sources (Shown json) = Shown json
+of_sources (Refused denial) = Refused denial
+of_sources (Accepted json change) = Accepted json (Sources change)
+
+-- the answer to an action, by what the action is about, where the view has these tables and sources
+abbrev pub answer_on : Topic → CallView → List ResourceTable → List SourceState → Answer PlannedChange
+answer_on (topic.Organizations action) view tables sources =
+    of_people (organization.answer_to_action action view (owners_of sources))
+answer_on (topic.Datasets action) view tables sources =
+    of_datasets (dataset.answer_to_action action view (summaries_of tables))
+answer_on topic.Search view tables sources = answer_to_search view (summaries_of tables)
+answer_on (topic.Tables action) view tables sources = of_tables (table.answer_to_action action view tables)
+answer_on (topic.Queries action) view tables sources = of_tables (answer_to_query action view tables)
+answer_on (topic.Harvests action) view tables sources = of_sources (harvest.answer_to_action action view sources)
 
 -- the answer to the call on the view, with the change that is planned
 abbrev pub planned_answer : Call → State → Answer PlannedChange
-planned_answer call view = answer_on (topic_of call.request.action) (call_view_of call view) view.tables
+planned_answer call view = answer_on (topic_of call.request.action) (call_view_of call view) view.tables view.sources
 
 -- The answer to the call on the view. An accepted change is written out as entries, by what the caller sees.
 abbrev pub answer_to : Call → State → Answer Change

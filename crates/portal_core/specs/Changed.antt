@@ -11,13 +11,15 @@ use Rattle.dataset_answers.specs.declared.change.DatasetChange.TheVariants as da
 use Rattle.datastore_answers.specs.Changed.{changed_tables}
 use Rattle.datastore_answers.specs.Tables.{tables_kept}
 use Rattle.datastore_answers.specs.declared.resource_table.ResourceTable.{ResourceTable}
+use Rattle.harvest_sources.specs.Entries.{changed_sources}
+use Rattle.harvest_sources.specs.Sources.{source_named}
 use Rattle.portal_calls.specs.declared.call.Call.{Call}
 use Rattle.portal_core.specs.Change.{Change}
 use Rattle.portal_core.specs.Entries.{state_after}
-use Rattle.portal_core.specs.Planned.{PlannedChange, People, Datasets, Tables}
+use Rattle.portal_core.specs.Planned.{PlannedChange, People, Datasets, Tables, Sources}
 use Rattle.portal_core.specs.State.{State, quota_used_cmp, accepted_bytes_of_user}
 use Rattle.portal_core.specs.declared.change.Claim.{Claim}
-use Rattle.portal_core.specs.declared.change.Claim.TheVariants.{OrgName, DatasetName, DatasetId}
+use Rattle.portal_core.specs.declared.change.Claim.TheVariants.{OrgName, DatasetName, DatasetId, SourceName}
 use Rattle.portal_core.specs.declared.quota.QuotaUsed.{QuotaUsed}
 
 -- ---- the charge
@@ -50,12 +52,14 @@ abbrev pub is_in_use : State → Claim → Bool
 is_in_use state (OrgName name) = is_some (org_in state.people name)
 is_in_use state (DatasetName name) = has_name name state.datasets
 is_in_use state (DatasetId id) = has_id id state.datasets
+is_in_use state (SourceName name) = is_some (source_named state.sources name)
 
 -- the key of a claim in the body
 abbrev pub key_of : Claim → List ℕ
 key_of (OrgName name) = codes "name"
 key_of (DatasetName name) = codes "name"
 key_of (DatasetId id) = codes "id"
+key_of (SourceName name) = codes "name"
 
 -- none of these claims is in use
 abbrev pub AreUnused : State → List Claim → Type 0
@@ -81,6 +85,7 @@ changed (Datasets change) state = record state {
   tables = tables_left change state.tables;
 }
 changed (Tables change) state = record state { tables = changed_tables change state.tables }
+changed (Sources change) state = record state { sources = changed_sources change state.sources }
 
 -- the same, with the call's size charged for it
 abbrev pub with_planned : Call → PlannedChange → State → State

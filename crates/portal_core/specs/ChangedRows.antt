@@ -1,6 +1,6 @@
--- The changes of rows for a change of people, of datasets or of tables, in terms of the lists that it changes.
+-- The changes of rows for a change of people, of datasets, of tables or of sources, in terms of the lists that it changes.
 use Rattle.std.specs.Prelude.{◌<◌, ◌^◌, ℕ, List, [], ◌∷◌, ◌++◌, All, map, Option, Some, None, is_some, option_map}
-use Rattle.std.specs.Prelude.{if◌then◌else◌}
+use Rattle.std.specs.Prelude.{if◌then◌else◌, ◌+◌, ℤ, IfSome}
 use Rattle.std.specs.Cmp.{nat_cmp_total}
 use Rattle.std.specs.List.{flat_map}
 use Rattle.dataset_answers.specs.Changed.{dataset_at_id}
@@ -15,6 +15,14 @@ use Rattle.datastore_answers.specs.declared.resource_table.ResourceTable.{Resour
 use Rattle.datastore_table.specs.Batch.{AreThoseOf, Written}
 use Rattle.datastore_table.specs.Rows.{row_cmp}
 use Rattle.datastore_table.specs.declared.row.Row.{Row}
+use Rattle.harvest_rows.specs.Rows.{job_row, source_row}
+use Rattle.harvest_sources.specs.Jobs.{id_of_job, new_job}
+use Rattle.harvest_sources.specs.Sources.{SourceState, source_named}
+use Rattle.harvest_sources.specs.declared.change.SourceChange.{SourceChange}
+use Rattle.harvest_sources.specs.declared.change.SourceChange.TheVariants as source
+use Rattle.harvest_sources.specs.declared.job.Job.{Job}
+use Rattle.harvest_sources.specs.declared.source.HarvestSource.{HarvestSource}
+use Rattle.harvest_stages.specs.Stages.{sources_in}
 use Rattle.org_roles.specs.Changed.{with_org, with_role, without_role}
 use Rattle.org_roles.specs.PeopleLists.{PeopleLists, org_in}
 use Rattle.org_roles.specs.declared.change.OrgChange.{OrgChange}
@@ -184,6 +192,53 @@ IsTypedTablePlan (plan.Remove address) = Unit {0}
 IsTypedTablePlan (plan.Put address method records batch) = IsTypedBatch batch.work
 IsTypedTablePlan (plan.DeleteRows address removal) = All (λ id. id < 2 ^ 64) removal.ids
 
+-- ---- sources and jobs
+
+-- the row of a job goes
+abbrev pub removal_of_job : Job → Change
+removal_of_job job = Remove kind.Job (id_of_job job)
+
+-- what changes in the row of a source that becomes the second one, of the same name
+abbrev pub changes_of_source : HarvestSource → HarvestSource → List Change
+changes_of_source before after =
+    changes_between kind.Source after.name (Some (source_row before).body) (Some (source_row after).body)
+
+-- what changes in the row of a source that gets this title and this location
+abbrev pub changes_of_texts : List ℕ → List ℕ → HarvestSource → List Change
+changes_of_texts title url source = changes_of_source source (record source { title = title; url = url })
+
+-- the rows of a source's jobs go, and then its own
+abbrev pub removals_of_source : SourceState → List Change
+removals_of_source s = map removal_of_job s.jobs ++ Remove kind.Source s.source.name ∷ []
+
+-- what changes in the row of a source that gives its next job a number, and the row of that job
+abbrev pub changes_of_new_job : ℤ → SourceState → List Change
+changes_of_new_job created s =
+    changes_of_source s.source (record s.source { next_job = s.source.next_job + 1 })
+    ++ Put (job_row (new_job s.source.name s.source.next_job created)) ∷ []
+
+-- the changes of a source, if there is one
+abbrev pub changes_if_source : (SourceState → List Change) → Option SourceState → List Change
+changes_if_source changes None = []
+changes_if_source changes (Some s) = changes s
+
+-- the changes of rows for a change of these sources
+abbrev pub changes_of_sources : SourceChange → List SourceState → List Change
+changes_of_sources (source.Create new) sources = Put (source_row new) ∷ []
+changes_of_sources (source.Update name title url) sources =
+    changes_if_source (λ s. changes_of_texts title url s.source) (source_named sources name)
+changes_of_sources (source.Remove name) sources = changes_if_source removals_of_source (source_named sources name)
+changes_of_sources (source.AddJob name created) sources =
+    changes_if_source (changes_of_new_job created) (source_named sources name)
+
+-- What the type of its number says: the number of the next job is a `u64` after a new job too.
+abbrev pub IsTypedSourceChange : SourceChange → List SourceState → Type 0
+IsTypedSourceChange (source.Create new) sources = Unit {0}
+IsTypedSourceChange (source.Update name title url) sources = Unit {0}
+IsTypedSourceChange (source.Remove name) sources = Unit {0}
+IsTypedSourceChange (source.AddJob name created) sources =
+    IfSome (source_named sources name) (λ s. s.source.next_job + 1 < 2 ^ 64)
+
 -- ---- all plans
 
 -- the changes of rows for a plan on these parts
@@ -192,9 +247,11 @@ changes_of_plan (portal.People change) parts = changes_of_people change parts.pe
 changes_of_plan (portal.Datasets change) parts =
     changes_of_datasets change (datasets_of parts.shelf) parts.tables.tables
 changes_of_plan (portal.Tables change) parts = changes_of_tables change parts.tables.tables
+changes_of_plan (portal.Sources change) parts = changes_of_sources change (sources_in parts.sources)
 
--- what the types of what a plan says of tables say
-abbrev pub IsTypedPlan : Plan → Type 0
-IsTypedPlan (portal.People change) = Unit {0}
-IsTypedPlan (portal.Datasets change) = Unit {0}
-IsTypedPlan (portal.Tables change) = IsTypedTablePlan change
+-- what the types of what a plan says of tables and of sources say
+abbrev pub IsTypedPlan : Plan → Parts → Type 0
+IsTypedPlan (portal.People change) parts = Unit {0}
+IsTypedPlan (portal.Datasets change) parts = Unit {0}
+IsTypedPlan (portal.Tables change) parts = IsTypedTablePlan change
+IsTypedPlan (portal.Sources change) parts = IsTypedSourceChange change (sources_in parts.sources)

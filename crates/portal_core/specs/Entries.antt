@@ -21,6 +21,8 @@ use Rattle.datastore_answers.specs.Changed.{with_table_at}
 use Rattle.datastore_answers.specs.Order.{at_address, table_cmp}
 use Rattle.datastore_answers.specs.declared.address.Address.{Address}
 use Rattle.datastore_answers.specs.declared.resource_table.ResourceTable.{ResourceTable}
+use Rattle.harvest_sources.specs.Entries.{SourceEntry}
+use Rattle.harvest_sources.specs.Entries.{changed_by as sources_changed_by}
 use Rattle.portal_core.specs.State.{State}
 
 -- ---- entries
@@ -34,7 +36,7 @@ pub record TableHead : Type 0 where
 
 -- The key of an organization is its name, of a role its organization and user, of a dataset its id, of a table its
 -- address, and of a row its table's address and its `_id`. A dataset is put whole when it is new. An edit says what it sets
--- of the dataset with that id, and leaves the rest.
+-- of the dataset with that id, and leaves the rest. The entries of sources and jobs have keys of their own.
 pub data Entry : Type 0 where
   PutOrg : Org → Entry
   DropOrg : List ℕ → Entry
@@ -47,6 +49,7 @@ pub data Entry : Type 0 where
   DropTable : Address → Entry
   PutRow : Address → Row → Entry
   DropRow : Address → ℕ → Entry
+  OfSources : SourceEntry → Entry
 
 -- ---- tables and rows
 
@@ -105,6 +108,7 @@ changed_by (PutTable head) state = record state { tables = with_head head state.
 changed_by (DropTable address) state = record state { tables = dropped (at_address address) state.tables }
 changed_by (PutRow address row) state = record state { tables = with_table_at address (with_row row) state.tables }
 changed_by (DropRow address id) state = record state { tables = with_table_at address (without_row id) state.tables }
+changed_by (OfSources entry) state = record state { sources = sources_changed_by entry state.sources }
 
 -- the state after these entries, one after the other
 abbrev pub state_after : List Entry → State → State

@@ -22,8 +22,11 @@ use Rattle.datastore_answers.specs.Changed.{TableChange}
 use Rattle.datastore_answers.specs.Changed as table
 use Rattle.datastore_answers.specs.Order.{at_address}
 use Rattle.datastore_answers.specs.declared.resource_table.ResourceTable.{ResourceTable}
+use Rattle.harvest_sources.specs.Entries.{entries_of_change}
+use Rattle.harvest_sources.specs.Sources.{SourceState}
+use Rattle.harvest_sources.specs.declared.change.SourceChange.{SourceChange}
 use Rattle.portal_core.specs.Entries.{TableHead, Entry, PutOrg, DropOrg, PutRole, DropRole, PutDataset, EditDataset}
-use Rattle.portal_core.specs.Entries.{DropDataset, PutTable, DropTable, PutRow, DropRow}
+use Rattle.portal_core.specs.Entries.{DropDataset, PutTable, DropTable, PutRow, DropRow, OfSources}
 
 -- ---- organizations and roles
 
@@ -107,3 +110,9 @@ entries_of_tables (table.Remove address) tables = drops_of (found (at_address ad
 entries_of_tables (table.Put address method records) tables =
     puts_of method records (found (at_address address) tables)
 entries_of_tables (table.DeleteRows address ids) tables = map (DropRow address) ids
+
+-- ---- sources and jobs
+
+-- the entries of a change of sources, among these sources
+abbrev pub entries_of_sources : SourceChange → List SourceState → List Entry
+entries_of_sources change sources = map OfSources (entries_of_change change sources)

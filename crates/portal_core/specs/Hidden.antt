@@ -4,12 +4,15 @@ use Rattle.std.specs.List.{All, Contains}
 use Rattle.std.specs.Str.{bytes_eq}
 use Rattle.portal_base.specs.declared.caller.Caller.{Caller}
 use Rattle.portal_base.specs.declared.caller.Caller.TheVariants.{Anonymous, Named}
+use Rattle.harvest_answers.specs.View.{sees_source}
+use Rattle.harvest_sources.specs.Entries.{SourceEntry, PutSource, DropSource, PutJob, DropJob, PutListing}
+use Rattle.harvest_sources.specs.Sources.{SourceState}
 use Rattle.org_roles.specs.PeopleLists.{PeopleLists}
 use Rattle.packages.specs.declared.package.Package.{Package}
 use Rattle.visibility.specs.View.{administers, is_called, is_role_seen}
 use Rattle.visibility.specs.Visibility.{sees_in}
 use Rattle.portal_core.specs.Entries.{Entry, PutOrg, DropOrg, PutRole, DropRole, PutDataset, EditDataset}
-use Rattle.portal_core.specs.Entries.{DropDataset, PutTable, DropTable, PutRow, DropRow, state_after}
+use Rattle.portal_core.specs.Entries.{DropDataset, PutTable, DropTable, PutRow, DropRow, OfSources, state_after}
 use Rattle.portal_core.specs.State.{State}
 use Rattle.portal_core.specs.Step.{step_of}
 use Rattle.portal_core.specs.View.{is_own_quota, is_table_seen}
@@ -47,6 +50,8 @@ pub record IsHiddenBetween (caller : Caller) (before after : State) : Type 0 whe
   pub datasets : IsHiddenChange (sees_in before.people caller) (sees_in after.people caller) before.datasets
       after.datasets
   pub tables : IsHiddenChange (is_table_seen caller before) (is_table_seen caller after) before.tables after.tables
+  pub sources : IsHiddenChange (sees_source before.people caller) (sees_source after.people caller) before.sources
+      after.sources
   pub quota_used : IsHiddenChange (is_own_quota caller) (is_own_quota caller) before.quota_used after.quota_used
 
 -- The event is hidden from the caller: it is no call of the caller, and changes only what the caller's view doesn't
@@ -67,6 +72,19 @@ pub record IsRoleUnseen (caller : Caller) (people : PeopleLists) (org user : Lis
   pub elsewhere : administers people caller org ≡ false
   pub others : is_called caller user ≡ false
 
+-- the caller sees no source of that name
+abbrev pub IsSourceUnseen : Caller → State → List ℕ → Type 0
+IsSourceUnseen caller state name =
+    (s : SourceState) → Contains state.sources s → s.source.name ≡ name → sees_source state.people caller s ≡ false
+
+-- the name of the source that the entry is about
+abbrev pub source_of_entry : SourceEntry → List ℕ
+source_of_entry (PutSource source) = source.name
+source_of_entry (DropSource name) = name
+source_of_entry (PutJob job) = job.source
+source_of_entry (DropJob name number) = name
+source_of_entry (PutListing name listing) = name
+
 -- The caller sees nothing in the state that has the entry's key. A view keeps every organization, and of a dataset that it
 -- keeps it keeps all tables and their rows.
 abbrev pub IsEntryUnseen : Caller → State → Entry → Type 0
@@ -81,6 +99,7 @@ IsEntryUnseen caller state (PutTable head) = IsIdUnseen caller state head.addres
 IsEntryUnseen caller state (DropTable address) = IsIdUnseen caller state address.dataset
 IsEntryUnseen caller state (PutRow address row) = IsIdUnseen caller state address.dataset
 IsEntryUnseen caller state (DropRow address id) = IsIdUnseen caller state address.dataset
+IsEntryUnseen caller state (OfSources entry) = IsSourceUnseen caller state (source_of_entry entry)
 
 -- The caller sees nothing at the keys of these entries, neither in the state nor after them.
 pub record AreUnseen (caller : Caller) (state : State) (entries : List Entry) : Type 0 where

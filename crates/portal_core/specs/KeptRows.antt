@@ -4,6 +4,7 @@ use Rattle.std.specs.List.{flat_map}
 use Rattle.dataset_rows.specs.Rows.{row_text}
 use Rattle.datastore_answers.specs.declared.address.Address.{Address}
 use Rattle.datastore_answers.specs.declared.resource_table.ResourceTable.{ResourceTable}
+use Rattle.harvest_rows.specs.Rows.{job_rows, source_rows}
 use Rattle.packages.specs.Named.{resource_address}
 use Rattle.packages.specs.declared.package.Package.{Package}
 use Rattle.portal_base.specs.Ordered.{ascending}
@@ -41,11 +42,13 @@ table_rows t = rows_of_table (resource_id t.address) t.table (row_targets t)
 
 -- ---- all rows
 
--- the row of the version, and those of organizations, datasets and tables, in the orders of the state's lists
+-- the row of the version, and those of organizations, datasets, tables, sources and jobs, in the orders of the state's lists
 abbrev pub listed_rows : State → List KeptRow
 listed_rows state =
     version_row
-    ∷ (org_rows state.people ++ (map dataset_row state.datasets ++ flat_map table_rows state.tables))
+    ∷ (org_rows state.people
+    ++ (map dataset_row state.datasets
+    ++ (flat_map table_rows state.tables ++ (source_rows state.sources ++ job_rows state.sources))))
 
 -- the rows of the state, in the order of a store
 abbrev pub kept_rows : State → List KeptRow
@@ -57,3 +60,8 @@ kept_rows state = ascending row_cmp (listed_rows state)
 pub record AreSized (tables : List ResourceTable) : Type 0 where
   pub numbers : All (λ (t : ResourceTable). t.address.number < 2 ^ 32) tables
   pub next_ids : All (λ (t : ResourceTable). t.table.next_id < 2 ^ 64) tables
+
+-- So it is with the tables of the state, and the number of each source's next job is a `u64`.
+pub record IsSized (state : State) : Type 0 where
+  pub tables : AreSized state.tables
+  pub next_jobs : All (λ s. s.source.next_job < 2 ^ 64) state.sources

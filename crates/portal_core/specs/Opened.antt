@@ -25,7 +25,8 @@ is_opening opening =
     have_distinct_names opening.users && have_distinct_org_names opening.orgs && have_distinct_pairs opening.roles
     && are_named opening.orgs && have_orgs opening.orgs opening.roles
 
--- the users, organizations and roles of the opening, each list in its order, no dataset, no table, and nothing accepted
+-- the users, organizations and roles of the opening, each list in its order, no dataset, no table, no source, and nothing
+-- accepted
 abbrev pub opened : Opening → State
 opened opening = record {
   people = record {
@@ -35,5 +36,6 @@ opened opening = record {
   };
   datasets = [];
   tables = [];
+  sources = [];
   quota_used = [];
 }

@@ -2,12 +2,14 @@
 use Rattle.std.specs.Prelude.{◌≡◌, ℕ, true, List}
 use Rattle.std.specs.List.{Contains}
 use Rattle.org_roles.specs.PeopleLists.{is_sysadmin_in}
+use Rattle.harvest_sources.specs.Entries.{SourceEntry, PutSource, DropSource, PutJob, DropJob, PutListing}
+use Rattle.harvest_sources.specs.Sources.{SourceState}
 use Rattle.packages.specs.declared.package.Package.{Package}
 use Rattle.portal_base.specs.declared.caller.Caller.{Caller}
 use Rattle.visibility.specs.View.{administers}
 use Rattle.visibility.specs.Visibility.{may_edit_in}
 use Rattle.portal_core.specs.Entries.{Entry, PutOrg, DropOrg, PutRole, DropRole, PutDataset, EditDataset}
-use Rattle.portal_core.specs.Entries.{DropDataset, PutTable, DropTable, PutRow, DropRow}
+use Rattle.portal_core.specs.Entries.{DropDataset, PutTable, DropTable, PutRow, DropRow, OfSources}
 use Rattle.portal_core.specs.State.{State}
 
 -- a dataset of that id is in the view, and the caller may edit it
@@ -17,8 +19,23 @@ pub record IsOwnDataset (caller : Caller) (view : State) (sought : List ℕ) : T
   pub id : dataset.id ≡ sought
   pub own : may_edit_in view.people caller dataset ≡ true
 
+-- a source of that name is in the view, and the caller administers its organization
+pub record IsOwnSource (caller : Caller) (view : State) (sought : List ℕ) : Type 0 where
+  pub source : SourceState
+  pub is_present : Contains view.sources source
+  pub name : source.source.name ≡ sought
+  pub own : administers view.people caller source.source.owner_org ≡ true
+
+-- The caller administers the organization of the source that is put, or that of the source that is there.
+abbrev pub IsOwnSourceEntry : Caller → State → SourceEntry → Type 0
+IsOwnSourceEntry caller view (PutSource source) = administers view.people caller source.owner_org ≡ true
+IsOwnSourceEntry caller view (DropSource name) = IsOwnSource caller view name
+IsOwnSourceEntry caller view (PutJob job) = IsOwnSource caller view job.source
+IsOwnSourceEntry caller view (DropJob name number) = IsOwnSource caller view name
+IsOwnSourceEntry caller view (PutListing name listing) = IsOwnSource caller view name
+
 -- The caller has the right to make the entry: it administers the organization; may edit the new dataset, or the dataset that
--- is edited or has the table; and only a sysadmin drops a dataset.
+-- is edited or has the table; only a sysadmin drops a dataset; and the caller administers the organization of a source.
 abbrev pub IsOwnEntry : Caller → State → Entry → Type 0
 IsOwnEntry caller view (PutOrg org) = administers view.people caller org.name ≡ true
 IsOwnEntry caller view (DropOrg name) = administers view.people caller name ≡ true
@@ -31,3 +48,4 @@ IsOwnEntry caller view (PutTable head) = IsOwnDataset caller view head.address.d
 IsOwnEntry caller view (DropTable address) = IsOwnDataset caller view address.dataset
 IsOwnEntry caller view (PutRow address row) = IsOwnDataset caller view address.dataset
 IsOwnEntry caller view (DropRow address id) = IsOwnDataset caller view address.dataset
+IsOwnEntry caller view (OfSources entry) = IsOwnSourceEntry caller view entry

@@ -5,8 +5,13 @@ use Rattle.org_roles.specs.Changed.{IsReady, org_fault}
 use Rattle.packages.specs.Shelf.{ShelfState, package_at, number_in, datasets_of}
 use Rattle.packages.specs.declared.package.Package.{Package}
 use Rattle.dataset_answers.specs.Sound.{IsSound}
+use Rattle.harvest_sources.specs.Sources.{SourceState}
+use Rattle.harvest_sources.specs.declared.change.SourceChange.{SourceChange}
 use Rattle.dataset_answers.specs.declared.change.DatasetChange.{DatasetChange}
 use Rattle.dataset_answers.specs.declared.change.DatasetChange.TheVariants as dataset
+use Rattle.harvest_sources.specs.Entries.{source_fault}
+use Rattle.harvest_stages.specs.Ready as stages
+use Rattle.harvest_stages.specs.Stages.{sources_in}
 use Rattle.portal_core.specs.Changed.{changed, with_charge}
 use Rattle.portal_core.specs.Indexes.{IsIndexed, IsReadyIn}
 use Rattle.portal_core.specs.Planned.{PlannedChange}
@@ -22,7 +27,7 @@ use Rattle.portal_core.specs.declared.change.Plan.TheVariants as plan
 use Rattle.portal_core.specs.declared.parts.Parts.{Parts}
 use Rattle.portal_core.specs.declared.parts.Prepared.{Prepared}
 use Rattle.portal_core.specs.declared.parts.PreparedChange.{PreparedChange}
-use Rattle.portal_core.specs.declared.parts.PreparedChange.TheVariants.{People, Put, Replace, Remove, Tables}
+use Rattle.portal_core.specs.declared.parts.PreparedChange.TheVariants.{People, Put, Replace, Remove, Tables, Sources}
 use Rattle.portal_core.specs.declared.quota.QuotaUsed.{QuotaUsed}
 
 -- the state that the parts make up
@@ -31,6 +36,7 @@ state_of parts = record {
   people = parts.people.people;
   datasets = datasets_of parts.shelf;
   tables = tables_of parts.tables;
+  sources = sources_in parts.sources;
   quota_used = parts.quota_used.used;
 }
 
@@ -46,6 +52,7 @@ MakesSound (planned.Datasets (dataset.Create d)) parts = IsSound parts.people.pe
 MakesSound (planned.Datasets (dataset.Replace d)) parts = ⊤
 MakesSound (planned.Datasets (dataset.Remove id)) parts = ⊤
 MakesSound (planned.Tables change) parts = ⊤
+MakesSound (planned.Sources change) parts = ⊤
 
 -- ---- what can be prepared
 
@@ -71,17 +78,24 @@ IsTakenBy (dataset.Create d) shelf = IsFree shelf d
 IsTakenBy (dataset.Replace d) shelf = IsOnShelfAs shelf d
 IsTakenBy (dataset.Remove id) shelf = IsOnShelf shelf id
 
+-- The sources can take the change: it has no fault among them, and a new source has a name.
+pub record IsTakenBySources (change : SourceChange) (sources : List SourceState) : Type 0 where
+  pub named : stages.IsNamed change
+  pub allowed : IsTrue (is_none (source_fault change sources))
+
 -- no part refuses the change
 abbrev pub IsUnrefused : PlannedChange → Parts → Type 0
 IsUnrefused (planned.People change) parts = IsTrue (is_none (org_fault change parts.people.people))
 IsUnrefused (planned.Datasets change) parts = IsTakenBy change parts.shelf
 IsUnrefused (planned.Tables change) parts = ⊤
+IsUnrefused (planned.Sources change) parts = IsTakenBySources change (sources_in parts.sources)
 
 -- the batch that the plan prepared on a table is ready
 abbrev pub IsPlannedOn : Plan → Stored → Type 0
 IsPlannedOn (plan.People change) stored = ⊤
 IsPlannedOn (plan.Datasets change) stored = ⊤
 IsPlannedOn (plan.Tables change) stored = table.IsPlanned change stored
+IsPlannedOn (plan.Sources change) stored = ⊤
 
 abbrev pub IsPlanned : Plan → Parts → Type 0
 IsPlanned p parts = IsPlannedOn p parts.tables
@@ -95,6 +109,7 @@ planned_in (Put prepared) = planned.Datasets (dataset.Create prepared.dataset)
 planned_in (Replace prepared) = planned.Datasets (dataset.Replace prepared.dataset)
 planned_in (Remove number id) = planned.Datasets (dataset.Remove id)
 planned_in (Tables change) = planned.Tables (table.change_of change)
+planned_in (Sources prepared) = planned.Sources prepared.change
 
 -- the state after the prepared change, with its charge
 abbrev pub with_prepared : Prepared → State → State
@@ -119,6 +134,7 @@ IsChangeReady (Replace prepared) parts =
     IsReplaceReady parts.shelf prepared.number prepared.dataset × IsReadyIn prepared parts.indexes
 IsChangeReady (Remove number id) parts = option_map (λ d. d.id) (package_at number parts.shelf) ≡ Some id
 IsChangeReady (Tables change) parts = table.IsReadyPlan change parts.tables
+IsChangeReady (Sources prepared) parts = stages.IsReady prepared parts.sources
 
 -- there is room for what is charged
 abbrev pub IsChargeReady : Option QuotaUsed → Parts → Type 0

@@ -1,10 +1,11 @@
 -- The portal as contracts see it: its state, and the keeper of the state's rows.
-use Rattle.std.specs.Prelude.{◌≡◌, List, [], ◌∷◌, Option}
+use Rattle.std.specs.Prelude.{◌≡◌, List, [], ◌∷◌, All, Option, map}
 use Rattle.portal_base.specs.Ordered.{ascending}
 use Rattle.org_roles.specs.Order.{user_cmp}
+use Rattle.harvest_stages.specs.AtRest.{IsAtRest, at_rest}
 use Rattle.portal_keeper.specs.Keeping.{Shows}
 use Rattle.portal_keeper.specs.declared.row.KeptRow.{KeptRow}
-use Rattle.portal_core.specs.KeptRows.{AreSized, kept_rows}
+use Rattle.portal_core.specs.KeptRows.{IsSized, kept_rows}
 use Rattle.portal_core.specs.Opened.{opened}
 use Rattle.portal_core.specs.Parts.{IsConsistent, state_of}
 use Rattle.portal_core.specs.State.{State}
@@ -19,21 +20,23 @@ pub record PortalValue (K : Type 0) : Type 0 where
 -- The parts of a portal whose keeper has these observable rows: they make up a valid state, and the rows are the state's.
 pub record AreKept (rows : Option (List KeptRow)) (parts : Parts) : Type 0 where
   pub consistent : IsConsistent parts
-  pub sized : AreSized (state_of parts).tables
+  pub sized : IsSized (state_of parts)
   pub kept : Shows rows (kept_rows (state_of parts))
 
 -- ---- opening
 
--- The state that has the rows, with the users of the opening, and with nothing accepted.
+-- The state that has the rows, with the users of the opening, with no job that runs, and with nothing accepted.
 pub record IsReopened (opening : Opening) (rows : List KeptRow) (state : State) : Type 0 where
   pub of_rows : IsStateOf rows state
   pub users : state.people.users ≡ ascending user_cmp opening.users
+  pub rest : All IsAtRest state.sources
   pub unused : state.quota_used ≡ []
 
--- the state with the users of the opening, and with nothing accepted
+-- the state with the users of the opening, with each running job new again, and with nothing accepted
 abbrev pub reopened : Opening → State → State
 reopened opening state = record state {
   people = record state.people { users = ascending user_cmp opening.users };
+  sources = map at_rest state.sources;
   quota_used = [];
 }
 

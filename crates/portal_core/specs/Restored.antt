@@ -8,13 +8,18 @@ use Rattle.portal_base.specs.Ordered.{ascending}
 use Rattle.portal_rows.specs.KeptValues.{kept_table_cmp}
 use Rattle.portal_rows.specs.declared.kept_tables.KeptTable.{KeptTable}
 use Rattle.portal_rows.specs.declared.org_reading.OrgWithRoles.{OrgWithRoles}
-use Rattle.dataset_answers.specs.Sound.{IsSound}
+use Rattle.dataset_answers.specs.Sound.{IsSound, OrgExists}
+use Rattle.harvest_rows.specs.KeptHarvests.{kept_job_cmp}
+use Rattle.harvest_rows.specs.declared.kept_harvests.KeptHarvests.{KeptHarvests}
+use Rattle.harvest_sources.specs.Sources.{AreSources, SourceState}
+use Rattle.harvest_stages.specs.AtRest.{IsAtRest, all_jobs, bare_sources}
 use Rattle.datastore_answers.specs.Consistent.{AreConsistent}
 use Rattle.datastore_answers.specs.declared.address.Address.{Address}
 use Rattle.datastore_answers.specs.declared.resource_table.ResourceTable.{ResourceTable}
 use Rattle.datastore_table.specs.Meets.{IsTable}
 use Rattle.visibility.specs.TableSummary.{is_among}
 use Rattle.portal_core.specs.KeptRows.{AreSized, resource_id}
+use Rattle.portal_core.specs.Typed.{IsTypedSource}
 use Rattle.portal_core.specs.Valid.{HasHome}
 use Rattle.portal_core.specs.Values.{kept_table, with_roles}
 
@@ -65,3 +70,14 @@ pub record AreTablesOf (datasets : List Package) (kept : List KeptTable) (tables
   pub homes : All (HasHome datasets) tables
   pub sized : AreSized tables
   pub targets : All (λ (t : ResourceTable). All (λ number. number < 2 ^ 32) t.targets) tables
+
+-- ---- sources and jobs
+
+-- The sources have these values, and may be the sources of a valid state with these people. No job runs.
+pub record AreHarvestsOf (people : PeopleLists) (kept : KeptHarvests) (sources : List SourceState) : Type 0 where
+  pub bare : bare_sources sources ≡ kept.sources
+  pub jobs : ascending kept_job_cmp (all_jobs sources) ≡ kept.jobs
+  pub valid : AreSources sources
+  pub owners : All (λ s. OrgExists people s.source.owner_org) sources
+  pub rest : All IsAtRest sources
+  pub typed : All IsTypedSource sources

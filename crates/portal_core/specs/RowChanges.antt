@@ -1,8 +1,10 @@
 -- The changes of rows that follow from entries.
 use Rattle.std.specs.Prelude.{ℕ, Bool, false, not, List, Option, Some, None, filter, is_some, map}
 use Rattle.std.specs.Str.{bytes_eq}
+use Rattle.harvest_sources.specs.Entries.{SourceEntry, PutSource, DropSource, PutJob, DropJob, PutListing}
+use Rattle.harvest_sources.specs.Jobs.{id_of_job, job_id}
 use Rattle.portal_core.specs.Entries.{Entry, PutOrg, DropOrg, PutRole, DropRole, PutDataset, EditDataset}
-use Rattle.portal_core.specs.Entries.{DropDataset, PutTable, DropTable, PutRow, DropRow}
+use Rattle.portal_core.specs.Entries.{DropDataset, PutTable, DropTable, PutRow, DropRow, OfSources}
 use Rattle.portal_core.specs.Changed.{changed}
 use Rattle.portal_core.specs.Planned.{PlannedChange, entries_of}
 use Rattle.portal_core.specs.State.{State}
@@ -17,6 +19,15 @@ use Rattle.portal_core.specs.KeptRows.{kept_rows, resource_id}
 
 -- ---- the row of an entry
 
+-- The kind and the key of the row that an entry of sources and jobs is about. A listing is in no row: its source's row stays
+-- as it is.
+abbrev pub source_entry_key : SourceEntry → RowKind × List ℕ
+source_entry_key (PutSource source) = (kind.Source, source.name)
+source_entry_key (DropSource name) = (kind.Source, name)
+source_entry_key (PutJob job) = (kind.Job, id_of_job job)
+source_entry_key (DropJob name number) = (kind.Job, job_id name number)
+source_entry_key (PutListing name listing) = (kind.Source, name)
+
 -- The kind and the key of the row that an entry is about. The row of an organization has the roles in it.
 abbrev pub entry_key : Entry → RowKind × List ℕ
 entry_key (PutOrg org) = (kind.Org, org.name)
@@ -30,6 +41,7 @@ entry_key (PutTable head) = (kind.Table, resource_id head.address)
 entry_key (DropTable address) = (kind.Table, resource_id address)
 entry_key (PutRow address row) = (kind.Row, row_key (resource_id address) row.id)
 entry_key (DropRow address id) = (kind.Row, row_key (resource_id address) id)
+entry_key (OfSources entry) = source_entry_key entry
 
 -- ---- changes of rows
 

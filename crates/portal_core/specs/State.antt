@@ -12,14 +12,16 @@ use Rattle.portal_base.specs.declared.caller.Caller.TheVariants.{Anonymous, Name
 use Rattle.org_roles.specs.PeopleLists.{PeopleLists}
 use Rattle.packages.specs.declared.package.Package.{Package}
 use Rattle.datastore_answers.specs.declared.resource_table.ResourceTable.{ResourceTable}
+use Rattle.harvest_sources.specs.Sources.{SourceState}
 use Rattle.portal_core.specs.declared.quota.QuotaUsed.{QuotaUsed}
 
 -- Users ascend by name, organizations by name, roles by organization and user, datasets by id, tables by their
--- dataset's id and their resource's number, and quotas by user.
+-- dataset's id and their resource's number, sources of harvests by name, each with its jobs by number, and quotas by user.
 pub record State : Type 0 where
   pub people : PeopleLists
   pub datasets : List Package
   pub tables : List ResourceTable
+  pub sources : List SourceState
   pub quota_used : List QuotaUsed
 
 -- the order by user

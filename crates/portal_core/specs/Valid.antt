@@ -5,9 +5,10 @@ use Rattle.portal_base.specs.Ordered.{IsAscending}
 use Rattle.org_roles.specs.PeopleLists.{AreSorted, RolesHaveOrgs}
 use Rattle.packages.specs.Order.{dataset_cmp}
 use Rattle.packages.specs.declared.package.Package.{Package}
-use Rattle.dataset_answers.specs.Sound.{IsSound}
+use Rattle.dataset_answers.specs.Sound.{IsSound, OrgExists}
 use Rattle.datastore_answers.specs.Consistent.{AreConsistent}
 use Rattle.datastore_answers.specs.declared.resource_table.ResourceTable.{ResourceTable}
+use Rattle.harvest_sources.specs.Sources.{AreSources}
 use Rattle.visibility.specs.TableSummary.{is_among}
 use Rattle.portal_core.specs.State.{State, quota_used_cmp}
 
@@ -20,7 +21,8 @@ pub record HasHome (datasets : List Package) (t : ResourceTable) : Type 0 where
 
 -- Each list strictly ascends by its key, so that no two entries have one. No organization's name is empty, and each
 -- role is one in an organization that exists. No two datasets have one name, and each is sound. Each table belongs to a
--- resource that exists, its rows meet its schema, and each of its references finds its row.
+-- resource that exists, its rows meet its schema, and each of its references finds its row. Each source of harvests has a
+-- name and its jobs, and belongs to an organization that exists.
 pub record IsValid (state : State) : Type 0 where
   pub people : AreSorted state.people
   pub orgs : All (λ o. o.name ≢ []) state.people.orgs
@@ -30,4 +32,6 @@ pub record IsValid (state : State) : Type 0 where
   pub sound : All (IsSound state.people) state.datasets
   pub tables : AreConsistent state.tables
   pub homes : All (HasHome state.datasets) state.tables
+  pub sources : AreSources state.sources
+  pub owners : All (λ s. OrgExists state.people s.source.owner_org) state.sources
   pub quota_used : IsAscending quota_used_cmp state.quota_used

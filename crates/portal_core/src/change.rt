@@ -1,6 +1,7 @@
 //! The plan of an accepted call, and what a change claims.
 use dataset_answers::change::DatasetChange;
 use datastore_answers::plan::TablePlan;
+use harvest_sources::SourceChange;
 use org_roles::change::OrgChange;
 use portal_base::text::Text;
 
@@ -12,6 +13,7 @@ pub enum Plan {
     People(OrgChange),
     Datasets(DatasetChange),
     Tables(TablePlan),
+    Sources(SourceChange),
 }
 
 /// A name or an id that a change claims for a new entry.
@@ -20,4 +22,5 @@ pub enum Claim {
     OrgName(Text),
     DatasetName(Text),
     DatasetId(Text),
+    SourceName(Text),
 }

@@ -8,6 +8,9 @@ ghost use Rattle.visibility.specs.declared.class.Class.TheVariants.{Public};
 ghost use Rattle.visibility.specs.TableSummary.{summaries_seen};
 ghost use Rattle.datastore_answers.specs.Summaries.{summaries_of};
 ghost use Rattle.organization_answers.specs.Dictionary.{AreCountsOf};
+ghost use Rattle.harvest_answers.specs.View.{sources_seen};
+ghost use Rattle.harvest_sources.specs.declared.change.SourceChange.{SourceChange};
+ghost use Rattle.harvest_stages.specs.Stages.{sources_in};
 ghost use Rattle.portal_calls.specs.Answer.{AcceptsOnly, answer_if_found};
 ghost use Rattle.portal_calls.specs.Stop.{Finds};
 ghost use Rattle.portal_calls.specs.declared.answer.Answer.TheVariants.{Shown};
@@ -18,7 +21,7 @@ ghost use Rattle.datastore_answers.specs.Changed.{TableChange};
 ghost use Rattle.datastore_answers.specs.Plan as table;
 ghost use Rattle.datastore_answers.specs.Plan.{change_of as table_change};
 ghost use Rattle.datastore_answers.specs.Tables.{Stored, tables_of, tables_seen};
-ghost use Rattle.portal_core.specs.Answer.{planned_answer, answer_on, quota_of, of_people, of_datasets, of_tables};
+ghost use Rattle.portal_core.specs.Answer.{planned_answer, answer_on, quota_of, of_people, of_datasets, of_tables, of_sources};
 ghost use Rattle.portal_core.specs.Planned.{planned_of};
 ghost use Rattle.portal_core.specs.Parts.{IsConsistent, IsPlanned, IsPlannedOn, state_of};
 ghost use Rattle.portal_core.specs.Indexes.{IsIndexed};
@@ -39,6 +42,9 @@ use datastore_answers::answers as tables;
 use datastore_answers::plan::TablePlan;
 use datastore_answers::tables::Tables;
 use facets::laws::counters_give_the_public_counts;
+use harvest_answers::answers as harvests;
+use harvest_sources::SourceChange;
+use harvest_stages::Stages;
 use org_roles::change::OrgChange;
 use organization_answers::answers as organizations;
 use packages::shelf::Shelf;
@@ -78,6 +84,7 @@ pub fn decide(alloc: Global, parts: &mut Parts, call: &Call) -> Result<Answer<Pl
         &context,
         &parts.shelf,
         &parts.indexes,
+        &parts.sources,
         &mut parts.tables,
     )
 }
@@ -99,6 +106,7 @@ fn answer(
     context: &CallContext<'_>,
     shelf: &Shelf,
     indexes: &Indexes,
+    sources: &Stages,
     tables: &mut Tables,
 ) -> Result<Answer<Plan>, AllocError>
     requires indexed { IsIndexed shelf.now indexes.now }
@@ -107,7 +115,8 @@ fn answer(
     ensures same { tables_of tables.new ≡ tables_of tables.old }
     ensures answer { IfOk result (λ answer. map_answer planned_of answer
         ≡ answer_on (topic_of context.now.call.now.request.action) (context_view context.now)
-        (tables_seen (context_view context.now).datasets (tables_of tables.old))) }
+        (tables_seen (context_view context.now).datasets (tables_of tables.old))
+        (sources_seen context.now.viewer.caller context.now.viewer.people (sources_in sources.now))) }
     ensures planned { IfOk result (AcceptsOnly (λ plan. IsPlannedOn plan tables.new)) }
 {
     match Topic::of(context.call.request.action) {
@@ -115,12 +124,16 @@ fn answer(
             alloc,
             context,
             &indexes.counters,
+            sources.sources(),
             action,
         )),
         Topic::Datasets(action) => on_datasets(datasets::answer(alloc, context, tables, action)),
         Topic::Search => on_search(answer_to_search(alloc, context, shelf, indexes, tables)),
         Topic::Tables(action) => on_tables(tables::answer(alloc, context, tables, action)),
         Topic::Queries(action) => on_tables(queries::answer(alloc, context, tables, action)),
+        Topic::Harvests(action) => {
+            on_sources(harvests::answer(alloc, action, context, sources.sources()))
+        }
     }
 }
 
@@ -225,6 +238,18 @@ fn of_tables(answer: TableAnswer<TablePlan>) -> Answer<Plan>
     }
 }
 
+/// An answer on sources of harvests as one on the portal.
+fn of_sources(answer: Answer<SourceChange>) -> Answer<Plan>
+    ensures answer { map_answer planned_of result ≡ of_sources answer }
+    ensures planned { (stored : Stored) → AcceptsOnly (λ plan. IsPlannedOn plan stored) result }
+{
+    match answer {
+        Answer::Shown(json) => Answer::Shown(json),
+        Answer::Refused(denial) => Answer::Refused(denial),
+        Answer::Accepted(json, change) => Answer::Accepted(json, Plan::Sources(change)),
+    }
+}
+
 /// An answer on organizations as one on the portal, unless memory ran out.
 fn on_people(answer: Result<Answer<OrgChange>, AllocError>) -> Result<Answer<Plan>, AllocError>
     ensures answer { (expected : Answer OrgChange) → IfOk answer (λ given. given ≡ expected) →
@@ -255,4 +280,13 @@ fn on_tables(answer: Result<TableAnswer<TablePlan>, AllocError>) -> Result<Answe
         IfOk result (AcceptsOnly (λ plan. IsPlannedOn plan stored)) }
 {
     Ok(of_tables(answer?))
+}
+
+/// An answer on sources of harvests as one on the portal, unless memory ran out.
+fn on_sources(answer: Result<Answer<SourceChange>, AllocError>) -> Result<Answer<Plan>, AllocError>
+    ensures answer { (expected : Answer SourceChange) → IfOk answer (λ given. given ≡ expected) →
+        IfOk result (λ answer. map_answer planned_of answer ≡ of_sources expected) }
+    ensures planned { (stored : Stored) → IfOk result (AcceptsOnly (λ plan. IsPlannedOn plan stored)) }
+{
+    Ok(of_sources(answer?))
 }

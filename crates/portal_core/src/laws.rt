@@ -8,6 +8,8 @@ ghost use Rattle.org_roles.specs.PeopleLists.{is_user_in};
 ghost use Rattle.org_roles.specs.declared.entry.Membership.{Membership};
 ghost use Rattle.org_roles.specs.declared.entry.User.{User};
 ghost use Rattle.visibility.specs.View.{administers, is_called};
+ghost use Rattle.harvest_sources.specs.Sources.{source_cmp};
+ghost use Rattle.portal_base.specs.Ordered.{IsAscending};
 ghost use Rattle.portal_calls.specs.Action.{is_reading};
 ghost use Rattle.portal_calls.specs.Reply.{is_change, is_name_in_use};
 ghost use Rattle.portal_calls.specs.declared.answer.Answer.TheVariants.{Accepted};
@@ -212,16 +214,16 @@ pub fn entries_make_the_change_in_the_view()
         ≡ changed planned (view_of call.caller state) }
 {}
 
-/// The whole state gives a planned change no other entries than its caller's view: the caller sees all that goes with what
-/// the change drops.
+/// A state whose sources are in order gives a planned change no other entries than its caller's view: the caller sees all
+/// that goes with what the change drops.
 pub fn entries_are_those_in_the_view()
     ensures { (call : Call) (state : State) (planned : PlannedChange) →
-        IsFit call (view_of call.caller state) planned →
+        IsAscending source_cmp state.sources → IsFit call (view_of call.caller state) planned →
         entries_of planned (view_of call.caller state) ≡ entries_of planned state }
 {}
 
-/// Nothing goes without an entry of its own: when an entry drops an organization, a dataset or a table, its roles, its
-/// tables or its rows have been dropped by the entries before.
+/// Nothing goes without an entry of its own: when an entry drops an organization, a dataset, a table or a source, its
+/// roles, its tables, its rows or its jobs have been dropped by the entries before.
 pub fn nothing_goes_without_an_entry()
     ensures { (call : Call) (state : State) (planned : PlannedChange) →
         IsValid state → IsFit call (view_of call.caller state) planned →

@@ -18,6 +18,7 @@ mod restored;
 mod restored_datasets;
 mod restored_homes;
 mod restored_people;
+mod restored_sources;
 mod restored_tables;
 mod row_changes;
 pub mod row_laws;

@@ -20,6 +20,7 @@ use crate::parts::Parts;
 use crate::quota::QuotaLedger;
 use crate::restored::parts_of_rows;
 use datastore_answers::tables::Tables;
+use harvest_stages::Stages;
 use org_roles::entry::{Membership, Org, User};
 use org_roles::people::People;
 use packages::shelf::Shelf;
@@ -134,6 +135,7 @@ fn parts_of_opening(alloc: Global, opening: &Opening) -> Result<Parts, AllocErro
         shelf: Shelf::new(alloc),
         indexes: Indexes::new(alloc),
         tables: Tables::new(alloc),
+        sources: Stages::new(alloc),
         quota_used: QuotaLedger::new(alloc),
     })
 }

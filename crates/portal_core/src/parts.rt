@@ -4,13 +4,15 @@ ghost use Rattle.std.specs.Prelude.{◌≡◌, ◌≤◌, IfNone, IfOk, OnErr, O
 ghost use Rattle.std.specs.Option.{option_map, option_copied};
 ghost use Rattle.org_roles.specs.Changed.{org_fault, IsReady};
 ghost use Rattle.datastore_answers.specs.Linked.{AreLinked};
+ghost use Rattle.harvest_stages.specs.Ready as stages;
+ghost use Rattle.harvest_stages.specs.Stages.{sources_in};
 ghost use Rattle.dataset_answers.specs.Sound.{IsSound};
 ghost use Rattle.portal_core.specs.Planned.{planned_of, Datasets, claims_of};
 ghost use Rattle.portal_core.specs.Changed.{AreUnused, changed, charge_of, is_in_use, key_of, with_charge, with_planned};
 ghost use Rattle.portal_core.specs.Fit.{IsFit};
 ghost use Rattle.portal_core.specs.Indexes.{IsIndexed};
 ghost use Rattle.portal_core.specs.Parts.{state_of, planned_in, with_prepared, IsConsistent, MakesSound, IsTakenBy};
-ghost use Rattle.portal_core.specs.Parts.{IsUnrefused, IsPlanned, IsPrepared, IsChangeReady, IsChargeReady};
+ghost use Rattle.portal_core.specs.Parts.{IsUnrefused, IsPlanned, IsPrepared, IsChangeReady, IsChargeReady, IsTakenBySources};
 ghost use Rattle.portal_base.specs.Outside.{Rose};
 ghost use Rattle.portal_core.specs.PortalValue.{AreKept};
 ghost use Rattle.portal_core.specs.State.{accepted_bytes_of};
@@ -23,6 +25,8 @@ use crate::quota::{QuotaLedger, QuotaUsed};
 use dataset_answers::change::DatasetChange;
 use datastore_answers::plan::TablePlan;
 use datastore_answers::tables::Tables;
+use harvest_sources::{SourceChange, StageFault};
+use harvest_stages::{PreparedSource, Stages};
 use org_roles::change::{OrgChange, OrgFault};
 use org_roles::people::People;
 use org_roles::people::prepared::PreparedOrg;
@@ -42,6 +46,7 @@ pub struct Parts {
     pub shelf: Shelf,
     pub indexes: Indexes,
     pub tables: Tables,
+    pub sources: Stages,
     pub quota_used: QuotaLedger,
 }
 
@@ -57,6 +62,8 @@ enum PreparedChange {
     Remove(u32, Text),
     /// A change of a table.
     Tables(TablePlan),
+    /// A change of a source, or a new job for it.
+    Sources(PreparedSource),
 }
 
 /// A change for which memory is prepared, with the caller's quota after it. `Parts` alone makes one.
@@ -92,6 +99,11 @@ impl Parts {
                 .is_some()
                 .then_some("name"),
             Plan::Datasets(DatasetChange::Create(dataset)) => self.dataset_key_in_use(dataset),
+            Plan::Sources(SourceChange::Create(source)) => self
+                .sources
+                .source(&source.name)
+                .is_some()
+                .then_some("name"),
             _ => None,
         }
     }
@@ -157,12 +169,12 @@ impl Parts {
             prepared.charge ≡ charge_of call.now.caller call.now.size self.old.quota_used.used) }
     {
         let charge = self.prepare_charge(alloc, call)?;
-        let change = self.prepare_change(plan)?;
+        let change = self.prepare_change(alloc, plan)?;
         Ok(Prepared { change, charge })
     }
 
     /// Prepares a change that no part refuses.
-    fn prepare_change(&mut self, plan: Plan) -> Result<PreparedChange, AllocError>
+    fn prepare_change(&mut self, alloc: Global, plan: Plan) -> Result<PreparedChange, AllocError>
         requires shelved { IsIndexed self.old.shelf self.old.indexes }
         requires unrefused { IsUnrefused (planned_of plan) self.old }
         requires planned { IsPlanned plan self.old }
@@ -182,6 +194,11 @@ impl Parts {
                 self.tables.reserve()?;
                 Ok(PreparedChange::Tables(plan))
             }
+            Plan::Sources(change) => Ok(PreparedChange::Sources(prepare_source(
+                alloc,
+                &mut self.sources,
+                change,
+            )?)),
         }
     }
 
@@ -227,6 +244,7 @@ impl Parts {
         ensures shelf { self.new.shelf ≡ self.old.shelf }
         ensures indexes { self.new.indexes ≡ self.old.indexes }
         ensures tables { self.new.tables ≡ self.old.tables }
+        ensures sources { self.new.sources ≡ self.old.sources }
         ensures charge { IfOk result (λ charge.
             charge ≡ charge_of call.now.caller call.now.size self.old.quota_used.used) }
         ensures ready { IfOk result (λ charge. IsChargeReady charge self.new) }
@@ -280,6 +298,7 @@ impl Parts {
                 self.indexes.remove(&mut self.shelf, number);
             }
             PreparedChange::Tables(plan) => self.tables.commit(plan),
+            PreparedChange::Sources(change) => self.sources.commit_change(change),
         }
     }
 
@@ -306,6 +325,24 @@ fn prepare_people(people: &mut People, change: OrgChange) -> Result<PreparedOrg,
     match people.prepare(change) {
         Ok(prepared) => Ok(prepared),
         Err(OrgFault::OutOfMemory) => Err(AllocError),
+        Err(_) => unreachable!(),
+    }
+}
+
+/// Prepares a change of the sources that they don't refuse.
+fn prepare_source(
+    alloc: Global,
+    sources: &mut Stages,
+    change: SourceChange,
+) -> Result<PreparedSource, AllocError>
+    requires { IsTakenBySources change (sources_in sources.old) }
+    ensures same { sources_in sources.new ≡ sources_in sources.old }
+    ensures change { IfOk result (λ prepared. prepared.change ≡ change) }
+    ensures ready { IfOk result (λ prepared. stages.IsReady prepared sources.new) }
+{
+    match sources.prepare_change(alloc, change) {
+        Ok(prepared) => Ok(prepared),
+        Err(StageFault::OutOfMemory) => Err(AllocError),
         Err(_) => unreachable!(),
     }
 }

@@ -3,13 +3,14 @@ ghost use Rattle.std.specs.Prelude.{◌≡◌, ◌++◌, ◌∷◌, [], IfOk, On
 ghost use Rattle.portal_core.specs.Changed.{AreUnused, changed};
 ghost use Rattle.portal_core.specs.ChangedRows.{IsTypedPlan, changes_between, changes_of_plan};
 ghost use Rattle.portal_core.specs.Fit.{IsFit};
-ghost use Rattle.portal_core.specs.KeptRows.{AreSized};
+ghost use Rattle.portal_core.specs.KeptRows.{IsSized};
 ghost use Rattle.portal_core.specs.Parts.{IsConsistent, IsPlanned, IsUnrefused, state_of};
 ghost use Rattle.portal_core.specs.Planned.{claims_of, planned_of};
 ghost use Rattle.portal_core.specs.RowChanges.{is_body, planned_row_changes};
 
 mod datasets;
 mod people;
+mod sources;
 mod tables;
 
 use crate::change::Plan;
@@ -31,13 +32,13 @@ impl Parts {
         plan: &Plan,
     ) -> Result<Seq<Change>, AllocError>
         requires consistent { IsConsistent self.now }
-        requires sized { AreSized (state_of self.now).tables }
+        requires sized { IsSized (state_of self.now) }
         requires fit { IsFit call.now (state_of self.now) (planned_of plan.now) }
         requires planned { IsPlanned plan.now self.now }
         requires unused { AreUnused (state_of self.now) (claims_of (planned_of plan.now)) }
         ensures changes { IfOk result (λ changes.
             changes ≡ planned_row_changes (planned_of plan.now) (state_of self.now)) }
-        ensures sized { OnOk result (AreSized (changed (planned_of plan.now) (state_of self.now)).tables) }
+        ensures sized { OnOk result (IsSized (changed (planned_of plan.now) (state_of self.now))) }
     {
         let mut changes = Vec::new(alloc);
         self.push_row_changes(alloc, &mut changes, plan)?;
@@ -55,7 +56,7 @@ impl Parts {
         requires unrefused { IsUnrefused (planned_of plan.now) self.now }
         requires planned { IsPlanned plan.now self.now }
         ensures changes { OnOk result (changes.new.items ≡ changes.old.items ++ changes_of_plan plan.now self.now) }
-        ensures typed { OnOk result (IsTypedPlan plan.now) }
+        ensures typed { OnOk result (IsTypedPlan plan.now self.now) }
     {
         match plan {
             Plan::People(change) => people::push_changes(alloc, changes, &self.people, change),
@@ -63,6 +64,7 @@ impl Parts {
                 datasets::push_changes(alloc, changes, &self.shelf, &self.tables, change)
             }
             Plan::Tables(plan) => tables::push_changes(alloc, changes, &self.tables, plan),
+            Plan::Sources(change) => sources::push_changes(alloc, changes, &self.sources, change),
         }
     }
 }

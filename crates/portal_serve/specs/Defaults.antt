@@ -39,6 +39,7 @@ default_state = record {
   people = record { users = default_users; orgs = default_org ∷ []; roles = default_roles };
   datasets = [];
   tables = [];
+  sources = [];
   quota_used = [];
 }
 

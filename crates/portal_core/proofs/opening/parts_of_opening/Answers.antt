@@ -12,9 +12,11 @@ returns-clause-consistent c =
       shelf = c.new.result;
       indexes = c.new-2.result;
       tables = c.new-3.result;
-      quota_used = c.new-4.result;
+      sources = c.new-4.result;
+      quota_used = c.new-5.result;
     })
     c.args.opening.now c.requires (c.of_lists.ensures.users ∙ ap (ascending user_cmp) c.in_ok-users.ensures)
     (c.of_lists.ensures.orgs ∙ ap (ascending org_cmp) c.in_ok-orgs.ensures)
     (c.of_lists.ensures.roles ∙ ap (ascending membership_cmp) c.in_ok-roles.ensures) c.new.ensures.none
     c.new.ensures.room c.new-2.ensures.terms c.new-2.ensures.counts c.new-3.ensures c.new-4.ensures
+    c.new-5.ensures

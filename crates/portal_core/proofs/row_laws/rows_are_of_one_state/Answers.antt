@@ -1,5 +1,6 @@
--- The two states have the same values. No table has the target 0, which stands for the table's own number.
-use Rattle.portal_core.proofs.OneState.{same-datasets, same-orgs, same-roles, same-tables}
+-- The two states have the same values. No table has the target 0, which stands for the table's own number. The sources at
+-- rest are those that are restored from the values.
+use Rattle.portal_core.proofs.OneState.{same-datasets, same-orgs, same-roles, same-sources, same-tables}
 use Rattle.portal_core.proofs.row_laws.rows_are_of_one_state.Goals as goal
 
 pub returns-clause-organizations : goal.returns-clause-organizations
@@ -13,3 +14,6 @@ returns-clause-datasets c = same-datasets
 
 pub returns-clause-tables : goal.returns-clause-tables
 returns-clause-tables c = same-tables
+
+pub returns-clause-sources : goal.returns-clause-sources
+returns-clause-sources c = same-sources

@@ -21,5 +21,5 @@ returns-clause-changes c =
 
 pub returns-clause-sized : goal.returns-clause-sized
 returns-clause-sized c =
-    planned-sized c.args.plan.now c.args.self.now c.requires.consistent c.requires.sized c.requires.planned
-    c.in_ok-push_row_changes.ensures.typed
+    planned-sized c.args.plan.now c.args.self.now c.args.call.now c.requires.consistent c.requires.sized c.requires.fit
+    c.requires.planned c.in_ok-push_row_changes.ensures.typed
