@@ -12,7 +12,7 @@ use sqlite::{Connection, MemStore};
 use std::alloc::{AllocError, Global};
 use std::test::Fail;
 
-/// A table that is made, changed and searched.
+/// A table that is made and changed, and a source of harvests that gets a job.
 const SCRIPT: &str =
     r#"{"action":"package_create","as":"ann","body":{"name":"keys","owner_org":"city","resources":[{"name":"t"}]}}
 {"action":"datastore_create","as":"ann","body":{"resource_id":"keys.1","fields":[{"id":"k","type":"int"},{"id":"v"}],"primary_key":"k","records":[{"k":1,"v":"a"}]}}
@@ -20,15 +20,22 @@ const SCRIPT: &str =
 {"action":"datastore_upsert","as":"ann","body":{"resource_id":"keys.1","method":"insert","records":[{"k":3},{"k":1}]}}
 {"action":"datastore_upsert","as":"ann","body":{"resource_id":"keys.1","method":"update","records":[{"k":9,"v":"z"}]}}
 {"action":"datastore_upsert","as":"ann","body":{"resource_id":"keys.1","method":"insert","records":[{"k":3}]}}
+{"action":"harvest_source_create","as":"cyn","body":{"name":"lake","url":"lake.nt","owner_org":"city"}}
+{"action":"harvest_job_create","as":"cyn","body":{"source_id":"lake"}}
 "#;
 
-const SEARCH: &str = r#"{"action":"datastore_search","body":{"resource_id":"keys.1"}}"#;
+const SEARCH: &str = r#"{"action":"datastore_search","body":{"resource_id":"keys.1"}}
+{"action":"harvest_job_show","as":"cyn","body":{"id":"lake.1"}}
+"#;
 
 const FOUND: &str =
     "200 {\"help\":\"/api/3/action/help_show?name=datastore_search\",\"result\":{\"fields\":\
     [{\"id\":\"_id\",\"type\":\"int\"},{\"id\":\"k\",\"type\":\"int\"},{\"id\":\"v\",\"type\":\"text\"}],\"limit\":100,\
     \"offset\":0,\"records\":[{\"_id\":1,\"k\":1,\"v\":\"a\"},{\"_id\":2,\"k\":2,\"v\":\"c\"},{\"_id\":3,\"k\":3,\"v\":null}],\
-    \"resource_id\":\"00000000-0000-0000-0000-000000000001.1\",\"total\":3},\"success\":true}\n";
+    \"resource_id\":\"00000000-0000-0000-0000-000000000001.1\",\"total\":3},\"success\":true}\n\
+    200 {\"help\":\"/api/3/action/help_show?name=harvest_job_show\",\"result\":{\"created\":\"2024-01-01T00:00:07\",\
+    \"id\":\"lake.1\",\"source_id\":\"lake\",\"state\":\"New\",\"stats\":{\"added\":0,\"bad\":[],\"cause\":\"\",\"deleted\":0,\
+    \"source\":\"lake\",\"state\":\"New\",\"unchanged\":0,\"unnamed\":0,\"updated\":0}},\"success\":true}\n";
 
 /// The end of a played script, and its output.
 #[derive(Drop)]
@@ -59,7 +66,7 @@ fn play_over<K: Keeper + Drop>(
     Ok(Played { ended, output })
 }
 
-/// Whether the search on the portal over this keeper finds the rows that the script left.
+/// Whether the search on the portal over this keeper finds the rows and the job that the script left.
 fn finds_rows<K: Keeper + Drop>(alloc: Global, keeper: K) -> Result<bool, AllocError> {
     let Played { ended, output } = play_over(alloc, SEARCH, keeper)?;
     Ok(ended.status.code() == 0 && output.taken() == FOUND.as_bytes())
