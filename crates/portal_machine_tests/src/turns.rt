@@ -91,25 +91,44 @@ fn listed(alloc: Global, portal: &mut Portal<MemoryKeeper>, moment: Moment) -> O
     }
 }
 
+// Each outcome is tested at once, so that few values are there at a time.
 #[test]
 fn two_passes_and_one_history(rt: HostRuntime) -> Result<(), Fail> {
     let alloc = rt.alloc();
     let moment = Moment::from_seconds(0).ok_or("no moment")?;
     let create = create_dataset(alloc, moment, 7, 1)?;
     let show = show_dataset(alloc, moment, 7)?;
+    let portal = opened(alloc, moment)?;
+    match Hall::open(alloc, portal, 2) {
+        Ok((hall, mut one)) => {
+            let mut two = hall.split(&mut one, 1);
+            let created = is_first_entry(&act(&rt, &hall, &mut one, create));
+            let shown = is_shown_after_one(&act(&rt, &hall, &mut two, show));
+            hall.join(&mut one, two);
+            let (mut portal, history) = hall.close(one);
+            assert!(rt; created && shown);
+            assert!(rt; history.len() == 1 && listed(alloc, &mut portal, moment) == Some(1));
+            Ok(())
+        }
+        Err(_) => Err("no hall")?,
+    }
+}
+
+#[test]
+fn a_name_that_another_pass_took(rt: HostRuntime) -> Result<(), Fail> {
+    let alloc = rt.alloc();
+    let moment = Moment::from_seconds(0).ok_or("no moment")?;
+    let create = create_dataset(alloc, moment, 7, 1)?;
     let create_again = create_dataset(alloc, moment, 7, 2)?;
     let portal = opened(alloc, moment)?;
     match Hall::open(alloc, portal, 2) {
         Ok((hall, mut one)) => {
             let mut two = hall.split(&mut one, 1);
-            let created = act(&rt, &hall, &mut one, create);
-            let shown = act(&rt, &hall, &mut two, show);
-            let again = act(&rt, &hall, &mut two, create_again);
+            let created = is_first_entry(&act(&rt, &hall, &mut one, create));
+            let again = is_name_in_use_after_one(&act(&rt, &hall, &mut two, create_again));
             hall.join(&mut one, two);
             let (mut portal, history) = hall.close(one);
-            assert!(rt; is_first_entry(&created));
-            assert!(rt; is_shown_after_one(&shown));
-            assert!(rt; is_name_in_use_after_one(&again));
+            assert!(rt; created && again);
             assert!(rt; history.len() == 1 && listed(alloc, &mut portal, moment) == Some(1));
             Ok(())
         }
