@@ -3,4 +3,4 @@ pub mod JobIds
 mod JobLemmas
 pub mod ListLemmas
 mod ObjectLemmas
-mod PlaceLemmas
+pub mod PlaceLemmas

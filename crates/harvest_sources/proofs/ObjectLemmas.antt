@@ -1,5 +1,5 @@
 -- The objects of a listing, with one claimed or done.
-use Rattle.std.proofs.Common.{◌≡◌, ℕ, ◌+◌, ◌<◌, Bool, true, false, not, cond, List, [], ◌∷◌, length}
+use Rattle.std.proofs.Common.{◌≡◌, ℕ, ◌+◌, ◌<◌, Bool, true, false, not, ◌||◌, cond, List, [], ◌∷◌, length}
 use Rattle.std.proofs.Common.{get_or, set, Some, None, refl, sym, ap, subst, ◌∙◌, arith, IfSome}
 use Rattle.std.specs.Prelude.{Option, find, is_some, option_and_then, option_map, position, slice_get}
 use Rattle.std.specs.Option.{option_map_or}
@@ -12,7 +12,8 @@ use Rattle.std.proofs.lemmas.Slice.Eq.{bytes_eq-Decides}
 use Rattle.portal_base.specs.Ordered.{IsAscending, found, upserted}
 use Rattle.portal_base.proofs.Upserted.{IsAscending-upserted}
 use Rattle.std.specs.Prelude.{count_by}
-use Rattle.std.specs.List.{cons_option, filter_map}
+use Rattle.std.specs.List.{cons_option, filter_map, list_any}
+use Rattle.std.specs.Str.{bytes_eq}
 use Rattle.std.proofs.lemmas.List.Sums.{sum_by-cons}
 use Rattle.harvest_sources.specs.Listings.{NoneWaitsBefore, came_to, claimed_progress, first_waiting, is_done, is_waiting}
 use Rattle.harvest_sources.specs.Listings.{outcome_if_done}
@@ -132,6 +133,21 @@ iri_same a b e = (bytes_eq-Decides a b).0 (sym (is_eq-slice_cmp a b) ∙ e)
 -- the test of an object for this IRI
 abbrev pub is_object_at : List ℕ → ListedObject → Bool
 is_object_at iri object = is_eq (object_at iri object)
+
+-- An object is found by its IRI just where one of the objects has it.
+pub found-any : (iri : List ℕ) (objects : List ListedObject)
+    → is_some (found (object_at iri) objects) ≡ list_any (λ object. bytes_eq object.iri iri) objects
+found-any iri [] = refl
+found-any iri (x ∷ xs) =
+    by (is_eq (object_at iri x)) (bytes_eq x.iri iri) (is_eq-slice_cmp x.iri iri) (found-any iri xs)
+  where
+    by : (b c : Bool) → b ≡ c → is_some (found (object_at iri) xs) ≡ list_any (λ object. bytes_eq object.iri iri) xs
+        → is_some (cond b (Some x) (found (object_at iri) xs))
+        ≡ (c || list_any (λ object. bytes_eq object.iri iri) xs)
+    by true true e rest = refl
+    by true false e rest = absurd (cc)
+    by false true e rest = absurd (cc)
+    by false false e rest = rest
 
 -- The listing whose object of this IRI is done.
 pub done_is : (listing : Listing) (iri : List ℕ) (i : ℕ) (d : ListedObject) (o : Outcome)

@@ -61,6 +61,10 @@ listing_of source items unnamed = record {
 
 -- ---- objects
 
+-- one of the listed objects has the IRI
+abbrev pub has_object : List ℕ → Listing → Bool
+has_object iri listing = list_any (λ object. bytes_eq object.iri iri) listing.objects
+
 -- by the bytes of the IRI
 abbrev pub object_cmp : ListedObject → ListedObject → Ordering
 object_cmp x y = slice_cmp nat_cmp x.iri y.iri

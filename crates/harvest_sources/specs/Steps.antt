@@ -1,5 +1,5 @@
 -- The steps of a harvest, on sources and jobs. A step's answer comes with the entries that it puts.
-use Rattle.std.specs.Prelude.{ℕ, Bool, false, ◌&&◌, if◌then◌else◌, List, [], ◌∷◌, not, Option, Some, None, find}
+use Rattle.std.specs.Prelude.{ℕ, Bool, true, false, ◌&&◌, if◌then◌else◌, List, [], ◌∷◌, not, Option, Some, None, find}
 use Rattle.std.specs.Prelude.{is_some, option_and_then, option_map}
 use Rattle.std.specs.List.{filter_map, flat_map, list_all}
 use Rattle.std.specs.Option.{option_map_or}
@@ -7,8 +7,8 @@ use Rattle.std.specs.Str.{bytes_eq}
 use Rattle.portal_base.specs.Ordered.{found}
 use Rattle.harvest_sources.specs.Entries.{SourceEntry, PutJob, PutListing, with_job, with_listing}
 use Rattle.harvest_sources.specs.Jobs.{blank_report, id_of_job, in_state, is_new, is_running, with_report}
-use Rattle.harvest_sources.specs.Listings.{finished_report, first_waiting, is_done, listing_of, object_at, with_all_released}
-use Rattle.harvest_sources.specs.Listings.{with_progress}
+use Rattle.harvest_sources.specs.Listings.{finished_report, first_waiting, has_object, is_done, listing_of, object_at}
+use Rattle.harvest_sources.specs.Listings.{with_all_released, with_progress}
 use Rattle.harvest_sources.specs.Sources.{SourceState, is_listed, open_job}
 use Rattle.harvest_sources.specs.declared.cause.Cause.{Cause}
 use Rattle.harvest_sources.specs.declared.job.Job.{Job}
@@ -136,6 +136,10 @@ is_unsettled iri listing = option_map_or (λ object. not (is_done object)) (foun
 abbrev pub has_unsettled : List ℕ → SourceState → Bool
 has_unsettled iri s = option_map_or (is_unsettled iri) s.listing false
 
+-- the source's catalogue is listed and has an object of the IRI
+abbrev pub lists : List ℕ → SourceState → Bool
+lists iri s = option_map_or (has_object iri) s.listing false
+
 abbrev pub settled_in : List ℕ → Outcome → SourceState → Option Listing → Stepped
 settled_in iri o s None = idle Already
 settled_in iri o s (Some listing) =
@@ -188,3 +192,15 @@ stepped Claim effect sources = on_job Nothing claimed (find (λ s. is_some (wait
 stepped (Settle job iri reading) effect sources =
     on_job Already (settled iri (outcome_of reading effect)) (with_open_job sources job)
 stepped (End job) effect sources = on_job Already (ended (count_deleted effect)) (with_open_job sources job)
+
+-- ---- acceptance
+
+-- A step is accepted, unless there was nothing to do or it was done already.
+abbrev pub is_accepted : StepReply → Bool
+is_accepted (Started jobs) = true
+is_accepted (Gather job url) = true
+is_accepted (Object job item) = true
+is_accepted Nothing = false
+is_accepted Done = true
+is_accepted (Ended report) = true
+is_accepted Already = false

@@ -5,7 +5,7 @@ ghost use Rattle.std.specs.List.{filter_map, list_all};
 ghost use Rattle.portal_base.specs.Ordered.{IsAscending};
 ghost use Rattle.std.specs.Ordering.{is_eq};
 ghost use Rattle.harvest_sources.specs.Listings.{NoneWaitsBefore, bad_object, came_to, claimed_progress, finished_report};
-ghost use Rattle.harvest_sources.specs.Listings.{is_added, is_done};
+ghost use Rattle.harvest_sources.specs.Listings.{has_object, is_added, is_done};
 ghost use Rattle.harvest_sources.specs.Listings.{is_unchanged, is_updated, is_waiting, object_at, object_cmp};
 ghost use Rattle.harvest_sources.specs.Listings.{released_object, with_all_released, with_progress};
 ghost use Rattle.harvest_sources.specs.Steps.{is_unsettled};
@@ -155,6 +155,14 @@ pub(crate) fn is_unsettled(listing: &Listing, iri: &str) -> bool
         Some(object) => !object.is_done(),
         None => false,
     }
+}
+
+/// Whether the listing has an object of this IRI, by a binary search.
+pub(crate) fn has_object(listing: &Listing, iri: &str) -> bool
+    requires { IsAscending object_cmp listing.now.objects }
+    ensures { result ≡ has_object iri.now listing.now }
+{
+    find_in_order(listing.objects.as_slice(), &iri).is_some()
 }
 
 /// Whether all objects are done.

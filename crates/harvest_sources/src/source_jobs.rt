@@ -8,7 +8,7 @@ ghost use Rattle.harvest_sources.specs.Entries.{with_job, with_jobs_of, with_lis
 ghost use Rattle.harvest_sources.specs.Jobs.{in_state, is_open, is_running_state, new_job, with_report};
 ghost use Rattle.harvest_sources.specs.Listings.{finished_report, first_waiting, object_cmp, with_progress};
 ghost use Rattle.harvest_sources.specs.Sources.{HasItsJobs, is_listed, open_job};
-ghost use Rattle.harvest_sources.specs.Steps.{has_new, has_running, has_unsettled, is_settled, renewed, waiting_of};
+ghost use Rattle.harvest_sources.specs.Steps.{has_new, has_running, has_unsettled, is_settled, lists, renewed, waiting_of};
 ghost use Rattle.harvest_sources.specs.declared.job.JobState.TheVariants.{Broken, Running};
 ghost use Rattle.harvest_sources.specs.declared.listing.Progress.TheVariants.{Claimed, Done};
 
@@ -16,8 +16,8 @@ use crate::cause::Cause;
 use crate::job::{Job, JobState, SourceReport};
 use crate::listing::{Listing, Outcome};
 use crate::objects::{
-    are_done, finished_report, index_of, is_unsettled, settled, waiting_index, with_all_released,
-    with_claimed,
+    are_done, finished_report, has_object, index_of, is_unsettled, settled, waiting_index,
+    with_all_released, with_claimed,
 };
 use crate::source::HarvestSource;
 use crate::step::Found;
@@ -286,6 +286,16 @@ impl SourceJobs {
                 self.waiting = waiting_index(listing.objects.as_slice(), index + 1);
                 keep(&mut self.listing, listing);
             }
+        }
+    }
+
+    /// Whether the catalogue is listed and has an object of this IRI, by a binary search.
+    pub fn lists(&self, iri: &str) -> bool
+        ensures { result ≡ lists iri.now self.now.state }
+    {
+        match &self.listing {
+            Some(listing) => has_object(listing, iri),
+            None => false,
         }
     }
 

@@ -79,6 +79,22 @@ pub enum StepReply {
     Already,
 }
 
+impl StepReply {
+    ghost use Rattle.std.specs.Prelude.{◌≡◌};
+    ghost use Rattle.harvest_sources.specs.Steps.{is_accepted};
+
+    /// Whether the step was accepted as a change: there was something to do, and it wasn't done already.
+    pub fn is_accepted(&self) -> bool
+        ensures { result ≡ is_accepted self.now }
+    {
+        match self {
+            StepReply::Nothing => false,
+            StepReply::Already => false,
+            _ => true,
+        }
+    }
+}
+
 /// What a step does to the datasets of the source.
 #[derive(Clone, Copy)]
 pub enum Effect {
