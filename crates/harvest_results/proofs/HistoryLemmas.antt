@@ -42,7 +42,8 @@ use Rattle.harvest_sources.specs.declared.step.StepReply.TheVariants.{Started, N
 use Rattle.harvest_results.specs.Effects.{HarvestState, after_step, change_of_step, dataset_read, effect_of}
 use Rattle.harvest_results.specs.Effects.{effect_of_put}
 use Rattle.harvest_results.specs.Effects.{effect_over, gone_from, gone_of}
-use Rattle.harvest_results.specs.Effects.{is_accepted, is_of_source, is_unlisted, read_in, with_put, without}
+use Rattle.harvest_results.specs.Effects.{is_of_source, is_unlisted, read_in, with_put, without}
+use Rattle.harvest_sources.specs.Steps.{is_accepted}
 use Rattle.harvest_results.specs.Harvested.{harvested_dataset}
 use Rattle.harvest_results.specs.Histories.{Gathered, HasItsNames, IsFit, begins, datasets_of, gathers_for}
 use Rattle.harvest_results.specs.Histories.{nothing_gathered, with_event}

@@ -33,25 +33,26 @@ decimal_no_dot : (n : ℕ) → IsIn 46 (decimal n) → ⊥
 unfolding digits
 decimal_no_dot n m = digits_no_dot 64 n [] (λ none. none) m
 
-in_middle : (xs ys : List ℕ) → IsIn 46 (xs ++ 46 ∷ ys)
-in_middle [] ys = inl refl
-in_middle (x ∷ xs) ys = inr (in_middle xs ys)
+in_middle : (mark : ℕ) (xs ys : List ℕ) → IsIn mark (xs ++ mark ∷ ys)
+in_middle mark [] ys = inl refl
+in_middle mark (x ∷ xs) ys = inr (in_middle mark xs ys)
 
-same_before_dot : (xs ys ds es : List ℕ) → (IsIn 46 ds → ⊥) → (IsIn 46 es → ⊥) → xs ++ 46 ∷ ds ≡ ys ++ 46 ∷ es
-    → xs ≡ ys
-same_before_dot [] [] ds es no_d no_e e = refl
-same_before_dot [] (y ∷ ys) ds es no_d no_e e =
-    let rest : ds ≡ ys ++ 46 ∷ es = cc in absurd (no_d (subst (IsIn 46) (sym rest) (in_middle ys es)))
-same_before_dot (x ∷ xs) [] ds es no_d no_e e =
-    let rest : es ≡ xs ++ 46 ∷ ds = cc in absurd (no_e (subst (IsIn 46) (sym rest) (in_middle xs ds)))
-same_before_dot (x ∷ xs) (y ∷ ys) ds es no_d no_e e =
-    let rest : xs ++ 46 ∷ ds ≡ ys ++ 46 ∷ es = cc in
-    let more : xs ≡ ys = same_before_dot xs ys ds es no_d no_e rest in
+-- Where a mark stands for the last time, the same texts precede it.
+pub same_before : (mark : ℕ) (xs ys ds es : List ℕ) → (IsIn mark ds → ⊥) → (IsIn mark es → ⊥)
+    → xs ++ mark ∷ ds ≡ ys ++ mark ∷ es → xs ≡ ys
+same_before mark [] [] ds es no_d no_e e = refl
+same_before mark [] (y ∷ ys) ds es no_d no_e e =
+    let rest : ds ≡ ys ++ mark ∷ es = cc in absurd (no_d (subst (IsIn mark) (sym rest) (in_middle mark ys es)))
+same_before mark (x ∷ xs) [] ds es no_d no_e e =
+    let rest : es ≡ xs ++ mark ∷ ds = cc in absurd (no_e (subst (IsIn mark) (sym rest) (in_middle mark xs ds)))
+same_before mark (x ∷ xs) (y ∷ ys) ds es no_d no_e e =
+    let rest : xs ++ mark ∷ ds ≡ ys ++ mark ∷ es = cc in
+    let more : xs ≡ ys = same_before mark xs ys ds es no_d no_e rest in
     let first : x ≡ y = cc in
     cc
 
 pub job_id-source : (name other : List ℕ) (number another : ℕ) → job_id name number ≡ job_id other another
     → name ≡ other
 job_id-source name other number another e =
-    same_before_dot name other (decimal number) (decimal another) (decimal_no_dot number) (decimal_no_dot another)
+    same_before 46 name other (decimal number) (decimal another) (decimal_no_dot number) (decimal_no_dot another)
     (sym (append_assoc name (46 ∷ []) (decimal number)) ∙ e ∙ append_assoc other (46 ∷ []) (decimal another))

@@ -34,7 +34,7 @@ use Rattle.harvest_sources.specs.declared.step.Step.TheVariants.{Begin, Break, E
 use Rattle.harvest_sources.specs.declared.step.StepReply.TheVariants.{Nothing, Ended, Already}
 use Rattle.harvest_results.specs.Counts.{Counts, bad_of, counts_in, counts_of}
 use Rattle.harvest_results.specs.Effects.{HarvestState, after_step, change_of_step, effect_of, gone_from, gone_of}
-use Rattle.harvest_results.specs.Effects.{is_accepted}
+use Rattle.harvest_sources.specs.Steps.{is_accepted}
 use Rattle.harvest_results.specs.Effects.{is_of_source, is_unlisted, with_put, without}
 use Rattle.harvest_results.specs.Histories.{AStep, Gathered, HarvestEvent, IsFit, IsHarvest, IsHistory, KeepsItsNames}
 use Rattle.harvest_results.specs.Histories.{NeverBegins, Other}

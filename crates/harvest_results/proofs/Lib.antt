@@ -10,6 +10,7 @@ pub mod ItemLemmas
 pub mod JobIdLemmas
 pub mod JobLemmas
 pub mod LookupLemmas
+pub mod NameLemmas
 pub mod NumberLemmas
 pub mod PhaseLemmas
 pub mod ReportLemmas

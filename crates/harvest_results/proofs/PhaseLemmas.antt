@@ -23,7 +23,8 @@ use Rattle.harvest_sources.specs.declared.source.HarvestSource.{HarvestSource}
 use Rattle.harvest_sources.specs.declared.step.Effect.{Effect}
 use Rattle.harvest_sources.specs.declared.step.Effect.TheVariants as effect
 use Rattle.harvest_results.specs.Effects.{HarvestState}
-use Rattle.harvest_results.specs.Effects.{is_accepted, with_put, without}
+use Rattle.harvest_results.specs.Effects.{with_put, without}
+use Rattle.harvest_sources.specs.Steps.{is_accepted}
 use Rattle.harvest_results.specs.Histories.{Gathered, datasets_of, nothing_gathered}
 use Rattle.harvest_results.proofs.SettlingLemmas.{IsSettling, cause_in}
 use Rattle.harvest_results.proofs.SourceEntryLemmas.{renewed, renewed_from}

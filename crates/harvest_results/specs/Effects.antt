@@ -1,5 +1,5 @@
 -- What the steps of a harvest do to the datasets of its source.
-use Rattle.std.specs.Prelude.{ℕ, Bool, true, false, not, ◌&&◌, if◌then◌else◌, List, [], filter, length, Option, Some, None}
+use Rattle.std.specs.Prelude.{ℕ, Bool, not, ◌&&◌, if◌then◌else◌, List, [], filter, length, Option, Some, None}
 use Rattle.std.specs.Prelude.{find}
 use Rattle.std.specs.List.{list_any}
 use Rattle.std.specs.Str.{bytes_eq}
@@ -7,8 +7,9 @@ use Rattle.portal_base.specs.Ordered.{upserted}
 use Rattle.packages.specs.Order.{dataset_cmp}
 use Rattle.packages.specs.declared.package.Package.{Package}
 use Rattle.harvest_sources.specs.Entries.{SourceEntry, sources_after}
+use Rattle.harvest_sources.specs.Listings.{has_object}
 use Rattle.harvest_sources.specs.Sources.{SourceState}
-use Rattle.harvest_sources.specs.Steps.{stepped, with_open_job}
+use Rattle.harvest_sources.specs.Steps.{is_accepted, stepped, with_open_job}
 use Rattle.harvest_sources.specs.declared.listing.Listing.{Listing}
 use Rattle.harvest_sources.specs.declared.reading.Reading.{Reading}
 use Rattle.harvest_sources.specs.declared.reading.Reading.TheVariants.{Good, Bad}
@@ -17,7 +18,6 @@ use Rattle.harvest_sources.specs.declared.step.Effect.TheVariants.{Plain, Added,
 use Rattle.harvest_sources.specs.declared.step.Step.{Step}
 use Rattle.harvest_sources.specs.declared.step.Step.TheVariants.{NewRound, Begin, List as list, Break, Claim, Settle, End}
 use Rattle.harvest_sources.specs.declared.step.StepReply.{StepReply}
-use Rattle.harvest_sources.specs.declared.step.StepReply.TheVariants.{Started, Gather, Object, Nothing, Done, Ended, Already}
 use Rattle.harvest_results.specs.Equality.{equal_datasets}
 use Rattle.harvest_results.specs.Harvested.{harvested_dataset}
 
@@ -34,8 +34,7 @@ is_of_source name d = bytes_eq d.source name
 
 -- the dataset is one of the source, and its catalogue doesn't list the dataset's IRI
 abbrev pub is_unlisted : List ℕ → Listing → Package → Bool
-is_unlisted name listing d =
-    is_of_source name d && not (list_any (λ object. bytes_eq object.iri d.iri) listing.objects)
+is_unlisted name listing d = is_of_source name d && not (has_object d.iri listing)
 
 abbrev pub dataset_read : SourceState → List ℕ → Reading → Option Package
 dataset_read s iri (Good r) = Some (harvested_dataset s.source iri r)
@@ -95,16 +94,6 @@ effect_of (Settle job iri reading) state = effect_of_put state.datasets (put_by 
 effect_of (End job) state = Deleted (length (dropped_by (End job) state))
 
 -- ---- the step
-
--- A step is accepted, unless there was nothing to do or it was done already.
-abbrev pub is_accepted : StepReply → Bool
-is_accepted (Started jobs) = true
-is_accepted (Gather job url) = true
-is_accepted (Object job item) = true
-is_accepted Nothing = false
-is_accepted Done = true
-is_accepted (Ended report) = true
-is_accepted Already = false
 
 -- The change of a step: the entries of sources and jobs, the dataset that is put, and those that are dropped, with the
 -- answer.

@@ -18,7 +18,8 @@ use Rattle.harvest_sources.specs.declared.step.Step.{Step}
 use Rattle.harvest_sources.specs.declared.step.Step.TheVariants.{NewRound, Begin, List as list, Break, Claim, Settle, End}
 use Rattle.harvest_sources.specs.declared.step.StepReply.{StepReply}
 use Rattle.harvest_sources.specs.declared.step.StepReply.TheVariants.{Started, Gather, Object, Nothing, Done, Ended, Already}
-use Rattle.harvest_results.specs.Effects.{HarvestState, after_step, change_of_step, is_accepted, is_of_source}
+use Rattle.harvest_results.specs.Effects.{HarvestState, after_step, change_of_step, is_of_source}
+use Rattle.harvest_sources.specs.Steps.{is_accepted}
 use Rattle.harvest_results.specs.Readings.{CatalogueReading, ListedIri}
 use Rattle.harvest_results.specs.Readings.CatalogueReading.{Listed}
 use Rattle.harvest_results.specs.Results.{IsOwn}
