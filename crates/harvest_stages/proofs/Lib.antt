@@ -2,6 +2,7 @@ pub mod ChangeLemmas
 mod Examples
 pub mod FoundLemmas
 pub mod GroupLemmas
+pub mod KeptLemmas
 pub mod LocatedLemmas
 pub mod MapLemmas
 pub mod PartLemmas

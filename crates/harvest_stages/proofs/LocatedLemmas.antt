@@ -1,19 +1,15 @@
 -- Sources that steps look for.
 use Rattle.std.proofs.Common.{◌≡◌, ◌∙◌, ◌<◌, ℕ, zero, suc, Bool, true, false, cond, List, [], ◌∷◌, Option, Some, None}
-use Rattle.std.proofs.Common.{◌+◌, ◌++◌, ◌≤◌, ltb-false, ltb-true, take, length, get_or, refl, sym, ap, subst, inl, inr}
-use Rattle.std.specs.Prelude.{nat_lt, option_to_list, find, option_and_then, option_map, position, slice_get, decimal}
+use Rattle.std.proofs.Common.{◌+◌, ◌++◌, take, length, get_or, refl, sym, ap, inl, inr}
+use Rattle.std.specs.Prelude.{option_to_list, find, option_and_then, option_map, position, slice_get, decimal}
 use Rattle.std.specs.Option.{option_map_or}
 use Rattle.std.specs.Ordering.{is_eq}
 use Rattle.std.specs.Str.{bytes_eq}
 use Rattle.std.proofs.lemmas.Bool.{and_parts}
 use Rattle.std.proofs.lemmas.List.{length-map}
 use Rattle.std.proofs.lemmas.Map.Text.{is_eq-slice_cmp}
-use Rattle.std.proofs.lemmas.List.{take_more}
-use Rattle.std.proofs.lemmas.List.Elements.{filter_map-append}
-use Rattle.std.proofs.lemmas.List.Folds.{find_at}
-use Rattle.std.proofs.lemmas.List.Sums.{passes_at_first}
-use Rattle.std.proofs.lemmas.Option.{slice_get-get_or, slice_get_past}
-use Rattle.std.specs.List.{cons_option, filter_map, position_or_len}
+use Rattle.std.proofs.lemmas.Option.{slice_get-get_or}
+use Rattle.std.specs.List.{filter_map}
 use Rattle.std.proofs.lemmas.Slice.Eq.{bytes_eq-Decides}
 use Rattle.portal_base.specs.Ordered.{IsAscending}
 use Rattle.portal_base.proofs.Removed.{is_eq_true, none_above}
@@ -25,42 +21,12 @@ use Rattle.harvest_sources.specs.Sources.{source_at, source_cmp, source_cmp_tota
 use Rattle.harvest_sources.specs.Steps.{with_open_job}
 use Rattle.harvest_sources.specs.declared.job.Job.{Job}
 use Rattle.harvest_sources.proofs.JobIds.{is_id-none, is_id-parts}
+use Rattle.harvest_sources.proofs.PlaceLemmas.{filter_map_more, find-no_position, find-position, passes-position}
 use Rattle.harvest_stages.proofs.ChangeLemmas.{found_named}
 use Rattle.harvest_stages.proofs.SourceLemmas.{named_here}
 use Rattle.harvest_stages.proofs.StepLemmas.{get_or_states, open_is_own}
 
 -- ---- the first that passes a test
-
-module _ {X : Type 0} (p : X → Bool) where
-  position-some : (xs : List X) (i : ℕ) → position p xs ≡ Some i → (position_or_len p xs ≡ i) × (i < length xs)
-  position-some xs i e =
-      let m : ℕ = position_or_len p xs in
-      let P : Bool → Type 0 = λ b. nat_lt m (length xs) ≡ b → cond b (Some m) None ≡ Some i → (m ≡ i) × (i < length xs) in
-      (elim (nat_lt m (length xs)) as P [
-        | true ↦ λ t h. let same : m ≡ i = cc in (same, subst (λ n. n < length xs) same (ltb-true m (length xs) t))
-        | false ↦ λ t h. absurd (cc)
-      ]) refl e
-
-  position-none : (xs : List X) → position p xs ≡ None → length xs ≤ position_or_len p xs
-  position-none xs e =
-      let m : ℕ = position_or_len p xs in
-      let P : Bool → Type 0 = λ b. nat_lt m (length xs) ≡ b → cond {A = Option ℕ} b (Some m) None ≡ None → length xs ≤ m in
-      (elim (nat_lt m (length xs)) as P [
-        | true ↦ λ t h. absurd (cc)
-        | false ↦ λ t h. ltb-false m (length xs) t
-      ]) refl e
-
-  find-position : (xs : List X) (i : ℕ) → position p xs ≡ Some i → find p xs ≡ slice_get xs i
-  find-position xs i e = find_at p xs ∙ ap (slice_get xs) (position-some xs i e).0
-
-  find-no_position : (xs : List X) → position p xs ≡ None → find p xs ≡ None
-  find-no_position xs e = find_at p xs ∙ slice_get_past xs (position_or_len p xs) (position-none xs e)
-
-  passes-position : (xs : List X) (i : ℕ) (d : X) → position p xs ≡ Some i → p (get_or xs i d) ≡ true
-  passes-position xs i d e =
-      let at = position-some xs i e in
-      subst (λ n. p (get_or xs n d) ≡ true) at.0
-      (passes_at_first p xs d (subst (λ n. n < length xs) (sym at.0) at.1))
 
 pub find-states : (test : SourceState → Bool) (items : List SourceWithRoom)
     → find test (states items) ≡ option_map (λ s. s.state) (find (λ s. test s.state) items)
@@ -214,16 +180,6 @@ module _ (items : List SourceWithRoom) (id front back : List ℕ) (place : ℕ) 
       ∙ ap (λ t. cond t (Some s.state) None) (sym test)
 
 -- ---- the ids of the open jobs
-
-filter_map_more : {X Y : Type 0} (h : X → Option Y) (xs : List X) (i : ℕ) (d : X) → i < length xs
-    → filter_map h (take (i + 1) xs) ≡ filter_map h (take i xs) ++ option_to_list (h (get_or xs i d))
-filter_map_more {Y = Y} h xs i d lt =
-    ap (filter_map h) (take_more xs i d lt) ∙ filter_map-append h (take i xs) (get_or xs i d ∷ [])
-    ∙ ap (λ l. filter_map h (take i xs) ++ l) (one (h (get_or xs i d)))
-  where
-    one : (o : Option Y) → cons_option o [] ≡ option_to_list o
-    one None = refl
-    one (Some y) = refl
 
 -- the id of the source's open job
 abbrev pub open_id : SourceState → Option (List ℕ)

@@ -34,12 +34,12 @@ use Rattle.harvest_stages.proofs.StepLemmas.{open_is_own}
 
 -- ---- steps at a place
 
-slice_get_within : {X : Type 0} (xs : List X) (place : ℕ) (x : X) → slice_get xs place ≡ Some x → place < length xs
+pub slice_get_within : {X : Type 0} (xs : List X) (place : ℕ) (x : X) → slice_get xs place ≡ Some x → place < length xs
 slice_get_within [] place x is = absurd (cc)
 slice_get_within (y ∷ ys) zero x is = omega arith
 slice_get_within (y ∷ ys) (suc place) x is = let rest = slice_get_within ys place x is in omega (arith, rest)
 
-holds_there : (ss : List SourceState) (place : ℕ) (s : SourceState) → AreSources ss → slice_get ss place ≡ Some s
+pub holds_there : (ss : List SourceState) (place : ℕ) (s : SourceState) → AreSources ss → slice_get ss place ≡ Some s
     → HasItsJobs s
 holds_there ss place s was there =
     let within = slice_get_within ss place s there in
@@ -111,7 +111,7 @@ list_so s job items unnamed is =
     sym (on_unlisted make s ∙ ap (λ (o : Option Job). option_map_or make o (idle Already)) is)
 
 -- The objects of a listing ascend.
-listing_up : (source : List ℕ) (items : List Item) (unnamed : ℕ)
+pub listing_up : (source : List ℕ) (items : List Item) (unnamed : ℕ)
     → IsAscending object_cmp (listing_of source items unnamed).objects
 listing_up source items unnamed =
     IsAscending-map (object_of source (first_items items)) item_cmp object_cmp (λ x y. refl) (first_items items)

@@ -53,7 +53,7 @@ abbrev pub AreOwn : List ℕ → List SourceEntry → Type 0
 AreOwn name [] = Unit {0}
 AreOwn name (entry ∷ entries) = IsOwn name entry × AreOwn name entries
 
-changed_own : (name : List ℕ) (entry : SourceEntry) (ss : List SourceState) → IsOwn name entry
+pub changed_own : (name : List ℕ) (entry : SourceEntry) (ss : List SourceState) → IsOwn name entry
     → changed_by entry ss ≡ with_source_at name (changed_itself entry) ss
 changed_own name (PutSource source) ss own = absurd own
 changed_own name (DropSource other) ss own = absurd own
@@ -61,7 +61,7 @@ changed_own name (PutJob job) ss own = ap (λ n. with_source_at n (with_job job)
 changed_own name (DropJob other number) ss own = ap (λ n. with_source_at n (changed_itself (DropJob other number)) ss) own
 changed_own name (PutListing other listing) ss own = ap (λ n. with_source_at n (with_listing listing) ss) own
 
-source_kept : (name : List ℕ) (entry : SourceEntry) (s : SourceState) → IsOwn name entry
+pub source_kept : (name : List ℕ) (entry : SourceEntry) (s : SourceState) → IsOwn name entry
     → (changed_itself entry s).source ≡ s.source
 source_kept name (PutSource source) s own = absurd own
 source_kept name (DropSource other) s own = absurd own
@@ -113,7 +113,7 @@ after_own name (entry ∷ entries) ss own =
 
 -- ---- the entries of a step
 
-find_in : {X : Type 0} (p : X → Bool) (xs : List X) (x : X) → find p xs ≡ Some x → IsIn x xs
+pub find_in : {X : Type 0} (p : X → Bool) (xs : List X) (x : X) → find p xs ≡ Some x → IsIn x xs
 find_in p [] x e = absurd (cc)
 find_in p (y ∷ ys) x e = by (p y) e (find_in p ys x)
   where
@@ -248,12 +248,12 @@ module _ (first now : List SourceWithRoom) (i : ℕ) (s new : SourceWithRoom) (w
           subst HasItsJobs (sym (get_or-set_other (states now) i k new.state d n))
           (before k d (less n))
 
-sources_after-append : (first rest : List SourceEntry) (ss : List SourceState)
+pub sources_after-append : (first rest : List SourceEntry) (ss : List SourceState)
     → sources_after (first ++ rest) ss ≡ sources_after rest (sources_after first ss)
 sources_after-append [] rest ss = refl
 sources_after-append (entry ∷ first) rest ss = sources_after-append first rest (changed_by entry ss)
 
-renewals_own : (s : SourceState) → HasItsJobs s → AreOwn s.source.name (renewals s)
+pub renewals_own : (s : SourceState) → HasItsJobs s → AreOwn s.source.name (renewals s)
 renewals_own s holds = by s.listing (open_job s) refl
   where
     run : (b : Bool) (job : Job) → open_job s ≡ Some job → AreOwn s.source.name (cond b (PutJob (in_state New job) ∷ []) [])
@@ -265,7 +265,7 @@ renewals_own s holds = by s.listing (open_job s) refl
     by (Some listing) (Some job) is = (refl, tt)
     by None (Some job) is = run (is_running job) job is
 
-renewals_renew : (s : SourceState) → itself_after (renewals s) s ≡ renewed s
+pub renewals_renew : (s : SourceState) → itself_after (renewals s) s ≡ renewed s
 renewals_renew s = by s.listing (open_job s)
   where
     run : (b : Bool) (job : Job)
@@ -278,7 +278,7 @@ renewals_renew s = by s.listing (open_job s)
     by (Some listing) (Some job) = refl
     by None (Some job) = run (is_running job) job
 
-renewed_source : (s : SourceState) → (renewed s).source ≡ s.source
+pub renewed_source : (s : SourceState) → (renewed s).source ≡ s.source
 renewed_source s = by s.listing (open_job s)
   where
     run : (b : Bool) (job : Job) → (cond b (with_job (in_state New job) s) s).source ≡ s.source
@@ -331,7 +331,7 @@ itself_changed x (y ∷ ys) change below =
         (sym (is_eq-slice_cmp x.source.name y.source.name) ∙ ap is_eq below.0)
         (bytes_eq y.source.name x.source.name) refl
 
-all_renewed : (ss : List SourceState) → IsAscending source_cmp ss → ((s : SourceState) → IsIn s ss → HasItsJobs s)
+pub all_renewed : (ss : List SourceState) → IsAscending source_cmp ss → ((s : SourceState) → IsIn s ss → HasItsJobs s)
     → sources_after (flat_map renewals ss) ss ≡ map renewed ss
 all_renewed [] up holds = refl
 all_renewed (x ∷ xs) up holds =

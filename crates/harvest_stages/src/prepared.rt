@@ -49,6 +49,15 @@ impl Model for PreparedStep {
     ghost view = { λ p. record { change = p.change; reply = p.reply } };
 }
 
+impl PreparedStep {
+    /// The answer of the step.
+    pub fn reply(&self) -> &StepReply
+        ensures { result.now ≡ self.now.reply }
+    {
+        &self.reply
+    }
+}
+
 /// A step that changes nothing.
 pub(crate) fn idle(reply: StepReply) -> PreparedStep
     ensures { result ≡ record { change = Nothing; reply = reply } }

@@ -1,8 +1,10 @@
 //! The sources with their jobs as one value.
-ghost use Rattle.std.specs.Prelude.{◌≡◌, [], option_map};
-ghost use Rattle.harvest_sources.specs.Sources.{AreSources, source_named, states};
+ghost use Rattle.std.specs.Prelude.{◌≡◌, [], IfSome, option_map};
+ghost use Rattle.harvest_sources.specs.Sources.{AreSources, HasItsJobs, source_named, states};
+ghost use Rattle.harvest_sources.specs.Steps.{with_open_job};
 ghost use Rattle.harvest_stages.specs.Stages.{sources_in};
 
+use crate::located::source_of_job;
 use crate::places::find_source;
 use harvest_sources::SourceJobs;
 use portal_base::text::Text;
@@ -54,5 +56,14 @@ impl Stages {
         ensures { option_map (λ s. s.now.state) result ≡ source_named (sources_in self.now) name.now }
     {
         find_source(self.sources.as_slice(), name)
+    }
+
+    /// The source whose open job has this id, by a binary search.
+    pub fn source_of_job(&self, id: &str) -> Option<&SourceJobs>
+        ensures source { option_map (λ s. s.now.state) result ≡ with_open_job (sources_in self.now) id.now }
+        ensures holds { IfSome result (λ s. HasItsJobs s.now.state) }
+    {
+        let (_, source) = source_of_job(self.sources.as_slice(), id)?;
+        Some(source)
     }
 }
