@@ -65,7 +65,7 @@ fn is_id_of(number: u128, text: &str) -> bool
 }
 
 /// Whether each item is less than the next one, and so than all later ones.
-fn ascends<T: Ord>(items: &[T]) -> bool
+pub fn ascends<T: Ord>(items: &[T]) -> bool
     ensures { IsTrue result ↔ IsAscending T.cmp items.now }
 {
     items.is_sorted_by(|item, next| item.cmp(next).is_lt())
@@ -74,7 +74,7 @@ fn ascends<T: Ord>(items: &[T]) -> bool
 // ---- numbers
 
 /// Whether the resources' numbers are distinct, at least 1 and below the next number.
-fn are_numbered(alloc: Global, dataset: &Package) -> Result<bool, AllocError>
+pub fn are_numbered(alloc: Global, dataset: &Package) -> Result<bool, AllocError>
     ensures { IfOk result (λ numbered. IsTrue numbered ↔ AreNumbered dataset.now) }
 {
     let next = dataset.next_resource;
