@@ -13,9 +13,9 @@ use Rattle.portal_calls.specs.declared.answer.Kind.TheVariants.{HarvestSource, H
 use Rattle.portal_calls.specs.declared.answer.Right.{Right}
 use Rattle.portal_calls.specs.declared.answer.Right.TheVariants.{CreateDataset, EditDataset, PurgeDataset}
 use Rattle.portal_calls.specs.declared.answer.Right.TheVariants.{CreateOrganization, AdministerOrganization}
-use Rattle.portal_calls.specs.declared.event.Refusal.{Refusal}
-use Rattle.portal_calls.specs.declared.event.Refusal.TheVariants.{NotFound, NotAuthorized, Validation, NameInUse}
-use Rattle.portal_calls.specs.declared.event.Refusal.TheVariants.{KeeperFault, OutOfMemory}
+use Rattle.portal_events.specs.declared.event.Refusal.{Refusal}
+use Rattle.portal_events.specs.declared.event.Refusal.TheVariants.{NotFound, NotAuthorized, Validation, NameInUse}
+use Rattle.portal_events.specs.declared.event.Refusal.TheVariants.{KeeperFault, OutOfMemory}
 use Rattle.action_api.specs.declared.early.Early.{Early}
 use Rattle.action_api.specs.declared.early.Early.TheVariants.{TooLong, NotJson, Fraction, UnknownAction}
 use Rattle.action_api.specs.declared.early.Early.TheVariants.{OutOfMemory as no_memory}

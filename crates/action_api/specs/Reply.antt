@@ -1,19 +1,26 @@
 -- The rendering of a reply, or of an early fault: its status and its JSON (CKAN 2.10, "Making an API request").
-use Rattle.std.specs.Prelude.{ℕ, List, [], ◌∷◌, ◌++◌, true, false, codes, Option, Some, None, option_and_then, Result}
+use Rattle.std.specs.Prelude.{ℕ, Bool, List, [], ◌∷◌, ◌++◌, true, false, codes, Option, Some, None, option_and_then, Result}
 use Rattle.std.specs.Prelude.{Ok, Err}
 use Rattle.portal_base.specs.Json.{json_text}
-use Rattle.portal_base.specs.declared.json_value.Json.{Json, Map, Text, Truth}
+use Rattle.portal_base.specs.declared.json_value.Json.{Json, Map, Null, Text, Truth}
 use Rattle.portal_calls.specs.Action.{action_name, action_named}
 use Rattle.portal_calls.specs.declared.action.Action.{Action}
-use Rattle.portal_calls.specs.declared.event.Refusal.{Refusal}
-use Rattle.portal_calls.specs.declared.event.Refusal.TheVariants.{NotFound, NotAuthorized, Validation, NameInUse}
-use Rattle.portal_calls.specs.declared.event.Refusal.TheVariants.{KeeperFault, OutOfMemory}
-use Rattle.portal_calls.specs.declared.event.Reply.{Reply}
-use Rattle.portal_calls.specs.declared.event.Reply.TheVariants.{Accepted, Shown, Refused}
+use Rattle.portal_events.specs.declared.event.Refusal.{Refusal}
+use Rattle.portal_events.specs.declared.event.Refusal.TheVariants.{NotFound, NotAuthorized, Validation, NameInUse}
+use Rattle.portal_events.specs.declared.event.Refusal.TheVariants.{KeeperFault, OutOfMemory}
+use Rattle.portal_events.specs.declared.event.Reply.{Reply}
+use Rattle.portal_events.specs.declared.event.Reply.TheVariants.{Accepted, Shown, Refused, Harvest}
+use Rattle.portal_events.specs.Reply.{is_of_call}
 use Rattle.action_api.specs.Error.{refusal_dictionary, early_dictionary}
 use Rattle.action_api.specs.declared.early.Early.{Early}
 use Rattle.action_api.specs.declared.early.Early.TheVariants.{TooLong, NotJson, Fraction, UnknownAction}
 use Rattle.action_api.specs.declared.early.Early.TheVariants.{OutOfMemory as no_memory}
+
+-- The reply is one to a call, or there is none for an early fault. Only these have texts. What follows says something of
+-- the answer to a step of a harvest too, only so that it says something of every reply.
+abbrev pub has_text : Result Reply Early → Bool
+has_text (Ok reply) = is_of_call reply
+has_text (Err early) = true
 
 -- ---- help
 
@@ -50,6 +57,7 @@ abbrev pub reply_help : Option (List ℕ) → Result Reply Early → List ℕ
 reply_help action (Ok (Accepted value)) = help_of action
 reply_help action (Ok (Shown value)) = help_of action
 reply_help action (Ok (Refused refusal)) = refusal_help action refusal
+reply_help action (Ok (Harvest answer)) = help_of action
 reply_help action (Err early) = early_help action early
 
 -- ---- statuses (RFC 9110, section 15; 507 of RFC 4918)
@@ -73,6 +81,7 @@ abbrev pub reply_status : Result Reply Early → ℕ
 reply_status (Ok (Accepted value)) = 200
 reply_status (Ok (Shown value)) = 200
 reply_status (Ok (Refused refusal)) = refusal_status refusal
+reply_status (Ok (Harvest answer)) = 200
 reply_status (Err early) = early_status early
 
 -- ---- dictionaries
@@ -90,6 +99,7 @@ abbrev pub json_with_help : List ℕ → Result Reply Early → Json
 json_with_help help (Ok (Accepted value)) = success_dictionary help value
 json_with_help help (Ok (Shown value)) = success_dictionary help value
 json_with_help help (Ok (Refused refusal)) = failure_dictionary help (refusal_dictionary refusal)
+json_with_help help (Ok (Harvest answer)) = success_dictionary help Null
 json_with_help help (Err early) = failure_dictionary help (early_dictionary early)
 
 abbrev pub reply_json : Option (List ℕ) → Result Reply Early → Json

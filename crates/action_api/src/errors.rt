@@ -15,7 +15,7 @@ use portal_base::json_value::Json;
 use portal_base::seq::Seq;
 use portal_base::text::Text;
 use portal_calls::answer::{Kind, Right};
-use portal_calls::event::Refusal;
+use portal_events::Refusal;
 use std::alloc::{AllocError, Global};
 
 fn name_of_kind(kind: Kind) -> &'static str

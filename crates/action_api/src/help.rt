@@ -5,7 +5,7 @@ ghost use Rattle.action_api.specs.Reply.{help_of, known_action, reply_help};
 use crate::early::Early;
 use portal_base::text::Text;
 use portal_calls::action::Action;
-use portal_calls::event::{Refusal, Reply};
+use portal_events::{Refusal, Reply};
 use std::alloc::{AllocError, Global};
 
 /// The two texts, one after the other.

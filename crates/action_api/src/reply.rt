@@ -1,8 +1,8 @@
 //! Rendering replies: a status and one JSON dictionary, as in CKAN's Action API (2.10).
-ghost use Rattle.std.specs.Prelude.{◌≡◌, IfOk, option_copied, string_bytes};
+ghost use Rattle.std.specs.Prelude.{◌≡◌, IfOk, IsTrue, option_copied, string_bytes};
 ghost use Rattle.portal_base.specs.Json.{json_text};
 ghost use Rattle.action_api.specs.Reply.{refusal_status, early_status, reply_status, success_dictionary};
-ghost use Rattle.action_api.specs.Reply.{failure_dictionary, reply_json, reply_text};
+ghost use Rattle.action_api.specs.Reply.{failure_dictionary, has_text, reply_json, reply_text};
 
 use crate::early::Early;
 use crate::errors::{early_json, refusal_json};
@@ -10,17 +10,19 @@ use crate::help::reply_help;
 use portal_base::json_value::Json;
 use portal_base::seq::Seq;
 use portal_base::text::Text;
-use portal_calls::event::{Refusal, Reply};
+use portal_events::{Refusal, Reply};
 use std::alloc::{AllocError, Global};
 
-/// The HTTP status of a reply (RFC 9110, section 15).
+/// The HTTP status of a reply to a call (RFC 9110, section 15).
 pub fn status_of(reply: &Result<Reply, Early>) -> u16
+    requires { IsTrue (has_text reply.now) }
     ensures { result ≡ reply_status reply.now }
 {
     match reply {
         Ok(Reply::Accepted(_)) => 200,
         Ok(Reply::Shown(_)) => 200,
         Ok(Reply::Refused(refusal)) => status_of_refusal(refusal),
+        Ok(Reply::Harvest(_)) => unreachable!(),
         Err(early) => status_of_early(early),
     }
 }
@@ -76,6 +78,7 @@ fn render_reply(
     action: Option<&str>,
     reply: &Result<Reply, Early>,
 ) -> Result<String, AllocError>
+    requires { IsTrue (has_text reply.now) }
     ensures { IfOk result (λ text. string_bytes text ≡ json_text (reply_json (option_copied action.entry) reply.now)) }
 {
     let help = reply_help(alloc, action, reply)?;
@@ -83,6 +86,7 @@ fn render_reply(
         Ok(Reply::Accepted(value)) => render_success(alloc, help, value),
         Ok(Reply::Shown(value)) => render_success(alloc, help, value),
         Ok(Reply::Refused(refusal)) => render_failure(alloc, help, refusal_json(alloc, refusal)?),
+        Ok(Reply::Harvest(_)) => unreachable!(),
         Err(early) => render_failure(alloc, help, early_json(alloc, early)?),
     }
 }
@@ -94,6 +98,7 @@ pub fn reply_text(
     action: Option<&str>,
     reply: &Result<Reply, Early>,
 ) -> Result<(u16, Seq<u8>), AllocError>
+    requires { IsTrue (has_text reply.now) }
     ensures { IfOk result (λ written. written ≡ reply_text (option_copied action.entry) reply.now) }
 {
     let text = render_reply(alloc, action, reply)?;

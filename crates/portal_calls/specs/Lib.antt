@@ -2,6 +2,5 @@ pub mod Action
 pub mod Answer
 pub mod Body
 pub mod BodyValues
-pub mod Reply
 pub mod Stop
 pub mod Topic

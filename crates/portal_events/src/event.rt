@@ -1,17 +1,20 @@
 //! Events of a portal and the replies to them.
 ghost use Rattle.std.specs.Prelude.{◌≡◌};
-ghost use Rattle.portal_calls.specs.Reply.{refusal_of};
+ghost use Rattle.portal_events.specs.Reply.{refusal_of};
 
-use crate::answer::{Denial, Kind, Right};
-use crate::call::Call;
+use harvest_sources::{Step, StepReply};
 use portal_base::json_value::Json;
 use portal_base::seq::Seq;
 use portal_base::text::Text;
+use portal_calls::answer::{Denial, Kind, Right};
+use portal_calls::call::Call;
 
 /// An event of a portal.
 #[derive(Drop)]
 pub enum Event {
     Call(Call),
+    /// A step of a harvest.
+    Harvest(Step),
 }
 
 /// Why a call was refused.
@@ -31,7 +34,7 @@ pub enum Refusal {
     OutOfMemory,
 }
 
-/// The reply to a call.
+/// The reply to an event.
 #[derive(Drop)]
 pub enum Reply {
     /// The change was made. The value shows what it made.
@@ -39,12 +42,14 @@ pub enum Reply {
     /// The value that a reading call asks for.
     Shown(Json),
     Refused(Refusal),
+    /// The answer to a step of a harvest.
+    Harvest(StepReply),
 }
 
 impl Reply {
-    ghost use Rattle.portal_calls.specs.Reply.{is_change};
+    ghost use Rattle.portal_events.specs.Reply.{is_change};
 
-    /// Whether the reply is that a change was made.
+    /// Whether the reply is that a change was made, or that a step of a harvest was accepted.
     pub fn is_change(&self) -> bool
         ensures { result ≡ is_change self.now }
     {
@@ -52,6 +57,7 @@ impl Reply {
             Reply::Accepted(_) => true,
             Reply::Shown(_) => false,
             Reply::Refused(_) => false,
+            Reply::Harvest(reply) => reply.is_accepted(),
         }
     }
 }

@@ -1,10 +1,10 @@
 -- The refusal of a denial is neither that a name or an id is in use, nor that the store failed or memory ran out.
 use Rattle.std.proofs.Common.{◌≡◌, ◌≢◌, false, refl}
-use Rattle.portal_calls.specs.Reply.{is_name_in_use, refusal_of}
+use Rattle.portal_events.specs.Reply.{is_name_in_use, refusal_of}
 use Rattle.portal_calls.specs.declared.answer.Denial.{Denial}
 use Rattle.portal_calls.specs.declared.answer.Denial.TheVariants.{NotFound, NotAuthorized, Validation}
-use Rattle.portal_calls.specs.declared.event.Refusal.TheVariants.{KeeperFault, OutOfMemory}
-use Rattle.portal_calls.specs.declared.event.Reply.TheVariants as reply
+use Rattle.portal_events.specs.declared.event.Refusal.TheVariants.{KeeperFault, OutOfMemory}
+use Rattle.portal_events.specs.declared.event.Reply.TheVariants as reply
 
 -- the refusal of a denial is not that a name or an id is in use
 pub quiet-refusal : (denial : Denial) → is_name_in_use (reply.Refused (refusal_of denial)) ≡ false
