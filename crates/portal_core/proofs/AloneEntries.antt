@@ -50,7 +50,7 @@ use Rattle.portal_core.proofs.DatasetEntries.{state_after-tables, tables-dropped
 use Rattle.portal_core.proofs.DropLemmas.{filter-none}
 use Rattle.portal_core.proofs.Keeping.{fit_in_valid}
 use Rattle.portal_core.proofs.PeopleEntries.{roles-dropped, state_after-roles}
-use Rattle.portal_core.proofs.SourceEntries.{sources-alone}
+use Rattle.portal_core.proofs.SourceEntries.{removes-named, sources-alone}
 use Rattle.portal_core.proofs.StateLemmas.{with_tables}
 use Rattle.portal_core.proofs.TableEntries.{all_dropped-rows, state_after-drops, state_after-drops_of_table}
 use Rattle.portal_core.proofs.TableEntries.{without_each}
@@ -245,11 +245,12 @@ alone-in_state call state (Tables (table.Remove a)) valid fit =
 alone-in_state call state (Tables (table.Put a method records)) valid fit =
     puts-alone method records (found (at_address a) state.tables) state
 alone-in_state call state (Tables (table.DeleteRows a ids)) valid fit = all-quiet (DropRow a) (λ id s. tt) ids state
-alone-in_state call state (Sources change) valid fit = sources-alone change state
+alone-in_state call state (Sources change) valid fit =
+    sources-alone change state valid (removes-named change (call_view_of call state) state.sources valid.sources.named fit)
 
 pub all-alone : (call : Call) (state : State) (change : PlannedChange) → IsValid state
     → IsFit call (view_of call.caller state) change
     → AllDropAlone (entries_of change (view_of call.caller state)) state
 all-alone call state change valid fit =
-    subst (λ (entries : List Entry). AllDropAlone entries state) (sym (entries-same call state change valid.sources.ascending fit))
+    subst (λ (entries : List Entry). AllDropAlone entries state) (sym (entries-same call state change valid fit))
     (alone-in_state call state change valid (fit_in_valid change call state valid fit))

@@ -1,12 +1,15 @@
 -- The entries of a planned change make it, and they are the same in the state as in its caller's view.
-use Rattle.std.proofs.Common.{◌≡◌, ℕ, List, [], ◌∷◌, ◌++◌, map, Option, Some, None, refl, sym, ap, ◌∙◌}
+use Rattle.std.proofs.Common.{◌≡◌, ℕ, Bool, true, false, not, ◌||◌, List, [], ◌∷◌, ◌++◌, map, Option, Some, None, refl, sym, ap, ap₂, ◌∙◌}
 use Rattle.std.specs.List.{Contains, flat_map}
 use Rattle.std.specs.Str.{bytes_eq}
 use Rattle.portal_base.specs.Ordered.{IsAscending, dropped, found, upserted}
-use Rattle.portal_base.proofs.Filtered.{IsAscending-filter}
+use Rattle.portal_base.proofs.Filtered.{IsAscending-filter, list_all-IsIn}
 use Rattle.portal_base.proofs.Unique.{IsIn, IsIn-Contains}
 use Rattle.portal_base.proofs.Upserted.{All-IsIn, upserted-IsIn}
-use Rattle.harvest_sources.specs.Sources.{source_cmp}
+use Rattle.harvest_results.specs.Effects.{is_of_source}
+use Rattle.harvest_sources.specs.Entries.{SourceEntry}
+use Rattle.harvest_sources.specs.declared.change.SourceChange.{SourceChange}
+use Rattle.harvest_sources.specs.declared.change.SourceChange.TheVariants as source
 use Rattle.org_roles.specs.declared.change.OrgChange.TheVariants as org
 use Rattle.org_roles.specs.declared.entry.Membership.{Membership}
 use Rattle.packages.specs.Order.{dataset_cmp}
@@ -16,7 +19,8 @@ use Rattle.packages.proofs.FindLemmas.{IsIn-find}
 use Rattle.visibility.specs.CallView.{CallView}
 use Rattle.visibility.specs.TableSummary.{TableSummary}
 use Rattle.visibility.specs.View.{datasets_seen}
-use Rattle.visibility.specs.Visibility.{sees_in}
+use Rattle.visibility.specs.Visibility.{is_harvested, is_public, is_public_if_harvested, sees_in}
+use Rattle.visibility.proofs.PublicLemmas.{public_is_seen}
 use Rattle.visibility.proofs.ViewLemmas.{members_seen}
 use Rattle.dataset_answers.specs.Edits.{edit_of}
 use Rattle.dataset_answers.specs.Fit.{IsFitDataset}
@@ -47,15 +51,15 @@ use Rattle.portal_core.specs.State.{State}
 use Rattle.portal_core.specs.Valid.{IsValid}
 use Rattle.portal_core.specs.View.{view_of}
 use Rattle.portal_core.proofs.Kept.{filter-narrower}
-use Rattle.portal_core.proofs.Keeping.{fit_in_valid}
+use Rattle.portal_core.proofs.Keeping.{fit_in_valid, harvested_open}
 use Rattle.portal_core.proofs.TableViewing.{any-among, both}
 use Rattle.portal_core.specs.Entries.{DropDataset, DropOrg, EditDataset, Entry, OfSources, state_after}
-use Rattle.portal_core.specs.EntriesOf.{drop_of_role, drops_of, drops_of_table, entries_of_tables, is_gone, puts_of}
-use Rattle.portal_core.specs.EntriesOf.{tables_gone}
+use Rattle.portal_core.specs.EntriesOf.{datasets_gone, drop_of_dataset, drop_of_role, drops_of, drops_of_table}
+use Rattle.portal_core.specs.EntriesOf.{entries_of_tables, is_gone, puts_of, tables_gone}
 use Rattle.portal_core.proofs.BatchEntries.{HasTable, batch-entries}
 use Rattle.portal_core.proofs.DatasetEntries.{TakesDatasets, dataset-entries}
 use Rattle.portal_core.proofs.PeopleEntries.{people-entries}
-use Rattle.portal_core.proofs.SourceEntries.{source-entries}
+use Rattle.portal_core.proofs.SourceEntries.{RemovesNamed, of_source-harvested, removes-named, source-entries}
 use Rattle.portal_core.proofs.SourceViews.{entries-seen}
 use Rattle.portal_core.proofs.StateLemmas.{with_tables}
 use Rattle.portal_core.proofs.TableEntries.{IsNew, state_after-delete_rows, state_after-drops_of_table}
@@ -85,14 +89,14 @@ abbrev TakesChange : PlannedChange → State → Type 0
 TakesChange (People change) state = Unit {0}
 TakesChange (Datasets change) state = TakesDatasets change state.datasets
 TakesChange (Tables change) state = Takes change state.tables
-TakesChange (Sources change) state = Unit {0}
+TakesChange (Sources change) state = IsAscending dataset_cmp state.datasets
 
 change-entries : (change : PlannedChange) (state : State) → TakesChange change state
     → state_after (entries_of change state) state ≡ changed change state
 change-entries (People change) state takes = people-entries change state
 change-entries (Datasets change) state takes = dataset-entries change state takes
 change-entries (Tables change) state takes = table-entries change state takes
-change-entries (Sources change) state takes = source-entries change state
+change-entries (Sources change) state takes = source-entries change state takes
 
 -- ---- the caller's own tables
 
@@ -203,7 +207,7 @@ in-state (Tables (table.Put a method records)) call state valid fit =
     own-found (call_view_of call state) state.tables a fit.own in
     table-has state a fit.own.table valid there state.tables valid.tables.ascending there
 in-state (Tables (table.DeleteRows a ids)) call state valid fit = tt
-in-state (Sources change) call state valid fit = tt
+in-state (Sources change) call state valid fit = valid.datasets
 
 in-view : (change : PlannedChange) (call : Call) (state : State) → IsValid state
     → IsFit call (view_of call.caller state) change → TakesChange change (view_of call.caller state)
@@ -226,7 +230,8 @@ in-view (Tables (table.Put a method records)) call state valid fit =
     state.tables valid.tables.ascending)
     (own-found (call_view_of call (view_of call.caller state)) (view_of call.caller state).tables a fit.own)
 in-view (Tables (table.DeleteRows a ids)) call state valid fit = tt
-in-view (Sources change) call state valid fit = tt
+in-view (Sources change) call state valid fit =
+    IsAscending-filter dataset_cmp (sees_in state.people call.caller) state.datasets valid.datasets
 
 pub entries-in_view : (call : Call) (state : State) (change : PlannedChange) → IsValid state
     → IsFit call (view_of call.caller state) change
@@ -250,32 +255,55 @@ gone-seen call state d id resources among same =
     seen : List Package
     seen = datasets_seen call.caller state.people state.datasets
 
+harvested-public : (d : Package) → is_public_if_harvested d ≡ true → is_harvested d ≡ true → is_public d ≡ true
+harvested-public d free harvested = by (is_harvested d) free harvested
+  where
+    by : (h : Bool) → (not h || is_public d) ≡ true → h ≡ true → is_public d ≡ true
+    by true is harvested = is
+    by false is harvested = absurd (cc)
+
+-- In a valid state everybody sees the datasets of a source with a name, so also those that go.
+datasets_gone-seen : (change : SourceChange) (call : Call) (state : State) → IsValid state → RemovesNamed change
+    → datasets_gone change (view_of call.caller state).datasets ≡ datasets_gone change state.datasets
+datasets_gone-seen (source.Create new) call state valid named = refl
+datasets_gone-seen (source.Update name title url) call state valid named = refl
+datasets_gone-seen (source.Remove name) call state valid named =
+    filter-narrower (is_of_source name) (sees_in state.people call.caller) state.datasets
+    (λ d within of_source. public_is_seen state.people call.caller d
+    (harvested-public d
+    (list_all-IsIn is_public_if_harvested state.datasets (harvested_open state valid) d within)
+    (of_source-harvested name d named of_source)))
+datasets_gone-seen (source.AddJob name created) call state valid named = refl
+
 pub entries-same : (call : Call) (state : State) (change : PlannedChange)
-    → IsAscending source_cmp state.sources → IsFit call (view_of call.caller state) change
+    → IsValid state → IsFit call (view_of call.caller state) change
     → entries_of change (view_of call.caller state) ≡ entries_of change state
-entries-same call state (People (org.Create o)) up fit = refl
-entries-same call state (People (org.Patch o)) up fit = refl
-entries-same call state (People (org.Remove name)) up fit =
+entries-same call state (People (org.Create o)) valid fit = refl
+entries-same call state (People (org.Patch o)) valid fit = refl
+entries-same call state (People (org.Remove name)) valid fit =
     ap (λ (roles : List Membership). map drop_of_role roles ++ DropOrg name ∷ [])
     (members_seen call.caller state.people name fit.own.administered)
-entries-same call state (People (org.SetRole name user role)) up fit = refl
-entries-same call state (People (org.DropRole name user)) up fit = refl
-entries-same call state (Datasets (dataset.Create d)) up fit = refl
-entries-same call state (Datasets (dataset.Replace d)) up fit =
+entries-same call state (People (org.SetRole name user role)) valid fit = refl
+entries-same call state (People (org.DropRole name user)) valid fit = refl
+entries-same call state (Datasets (dataset.Create d)) valid fit = refl
+entries-same call state (Datasets (dataset.Replace d)) valid fit =
     ap (λ (gone : List ResourceTable). flat_map drops_of_table gone ++ EditDataset d.id (edit_of d) ∷ [])
     (gone-seen call state fit.old d.id d.resources fit.is_present fit.id)
-entries-same call state (Datasets (dataset.Remove id)) up fit =
+entries-same call state (Datasets (dataset.Remove id)) valid fit =
     ap (λ (gone : List ResourceTable). flat_map drops_of_table gone ++ DropDataset id ∷ [])
     (gone-seen call state fit.old id [] fit.is_present fit.id)
-entries-same call state (Tables (table.Create t)) up fit = refl
-entries-same call state (Tables (table.Remove a)) up fit = ap drops_of (own-same call state a fit.own)
-entries-same call state (Tables (table.Put a method records)) up fit =
+entries-same call state (Tables (table.Create t)) valid fit = refl
+entries-same call state (Tables (table.Remove a)) valid fit = ap drops_of (own-same call state a fit.own)
+entries-same call state (Tables (table.Put a method records)) valid fit =
     ap (puts_of method records) (own-same call state a fit.own)
-entries-same call state (Tables (table.DeleteRows a ids)) up fit = refl
-entries-same call state (Sources change) up fit =
-    ap (map OfSources)
+entries-same call state (Tables (table.DeleteRows a ids)) valid fit = refl
+entries-same call state (Sources change) valid fit =
+    ap₂ (λ (gone : List Package) (entries : List SourceEntry). map drop_of_dataset gone ++ map OfSources entries)
+    (datasets_gone-seen change call state valid
+    (removes-named change (call_view_of call state) state.sources valid.sources.named
+    (fit_in_valid (Sources change) call state valid fit)))
     (entries-seen (call_view_of call (view_of call.caller state)) call.caller state.people state.sources change
-    up fit)
+    valid.sources.ascending fit)
 
 -- What is fit to be made in the state is made by its entries there.
 pub entries-made : (call : Call) (state : State) (change : PlannedChange) → IsValid state → IsFit call state change
@@ -286,7 +314,7 @@ pub entries-in_state : (call : Call) (state : State) (change : PlannedChange) �
     → IsFit call (view_of call.caller state) change
     → state_after (entries_of change (view_of call.caller state)) state ≡ changed change state
 entries-in_state call state change valid fit =
-    ap (λ (entries : List Entry). state_after entries state) (entries-same call state change valid.sources.ascending fit)
+    ap (λ (entries : List Entry). state_after entries state) (entries-same call state change valid fit)
     ∙ entries-made call state change valid (fit_in_valid change call state valid fit)
 
 -- So a fit change that is applied is the planned one, with its charge.

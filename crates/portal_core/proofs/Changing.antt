@@ -45,6 +45,7 @@ use Rattle.datastore_answers.specs.Tables.{is_table_among, tables_seen}
 use Rattle.datastore_answers.specs.declared.resource_table.ResourceTable.{ResourceTable}
 use Rattle.harvest_answers.proofs.ViewLemmas.{sources_seen_twice}
 use Rattle.harvest_answers.specs.View.{sees_source, sources_seen, without_listing}
+use Rattle.harvest_results.specs.Effects.{is_of_source}
 use Rattle.harvest_sources.specs.Entries.{changed_sources}
 use Rattle.harvest_sources.specs.Sources.{SourceState, source_cmp, source_named}
 use Rattle.harvest_sources.specs.declared.change.SourceChange.{SourceChange}
@@ -54,7 +55,7 @@ use Rattle.visibility.specs.TableSummary.{is_among}
 use Rattle.portal_core.proofs.Kept.{dropped-kept, filter-narrower, placed-kept}
 use Rattle.portal_core.proofs.SourceViews.{IsOwnSources, changed_sources-seen, seen-narrower, unfaulted-there}
 use Rattle.portal_core.proofs.TableViewing.{among-narrower, any-among, any-is, own-id, tables-kept}
-use Rattle.portal_core.specs.Changed.{AreUnused, changed, tables_left}
+use Rattle.portal_core.specs.Changed.{AreUnused, changed, datasets_left, tables_left}
 use Rattle.portal_core.specs.Fit.{IsFit}
 use Rattle.portal_core.specs.Planned.{PlannedChange, People, Datasets, Tables, Sources, claims_of}
 use Rattle.portal_core.specs.State.{State}
@@ -528,6 +529,39 @@ left-kept (dataset.Remove id) caller state own =
     (filter-IsIn (sees_in state.people caller) e state.datasets
     (IsIn-dropped (dataset_at_id id) e state.datasets was.0).0 was.1)) t now)
 
+-- What is seen of the datasets that are left after a change of sources,
+left-seen : (change : SourceChange) (caller : Caller) (people : PeopleLists) (datasets : List Package)
+    → datasets_seen caller people (datasets_left change (datasets_seen caller people datasets))
+    ≡ datasets_seen caller people (datasets_left change datasets)
+left-seen (source.Create new) caller people datasets = filter_twice (sees_in people caller) datasets
+left-seen (source.Update name title url) caller people datasets = filter_twice (sees_in people caller) datasets
+left-seen (source.Remove name) caller people datasets =
+    ap (filter (sees_in people caller))
+    (filter-filter (λ d. not (is_of_source name d)) (sees_in people caller) datasets)
+    ∙ filter_twice (sees_in people caller) (filter (λ d. not (is_of_source name d)) datasets)
+left-seen (source.AddJob name created) caller people datasets = filter_twice (sees_in people caller) datasets
+
+left-in : (change : SourceChange) (datasets : List Package) (d : Package) → IsIn d (datasets_left change datasets)
+    → IsIn d datasets
+left-in (source.Create new) datasets d m = m
+left-in (source.Update name title url) datasets d m = m
+left-in (source.Remove name) datasets d m = (IsIn-filter (λ e. not (is_of_source name e)) d datasets m).0
+left-in (source.AddJob name created) datasets d m = m
+
+-- and of their tables.
+left-tables : (change : SourceChange) (caller : Caller) (state : State)
+    → tables_seen (datasets_seen caller state.people (datasets_left change state.datasets))
+    (tables_seen (datasets_seen caller state.people state.datasets) state.tables)
+    ≡ tables_seen (datasets_seen caller state.people (datasets_left change state.datasets)) state.tables
+left-tables change caller state =
+    let before : List Package = datasets_seen caller state.people state.datasets in
+    let after : List Package = datasets_seen caller state.people (datasets_left change state.datasets) in
+    filter-narrower (is_table_among after) (is_table_among before) state.tables
+    (λ t within now. among-narrower after before
+    (λ e seen. let was = IsIn-filter (sees_in state.people caller) e (datasets_left change state.datasets) seen in
+    own-id e before
+    (filter-IsIn (sees_in state.people caller) e state.datasets (left-in change state.datasets e was.0) was.1)) t now)
+
 pub changed-seen : (change : PlannedChange) (caller : Caller) (state : State)
     → IsAscending membership_cmp state.people.roles → IsAscending dataset_cmp state.datasets
     → IsAscending table_cmp state.tables → IsAscending source_cmp state.sources
@@ -559,10 +593,13 @@ changed-seen (Tables change) caller state roles_up up tables_up sources_up harve
     (sources_seen_twice caller state.people state.sources)
     (filter_twice (is_own_quota caller) state.quota_used)
 changed-seen (Sources change) caller state roles_up up tables_up sources_up harvested own =
-    same_state (people_seen_twice caller state.people) (datasets_seen_twice caller state.people state.datasets)
-    (ap (λ (ds : List Package). tables_seen ds (tables_seen (datasets_seen caller state.people state.datasets) state.tables))
-    (datasets_seen_twice caller state.people state.datasets)
-    ∙ filter_twice (is_table_among (datasets_seen caller state.people state.datasets)) state.tables)
+    let before : List Package = datasets_seen caller state.people state.datasets in
+    let datasets = filter_agree (sees_in (people_seen caller state.people) caller) (sees_in state.people caller)
+    (sees_in_seen caller state.people) (datasets_left change before)
+    ∙ left-seen change caller state.people state.datasets in
+    same_state (people_seen_twice caller state.people) datasets
+    (ap (λ (ds : List Package). tables_seen ds (tables_seen before state.tables)) datasets
+    ∙ left-tables change caller state)
     (ap (sources_seen caller (people_seen caller state.people))
     (sym (changed_sources-seen caller state.people state.sources change sources_up own))
     ∙ sources_seen_twice caller state.people (changed_sources change state.sources))

@@ -29,7 +29,7 @@ use Rattle.portal_core.specs.State.{State, accepted_bytes_of_user, quota_used_cm
 use Rattle.portal_core.specs.Step.{answer_in, call_step, outcome_of, outcome_unless_in_use}
 use Rattle.portal_core.specs.declared.change.Claim.{Claim}
 use Rattle.portal_core.specs.declared.quota.QuotaUsed.{QuotaUsed}
-use Rattle.portal_calls.specs.declared.event.Event.TheVariants.{Call as a_call}
+use Rattle.portal_events.specs.declared.event.Event.TheVariants.{Call as a_call}
 
 -- the order of an entry relative to a user's
 abbrev at : List ℕ → QuotaUsed → Ordering

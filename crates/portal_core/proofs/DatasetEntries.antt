@@ -1,11 +1,13 @@
--- The entries of a change of datasets make it.
+-- The entries of a change of datasets make it, and what the drops of datasets leave.
 use Rattle.std.proofs.Common.{◌≡◌, ℕ, Bool, true, false, not, ◌&&◌, ◌||◌, List, [], ◌∷◌, refl, sym, ap, ap₂}
-use Rattle.std.proofs.Common.{◌∙◌, if◌then◌else◌}
+use Rattle.std.proofs.Common.{◌∙◌, if◌then◌else◌, map}
+use Rattle.std.specs.Prelude.{filter}
 use Rattle.std.specs.List.{flat_map, list_any}
 use Rattle.std.specs.Ordering.{is_eq}
 use Rattle.std.specs.Str.{bytes_eq}
 use Rattle.std.specs.declared.cmp.Ordering.{Ordering}
 use Rattle.std.proofs.lemmas.Cmp.{tied_itself}
+use Rattle.std.proofs.lemmas.List.Elements.{filter_agree}
 use Rattle.std.proofs.lemmas.Map.Text.{is_eq-slice_cmp}
 use Rattle.std.proofs.lemmas.Slice.Eq.{bytes_eq-Decides}
 use Rattle.portal_base.specs.Ordered.{IsAscending, dropped, upserted}
@@ -27,12 +29,13 @@ use Rattle.datastore_answers.specs.Tables.{tables_kept}
 use Rattle.datastore_answers.specs.declared.address.Address.{Address}
 use Rattle.datastore_answers.specs.declared.resource_table.ResourceTable.{ResourceTable}
 use Rattle.datastore_answers.proofs.KeepLemmas.{at-is}
+use Rattle.harvest_results.specs.Effects.{is_of_source, without}
 use Rattle.portal_core.specs.Planned.{Datasets}
 use Rattle.portal_core.specs.Changed.{changed}
 use Rattle.portal_core.specs.State.{State}
 use Rattle.portal_core.proofs.TableViewing.{any-among}
 use Rattle.portal_core.specs.Entries.{DropDataset, EditDataset, changed_by, state_after, with_edit}
-use Rattle.portal_core.specs.EntriesOf.{drops_of_table, entries_of_datasets, is_gone, tables_gone}
+use Rattle.portal_core.specs.EntriesOf.{drop_of_dataset, drops_of_table, entries_of_datasets, is_gone, tables_gone}
 use Rattle.portal_core.proofs.DropLemmas.{all_dropped, all_dropped-filter, filter-agree_in, map-agree_in}
 use Rattle.portal_core.proofs.DropLemmas.{upserted-replaced}
 use Rattle.portal_core.proofs.Kept.{unique-at}
@@ -158,3 +161,77 @@ dataset-entries (dataset.Remove id) state takes =
       tables = tables;
     })
     (tables-dropped id [] state.tables)
+
+-- ---- datasets that are dropped
+
+-- the state with these datasets
+abbrev pub with_datasets : List Package → State → State
+with_datasets datasets state = record state { datasets = datasets }
+
+-- the order of a dataset's id against that of this one
+abbrev pub at_dataset : Package → Package → Ordering
+at_dataset d e = dataset_at_id d.id e
+
+pub state_after-datasets_dropped : (gone : List Package) (state : State)
+    → state_after (map drop_of_dataset gone) state ≡ with_datasets (all_dropped at_dataset gone state.datasets) state
+state_after-datasets_dropped [] state = refl
+state_after-datasets_dropped (d ∷ gone) state =
+    state_after-datasets_dropped gone (with_datasets (dropped (dataset_at_id d.id) state.datasets) state)
+
+turned : (a b : List ℕ) → bytes_eq a b ≡ bytes_eq b a
+turned a b = by (bytes_eq a b) refl (bytes_eq b a) refl
+  where
+    by : (s : Bool) → bytes_eq a b ≡ s → (t : Bool) → bytes_eq b a ≡ t → s ≡ t
+    by true is true back = refl
+    by false is false back = refl
+    by true is false back =
+        let same : bytes_eq b a ≡ true = (bytes_eq-Decides b a).1 (sym ((bytes_eq-Decides a b).0 is)) in absurd (cc)
+    by false is true back =
+        let same : bytes_eq a b ≡ true = (bytes_eq-Decides a b).1 (sym ((bytes_eq-Decides b a).0 back)) in absurd (cc)
+
+any-dropped : (e : Package) (gone : List Package)
+    → list_any (λ d. is_eq (at_dataset d e)) gone ≡ list_any (λ (other : Package). bytes_eq other.id e.id) gone
+any-dropped e [] = refl
+any-dropped e (d ∷ gone) =
+    ap₂ (λ (a b : Bool). a || b) (is_eq-slice_cmp e.id d.id ∙ turned e.id d.id) (any-dropped e gone)
+
+-- To drop each of some datasets is to keep those with other ids.
+pub dropped-without : (gone datasets : List Package) → all_dropped at_dataset gone datasets ≡ without gone datasets
+dropped-without gone datasets =
+    all_dropped-filter at_dataset gone datasets
+    ∙ filter_agree (λ e. not (list_any (λ d. is_eq (at_dataset d e)) gone))
+    (λ e. not (list_any (λ (other : Package). bytes_eq other.id e.id) gone)) (λ e. ap not (any-dropped e gone)) datasets
+
+-- To drop each dataset of a source, of datasets that ascend, is to keep those of others.
+pub datasets-dropped : (name : List ℕ) (datasets : List Package) → IsAscending dataset_cmp datasets
+    → all_dropped at_dataset (filter (is_of_source name) datasets) datasets
+    ≡ filter (λ d. not (is_of_source name d)) datasets
+datasets-dropped name datasets up =
+    all_dropped-filter at_dataset gone datasets
+    ∙ filter-agree_in (λ e. not (list_any (λ d. is_eq (at_dataset d e)) gone)) (λ e. not (is_of_source name e)) datasets
+    (λ e within. ap not (by e within (is_of_source name e) refl))
+  where
+    gone : List Package
+    gone = filter (is_of_source name) datasets
+
+    apart : (e d : Package) → IsIn e datasets → is_of_source name e ≡ false → IsIn d datasets
+        → is_of_source name d ≡ true → is_eq (at_dataset d e) ≡ false
+    apart e d in_e stays in_d goes = by_id (is_eq (at_dataset d e)) refl
+      where
+        by_id : (b : Bool) → is_eq (at_dataset d e) ≡ b → b ≡ false
+        by_id false is = refl
+        by_id true is =
+            let go : is_of_source name e ≡ true =
+            ap (is_of_source name) (unique-at dataset_cmp dataset_cmp_total datasets up e d in_e in_d is) ∙ goes in
+            absurd (cc)
+
+    by : (e : Package) → IsIn e datasets → (b : Bool) → is_of_source name e ≡ b
+        → list_any (λ d. is_eq (at_dataset d e)) gone ≡ is_of_source name e
+    by e within true is =
+        any-among (λ d. is_eq (at_dataset d e)) e gone (filter-IsIn (is_of_source name) e datasets within is)
+        (ap is_eq (tied_itself dataset_cmp_total e))
+        ∙ sym is
+    by e within false is =
+        none-list_any (λ d. is_eq (at_dataset d e)) gone
+        (λ d among. let was = IsIn-filter (is_of_source name) d datasets among in apart e d within is was.0 was.1)
+        ∙ sym is

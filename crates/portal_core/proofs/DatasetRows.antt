@@ -1,8 +1,8 @@
 -- The changes of rows for a change of datasets.
 use Rattle.std.proofs.Common.{◌≡◌, ℕ, Bool, true, false, not, ◌&&◌, ◌||◌, cond, List, [], ◌∷◌, ◌++◌, Option, Some, None}
 use Rattle.std.proofs.Common.{map}
-use Rattle.std.proofs.Common.{refl, sym, ap, ap₂, subst, ◌∙◌, if◌then◌else◌, ◌<◌, ◌^◌}
-use Rattle.std.specs.Prelude.{option_map, filter}
+use Rattle.std.proofs.Common.{refl, sym, ap, ap₂, subst, ◌∙◌, if◌then◌else◌, ◌<◌, ◌^◌, inl, inr}
+use Rattle.std.specs.Prelude.{option_map, filter, find}
 use Rattle.std.specs.List.{flat_map}
 use Rattle.std.specs.Ordering.{is_eq}
 use Rattle.std.specs.Cmp.Lexicographic.{nat_list_cmp_total}
@@ -14,13 +14,14 @@ use Rattle.portal_base.specs.Ordered.{IsAscending, IsKey, IsKey-field, found, up
 use Rattle.portal_base.proofs.Filtered.{IsIn-filter, find-list_any, find-same}
 use Rattle.portal_base.proofs.Unique.{IsIn, IsIn-Contains}
 use Rattle.portal_base.proofs.Upserted.{found-dropped, found-upserted}
+use Rattle.packages.specs.Named.{is_named}
 use Rattle.packages.specs.Order.{dataset_cmp, dataset_cmp_total}
 use Rattle.packages.specs.Shelf.{ShelfState, datasets_of, number_in, package_at}
 use Rattle.packages.specs.declared.package.Package.{Package}
 use Rattle.packages.specs.declared.package.Resource.{Resource}
-use Rattle.packages.proofs.DatasetLemmas.{IsIn-datasets}
+use Rattle.packages.proofs.DatasetLemmas.{IsIn-datasets, datasets-IsIn}
 use Rattle.packages.proofs.EntryLemmas.{IsIn-package_at}
-use Rattle.packages.proofs.FindLemmas.{map-IsIn, none-find}
+use Rattle.packages.proofs.FindLemmas.{find-none, map-IsIn, none-find}
 use Rattle.visibility.specs.TableSummary.{is_among}
 use Rattle.dataset_answers.specs.Changed.{dataset_at_id}
 use Rattle.dataset_answers.specs.Edits.{edit_of}
@@ -47,11 +48,11 @@ use Rattle.portal_rows.specs.TableRows.{cells_row, row_key}
 use Rattle.portal_core.specs.Answer.{call_view_of}
 use Rattle.portal_core.specs.Changed.{AreUnused, changed, is_in_use}
 use Rattle.portal_core.specs.ChangedRows.{IsKey-row_at_id, cells_body, changes_of_datasets, dataset_body, head_body}
-use Rattle.portal_core.specs.ChangedRows.{removals_of_gone, removals_of_table, removals_unless}
+use Rattle.portal_core.specs.ChangedRows.{removal_of_dataset, removals_of_gone, removals_of_table, removals_unless}
 use Rattle.portal_core.specs.Entries.{DropDataset, DropRow, DropTable, EditDataset, PutDataset, row_at_id, rows_of}
-use Rattle.portal_core.specs.EntriesOf.{drops_of_table, ids_of, is_gone, tables_gone}
+use Rattle.portal_core.specs.EntriesOf.{drop_of_dataset, drops_of_table, ids_of, is_gone, tables_gone}
 use Rattle.portal_core.specs.KeptRows.{IsSized, kept_rows, resource_id}
-use Rattle.portal_core.specs.Parts.{IsOnShelf}
+use Rattle.portal_core.specs.Parts.{IsOnShelf, IsPlaced}
 use Rattle.portal_core.specs.Planned.{Datasets, claims_of}
 use Rattle.portal_core.specs.RowChanges.{planned_row_changes}
 use Rattle.portal_core.specs.State.{State}
@@ -72,7 +73,7 @@ like : (id : List ℕ) (d : Package) → d.id ≡ id → is_eq (dataset_at_id id
 like id d same = ap (λ (i : List ℕ). is_eq (dataset_at_id i d)) (sym same) ∙ ap is_eq (tied_itself dataset_cmp_total d)
 
 -- The dataset of an id is found among datasets in order.
-found-id : (id : List ℕ) (d : Package) (datasets : List Package) → IsAscending dataset_cmp datasets → IsIn d datasets
+pub found-id : (id : List ℕ) (d : Package) (datasets : List Package) → IsAscending dataset_cmp datasets → IsIn d datasets
     → d.id ≡ id → found (dataset_at_id id) datasets ≡ Some d
 found-id id d datasets up m same =
     found-member dataset_cmp (dataset_at_id id) (IsKey-id id) d datasets up m (like id d same)
@@ -95,6 +96,46 @@ body_on_shelf shelf id n up on leads = by (package_at n shelf) refl present
         ap (option_map row_text)
         (sym (found-id id d (datasets_of shelf) up
         (IsIn-datasets n d shelf.entries (IsIn-package_at n d shelf.entries is)) (same_Some d.id id e)))
+
+first_fails : (a b : Bool) → (a || b) ≡ false → a ≡ false
+first_fails true b is = absurd (cc)
+first_fails false b is = refl
+
+unnumbered : (o : Option (ℕ × Package)) → option_map (λ (e : ℕ × Package). e.0) o ≡ None → o ≡ None
+unnumbered None is = refl
+unnumbered (Some e) is = absurd (cc)
+
+-- An id that leads to no number is that of no dataset.
+pub body_unplaced : (shelf : ShelfState) (id : List ℕ) → number_in id shelf ≡ None
+    → dataset_body id (datasets_of shelf) ≡ None
+body_unplaced shelf id none =
+    ap (option_map row_text)
+    (none-find (λ (d : Package). is_eq (dataset_at_id id d)) (datasets_of shelf)
+    (λ d m. let w = datasets-IsIn d shelf.entries m in
+    is_eq-slice_cmp d.id id
+    ∙ first_fails (bytes_eq d.id id) (bytes_eq d.name id)
+    (find-none (λ (e : ℕ × Package). is_named id e.1) (w.0, d) shelf.entries
+    (unnumbered (find (λ (e : ℕ × Package). is_named id e.1) shelf.entries) none) w.1)))
+
+-- An id that leads to a number is that of a dataset on the shelf.
+pub placed_on_shelf : (shelf : ShelfState) (id : List ℕ) (n : ℕ) → IsPlaced id shelf → number_in id shelf ≡ Some n
+    → IsOnShelf shelf id
+placed_on_shelf shelf id n (inl on) leads = on
+placed_on_shelf shelf id n (inr none) leads = let never : Some n ≡ None = sym leads ∙ none in absurd (cc)
+
+-- ---- datasets that go
+
+-- The rows of datasets go that are there and aren't left.
+pub dropped-changes : (gone : List Package) (state new : State) → IsValid state → IsSized state → IsValid new
+    → IsSized new → ((d : Package) → IsIn d gone → IsIn d state.datasets)
+    → ((d : Package) → IsIn d gone → found (dataset_at_id d.id) new.datasets ≡ None)
+    → changes_for (kept_rows state) (kept_rows new) (map drop_of_dataset gone) ≡ map removal_of_dataset gone
+dropped-changes gone state new valid sized also also_sized within none =
+    changes_for-map (kept_rows state) (kept_rows new) drop_of_dataset removal_of_dataset gone
+    (λ d m. changes_for-one (kept_rows state) (kept_rows new) (DropDataset d.id) (Some (row_text d)) None
+    (body-dataset state valid sized d.id
+    ∙ ap (option_map row_text) (found-id d.id d state.datasets valid.datasets (within d m) refl))
+    (body-dataset new also also_sized d.id ∙ ap (option_map row_text) (none d m)))
 
 -- ---- a table that goes
 
@@ -229,7 +270,7 @@ none-unused d state unused =
     (λ e. is_eq-slice_cmp e.id d.id) state.datasets
     ∙ find-list_any (λ (e : Package). bytes_eq e.id d.id) state.datasets unknown.0)
 
-body-upserted : (d : Package) (datasets : List Package)
+pub body-upserted : (d : Package) (datasets : List Package)
     → dataset_body d.id (upserted dataset_cmp d datasets) ≡ Some (row_text d)
 body-upserted d datasets =
     ap (option_map row_text)

@@ -1,6 +1,6 @@
 -- Worked examples: what goes with an organization and with a dataset, heads of tables, and batches. ann and bob have
 -- roles in `city`, and dan has one in `lake`. Resource 1 of the dataset `1` has a table with two rows.
--- The source `aa` of `city` has one job.
+-- The source `aa` of `city` has one job. The dataset `2` was harvested from it.
 use Rattle.std.proofs.Common.{◌≡◌, ℕ, List, [], ◌∷◌, None, Ok, refl}
 use Rattle.std.specs.Prelude.{codes, pos}
 use Rattle.table_schema.specs.Field.{SchemaValue}
@@ -167,6 +167,22 @@ job_goes = refl
 
 source_went : (state_after (entries_of (Sources (source.Remove (codes "aa"))) portal) portal).sources ≡ []
 source_went = refl
+
+-- a dataset that was harvested from it
+abbrev oaks : Package
+oaks = record bare { id = codes "2"; name = codes "oaks"; source = codes "aa"; iri = codes "http://a/1" }
+
+abbrev with_oaks : State
+with_oaks = record portal { datasets = trees ∷ oaks ∷ [] }
+
+-- With a source go its datasets too.
+dataset_goes : entries_of (Sources (source.Remove (codes "aa"))) with_oaks
+    ≡ DropDataset (codes "2") ∷ OfSources (DropJob (codes "aa") 1) ∷ OfSources (DropSource (codes "aa")) ∷ []
+dataset_goes = refl
+
+dataset_went : state_after (entries_of (Sources (source.Remove (codes "aa"))) with_oaks) with_oaks
+    ≡ changed (Sources (source.Remove (codes "aa"))) with_oaks
+dataset_went = refl
 
 -- A further job has the number that its source gives it, and the source gives the next one the next number.
 job_came : (state_after (entries_of (Sources (source.AddJob (codes "aa") (pos 60))) portal) portal).sources

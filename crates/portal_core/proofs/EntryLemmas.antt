@@ -477,24 +477,25 @@ jobs-both r sources after same second =
     harvests-both r sources after
     (subst (IsInBoth r (source_rows sources)) same (in_both-itself r (source_rows sources))) second
 
-source_entry-others : (entry : SourceEntry) (sources : List SourceState) (r : KeptRow) → AreKeyed sources
-    → DropsSourceAlone entry sources → IsOther (source_entry_key entry) r
-    → IsInBoth r (harvest_rows_of sources) (harvest_rows_of (sources_changed_by entry sources))
-source_entry-others (PutSource source) sources r keyed empty other =
-    let both = source-put source sources r keyed.ascending other in
-    harvests-both r sources (sources_changed_by (PutSource source) sources) both.0 both.1
-source_entry-others (DropSource name) sources r keyed empty other =
-    let both = source-dropped name sources r keyed.ascending empty other in
-    harvests-both r sources (dropped (source_at name) sources) both.0 both.1
-source_entry-others (PutJob job) sources r keyed empty other =
-    jobs-both r sources (with_source_at job.source (with_job job) sources)
-    (sources-stay job.source (with_job job) (λ s. refl) sources) (job-put job sources r keyed other)
-source_entry-others (DropJob name number) sources r keyed empty other =
-    jobs-both r sources (with_source_at name (without_job number) sources)
-    (sources-stay name (without_job number) (λ s. refl) sources) (job-dropped name number sources r keyed other)
-source_entry-others (PutListing name listing) sources r keyed empty other =
-    jobs-both r sources (with_source_at name (with_listing listing) sources)
-    (sources-stay name (with_listing listing) (λ s. refl) sources) (listing-put name listing sources r)
+source_entry-others : (entry : SourceEntry) (state : State) (r : KeptRow) → AreKeyed state.sources
+    → DropsSourceAlone entry state → IsOther (source_entry_key entry) r
+    → IsInBoth r (harvest_rows_of state.sources) (harvest_rows_of (sources_changed_by entry state.sources))
+source_entry-others (PutSource source) state r keyed empty other =
+    let both = source-put source state.sources r keyed.ascending other in
+    harvests-both r state.sources (sources_changed_by (PutSource source) state.sources) both.0 both.1
+source_entry-others (DropSource name) state r keyed empty other =
+    let both = source-dropped name state.sources r keyed.ascending empty.0 other in
+    harvests-both r state.sources (dropped (source_at name) state.sources) both.0 both.1
+source_entry-others (PutJob job) state r keyed empty other =
+    jobs-both r state.sources (with_source_at job.source (with_job job) state.sources)
+    (sources-stay job.source (with_job job) (λ s. refl) state.sources) (job-put job state.sources r keyed other)
+source_entry-others (DropJob name number) state r keyed empty other =
+    jobs-both r state.sources (with_source_at name (without_job number) state.sources)
+    (sources-stay name (without_job number) (λ s. refl) state.sources)
+    (job-dropped name number state.sources r keyed other)
+source_entry-others (PutListing name listing) state r keyed empty other =
+    jobs-both r state.sources (with_source_at name (with_listing listing) state.sources)
+    (sources-stay name (with_listing listing) (λ s. refl) state.sources) (listing-put name listing state.sources r)
 
 -- ---- all rows
 
@@ -596,4 +597,4 @@ entry-others (DropRow address id) state r up keyed empty other =
     (λ t. row-dropped address id r other t (is_at address t) refl))
 entry-others (OfSources entry) state r up keyed empty other =
     sources-changed r state (sources_changed_by entry state.sources)
-    (source_entry-others entry state.sources r keyed empty other)
+    (source_entry-others entry state r keyed empty other)

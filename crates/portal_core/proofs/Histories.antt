@@ -7,14 +7,14 @@ use Rattle.portal_calls.specs.declared.call.Call.{Call}
 use Rattle.portal_core.specs.Hidden.{is_caller, is_call_of, IsHidden}
 use Rattle.portal_core.specs.History.{calls_of, AreOthersHidden, Exchange, exchange_of, exchanges_of, AreAlike}
 use Rattle.portal_core.specs.History.{has_no_name_in_use}
-use Rattle.portal_calls.specs.Reply.{is_name_in_use}
+use Rattle.portal_events.specs.Reply.{is_name_in_use}
 use Rattle.portal_core.specs.State.{State}
 use Rattle.portal_core.specs.Step.{call_step, step_of}
 use Rattle.portal_hall.specs.History.{replay}
 use Rattle.portal_core.specs.Valid.{IsValid}
 use Rattle.portal_core.specs.View.{view_of}
-use Rattle.portal_calls.specs.declared.event.Event.{Event}
-use Rattle.portal_calls.specs.declared.event.Event.TheVariants.{Call as a_call}
+use Rattle.portal_events.specs.declared.event.Event.{Event}
+use Rattle.portal_events.specs.declared.event.Event.TheVariants.{Call as a_call, Harvest as a_step}
 use Rattle.portal_core.proofs.Hiding.{view_of-hidden}
 use Rattle.portal_core.proofs.Isolating.{replies_alike, quiet_views_alike}
 use Rattle.portal_core.proofs.Settling.{refused-same, step-valid}
@@ -60,6 +60,7 @@ own-exchange caller s t (a_call call) is in_s in_t same first second =
     subst (λ (c : Caller). view_of c s ≡ view_of c t
     → exchange_of c (call_step s call) ≡ exchange_of c (call_step t call)) (same_caller caller call.caller is)
     (λ alike. call-exchange s t call in_s in_t alike first second) same
+own-exchange caller s t (a_step step) is in_s in_t same first second = absurd (cc)
 
 -- ---- a history
 

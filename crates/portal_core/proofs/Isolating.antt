@@ -29,8 +29,8 @@ use Rattle.visibility.specs.View.{datasets_seen}
 use Rattle.visibility.specs.Visibility.{is_public_if_harvested}
 use Rattle.visibility.proofs.ViewLemmas.{find-kept, called_by_name}
 use Rattle.datastore_answers.specs.TableAnswers.{map_answer}
-use Rattle.portal_calls.specs.Reply.{is_name_in_use}
-use Rattle.portal_calls.specs.declared.event.Event.TheVariants.{Call as a_call}
+use Rattle.portal_events.specs.Reply.{is_name_in_use}
+use Rattle.portal_events.specs.declared.event.Event.TheVariants.{Call as a_call}
 use Rattle.portal_core.specs.Answer.{answer_to, call_view_of, planned_answer, quota_bytes, quota_if, quota_of}
 use Rattle.portal_core.specs.Change.{Change}
 use Rattle.portal_core.specs.Changed.{AreUnused, applied, changed, charged, with_planned}

@@ -1,25 +1,26 @@
 -- What a portal is opened with is valid, and a change that is fit keeps it so.
 use Rattle.std.proofs.Common.{◌≡◌, ◌≢◌, ℕ, Bool, true, false, cond, not, ◌&&◌, List, [], ◌∷◌, length, Option, Some}
 use Rattle.std.proofs.Common.{None}
-use Rattle.std.proofs.Common.{is_some, refl, sym, ap, ◌∙◌, subst, inl, inr, ◌⊎◌, nat_lt, ◌||◌, ◌+◌, ◌==◌, slice_get}
+use Rattle.std.proofs.Common.{is_some, refl, sym, ap, ◌∙◌, subst, inl, inr, ◌⊎◌, nat_lt, ◌||◌, ◌+◌, ◌==◌, slice_get, true≢false}
 use Rattle.std.specs.declared.cmp.Ordering.{Ordering}
-use Rattle.std.specs.Prelude.{find, is_none, if◌then◌else◌}
+use Rattle.std.specs.Prelude.{filter, find, is_none, if◌then◌else◌}
 use Rattle.std.specs.List.{All, Contains, list_any, list_all}
 use Rattle.std.specs.Ordering.{is_eq}
 use Rattle.std.specs.Str.{bytes_eq}
 use Rattle.std.proofs.lemmas.Slice.Eq.{bytes_eq-Decides}
-use Rattle.std.proofs.lemmas.List.Elements.{All-nil, All-weaker}
+use Rattle.std.proofs.lemmas.List.Elements.{All-filter, All-nil, All-weaker}
 use Rattle.std.proofs.lemmas.List.Sums.{AllPass-from_list_all}
 use Rattle.std.proofs.lemmas.Map.Text.{is_eq-slice_cmp}
 use Rattle.portal_base.specs.declared.caller.Caller.{Caller}
 use Rattle.portal_base.specs.declared.caller.Caller.TheVariants.{Anonymous, Named}
 use Rattle.portal_base.specs.Ordered.{IsAscending, ascending, upserted, dropped}
-use Rattle.portal_base.proofs.Filtered.{IsIn-filter, IsIn-list_all, filter-all, is_some-find_any}
+use Rattle.portal_base.proofs.Filtered.{IsAscending-filter, IsIn-filter, IsIn-list_all, filter-IsIn, filter-all}
+use Rattle.portal_base.proofs.Filtered.{is_some-find_any}
 use Rattle.portal_base.proofs.Inserted.{list_any-ascending, both_false}
 use Rattle.portal_base.proofs.Upserted.{All-each, All-IsIn, All-dropped, All-upserted}
 use Rattle.portal_base.proofs.Upserted.{IsAscending-upserted, IsAscending-dropped, Contains-upserted, Contains-dropped}
 use Rattle.portal_base.proofs.Upserted.{dropped-Contains, upserted-Contains, upserted-Contains_other}
-use Rattle.portal_base.proofs.Unique.{IsIn, IsIn-Contains, ascending-IsIn}
+use Rattle.portal_base.proofs.Unique.{Contains-IsIn, IsIn, IsIn-Contains, ascending-IsIn}
 use Rattle.org_roles.specs.Changed.{changed_people, org_fault}
 use Rattle.org_roles.specs.Order.{org_cmp, membership_cmp, org_at}
 use Rattle.org_roles.specs.PeopleLists.{PeopleLists, org_in, is_user_in, role_in}
@@ -56,7 +57,8 @@ use Rattle.datastore_answers.specs.Tables.{tables_kept}
 use Rattle.datastore_answers.specs.declared.address.Address.{Address}
 use Rattle.datastore_answers.specs.declared.resource_table.ResourceTable.{ResourceTable}
 use Rattle.harvest_answers.specs.Fit.{IsFitSource}
-use Rattle.harvest_sources.specs.Entries.{source_fault}
+use Rattle.harvest_results.specs.Effects.{is_of_source}
+use Rattle.harvest_sources.specs.Entries.{changed_sources, source_fault}
 use Rattle.harvest_sources.specs.Sources.{HasItsJobs, SourceState}
 use Rattle.harvest_sources.specs.declared.change.SourceChange.{SourceChange}
 use Rattle.harvest_sources.specs.declared.change.SourceChange.TheVariants as source
@@ -71,16 +73,19 @@ use Rattle.portal_calls.specs.declared.call.Call.{Call}
 use Rattle.visibility.specs.Visibility.{is_harvested, is_public_if_harvested, is_public}
 use Rattle.portal_core.specs.Answer.{call_view_of}
 use Rattle.portal_core.specs.Planned.{PlannedChange, People, Datasets, Tables, Sources, claims_of}
-use Rattle.portal_core.specs.Changed.{AreUnused, changed, charged, is_in_use}
+use Rattle.portal_core.specs.Changed.{AreUnused, changed, charged, datasets_left, is_in_use}
 use Rattle.portal_core.specs.Fit.{IsFit}
 use Rattle.portal_core.specs.Opened.{opened, is_opening}
 use Rattle.portal_core.specs.Parts.{IsTakenBySources}
 use Rattle.portal_core.specs.State.{State, quota_used_cmp, quota_used_cmp_total, accepted_bytes_of_user}
 use Rattle.portal_core.proofs.Fitting.{fit_in_state}
+use Rattle.portal_core.proofs.Harvested.{edited-made, harvested-among, of-source_harvested, sound-in, sound-made}
+use Rattle.portal_core.proofs.Harvested.{source-named}
 use Rattle.portal_core.proofs.Kept.{All-mapped, IsIn-slice_get, unique-at}
-use Rattle.portal_core.proofs.SourceKeeping.{AddsOwner, HasOwner, owners-kept, sources-kept}
+use Rattle.portal_core.proofs.SourceKeeping.{AddsOwner, HasOwner, IsSpared, named-in, owners-kept, sources-kept}
+use Rattle.portal_core.proofs.SourceKeeping.{sources-stay, unfaulted-source}
 use Rattle.portal_core.proofs.TableViewing.{any-among, made-address}
-use Rattle.portal_core.specs.Valid.{HasHome, IsValid}
+use Rattle.portal_core.specs.Valid.{HasHome, IsSoundAmong, IsValid}
 use Rattle.portal_core.specs.View.{view_of}
 use Rattle.portal_core.specs.declared.change.Claim.TheVariants.{OrgName, DatasetName, DatasetId, SourceName}
 use Rattle.portal_core.specs.declared.opening.Opening.{Opening}
@@ -132,7 +137,7 @@ opened_valid opening fit =
           opening.roles homes.1));
       datasets = tt;
       names = λ d e in_d in_e same. absurd (IsIn-Contains d [] in_d);
-      sound = All-nil (IsSound (opened opening).people);
+      sound = All-nil (IsSoundAmong (opened opening).people []);
       tables = each-kept [] tt (λ t m. absurd m);
       homes = All-nil (HasHome []);
       sources = record {
@@ -296,11 +301,8 @@ people-valid change call state valid fit unused = record {
   roles = RolesHaveOrgs-changed change state.people (unfaulted change call state fit unused) valid.roles;
   datasets = valid.datasets;
   names = valid.names;
-  sound = All-each (IsSound (changed_people change state.people)) state.datasets
-      (λ d within. let was : IsSound state.people d =
-      All-IsIn (IsSound state.people) state.datasets valid.sound d within in
-      at-home (changed_people change state.people) d state.people was
-      (owner-left change state.people d.owner_org (home-spared change call state d within fit) was.org));
+  sound = All-each (IsSoundAmong (changed_people change state.people) state.sources) state.datasets
+      (λ d within. sound-left d within (sound-in state d valid within));
   tables = valid.tables;
   homes = valid.homes;
   sources = valid.sources;
@@ -309,6 +311,13 @@ people-valid change call state valid fit unused = record {
       (All-IsIn (IsOwned state.people) state.sources valid.owners s within));
   quota_used = valid.quota_used;
 }
+  where
+    sound-left : (d : Package) → IsIn d state.datasets → IsSoundAmong state.people state.sources d
+        → IsSoundAmong (changed_people change state.people) state.sources d
+    sound-left d within (inl was) =
+        inl (at-home (changed_people change state.people) d state.people was
+        (owner-left change state.people d.owner_org (home-spared change call state d within fit) was.org))
+    sound-left d within (inr from) = inr from
 
 -- ---- datasets that change
 
@@ -340,7 +349,9 @@ names-placed d datasets distinct free e f in_e in_f same =
         absurd (cc)
     by (inr was_e) (inr was_f) = distinct e f was_e.0 was_f.0 same
 
-placed-valid : (d : Package) (tables : List ResourceTable) (state : State) → IsValid state → IsSound state.people d
+-- Where a dataset is put that may exist, that has its name alone, and whose tables have their homes, the state is valid.
+pub placed-valid : (d : Package) (tables : List ResourceTable) (state : State) → IsValid state
+    → IsSoundAmong state.people state.sources d
     → ((e : Package) → Contains state.datasets e → e.name ≡ d.name → is_eq (dataset_cmp e d) ≡ true)
     → AreConsistent tables → All (HasHome (upserted dataset_cmp d state.datasets)) tables
     → IsValid (record state { datasets = upserted dataset_cmp d state.datasets; tables = tables })
@@ -350,7 +361,7 @@ placed-valid d tables state valid sound free kept homes = record {
   roles = valid.roles;
   datasets = IsAscending-upserted dataset_cmp dataset_cmp_total d state.datasets valid.datasets;
   names = names-placed d state.datasets valid.names free;
-  sound = All-upserted (IsSound state.people) dataset_cmp d state.datasets sound valid.sound;
+  sound = All-upserted (IsSoundAmong state.people state.sources) dataset_cmp d state.datasets sound valid.sound;
   tables = kept;
   homes = homes;
   sources = valid.sources;
@@ -372,9 +383,11 @@ no-tables d state valid unused t within =
     ∙ none_passes (λ (e : Package). bytes_eq e.id d.id) home.dataset state.datasets unknown
     (IsIn-Contains home.dataset state.datasets home.is_present)
 
--- a table of another dataset keeps its home where a dataset is inserted, and a table of that dataset has its home there
-home-placed : (d : Package) (datasets : List Package) (t : ResourceTable) → HasHome datasets t
-    → (bytes_eq t.address.dataset d.id ≡ false) ⊎ (is_among d.resources t.address.number ≡ true)
+-- A table of another dataset keeps its home where a dataset is inserted, and a table of that dataset has its home there, if
+-- the dataset wasn't harvested.
+pub home-placed : (d : Package) (datasets : List Package) (t : ResourceTable) → HasHome datasets t
+    → (bytes_eq t.address.dataset d.id ≡ false)
+    ⊎ ((is_among d.resources t.address.number ≡ true) × (is_harvested d ≡ false))
     → HasHome (upserted dataset_cmp d datasets) t
 home-placed d datasets t home known = by (bytes_eq t.address.dataset d.id) refl known
   where
@@ -384,11 +397,13 @@ home-placed d datasets t home known = by (bytes_eq t.address.dataset d.id) refl 
       is_present = upserted-Contains_other dataset_cmp d home.dataset datasets home.is_present
           (is_eq-slice_cmp home.dataset.id d.id ∙ ap (λ (id : List ℕ). bytes_eq id d.id) home.id ∙ is);
       id = home.id;
+      made = home.made;
       resource = home.resource;
     }
 
     by : (b : Bool) → bytes_eq t.address.dataset d.id ≡ b
-        → (bytes_eq t.address.dataset d.id ≡ false) ⊎ (is_among d.resources t.address.number ≡ true)
+        → (bytes_eq t.address.dataset d.id ≡ false)
+        ⊎ ((is_among d.resources t.address.number ≡ true) × (is_harvested d ≡ false))
         → HasHome (upserted dataset_cmp d datasets) t
     by b is (inl apart) = other apart
     by false is (inr among) = other is
@@ -396,7 +411,8 @@ home-placed d datasets t home known = by (bytes_eq t.address.dataset d.id) refl 
       dataset = d;
       is_present = upserted-Contains dataset_cmp d datasets;
       id = sym ((bytes_eq-Decides t.address.dataset d.id).0 is);
-      resource = among;
+      made = among.1;
+      resource = among.0;
     }
 
 -- two datasets of one id are one
@@ -437,17 +453,17 @@ replaced-kept d call state valid fit = by fit.keeps_references
     by (inr none) = drops-kept state.tables d.id d.resources valid.tables none
 
 -- each of those has its home
-replaced-homes : (d : Package) (state : State) → IsValid state
+replaced-homes : (d : Package) (state : State) → IsValid state → is_harvested d ≡ false
     → All (HasHome (upserted dataset_cmp d state.datasets)) (tables_kept d.id d.resources state.tables)
-replaced-homes d state valid =
+replaced-homes d state valid made =
     All-each (HasHome (upserted dataset_cmp d state.datasets)) (tables_kept d.id d.resources state.tables)
     (λ t m. let was = IsIn-filter
     (λ t. not (bytes_eq t.address.dataset d.id) || is_among d.resources t.address.number) t state.tables m in
     home-placed d state.datasets t (All-IsIn (HasHome state.datasets) state.tables valid.homes t was.0)
     (either (bytes_eq t.address.dataset d.id) (is_among d.resources t.address.number) was.1))
   where
-    either : (a b : Bool) → (not a || b) ≡ true → (a ≡ false) ⊎ (b ≡ true)
-    either true b is = inr is
+    either : (a b : Bool) → (not a || b) ≡ true → (a ≡ false) ⊎ ((b ≡ true) × (is_harvested d ≡ false))
+    either true b is = inr (is, made)
     either false b is = inl refl
 
 -- where a dataset goes the tables of others keep their homes
@@ -463,6 +479,7 @@ left-homes id state valid =
           (is_eq-slice_cmp home.dataset.id id ∙ ap (λ (i : List ℕ). bytes_eq i id) home.id
           ∙ apart (bytes_eq t.address.dataset id) was.1);
       id = home.id;
+      made = home.made;
       resource = home.resource;
     })
   where
@@ -476,7 +493,7 @@ datasets-valid : (change : DatasetChange) (call : Call) (state : State) → IsVa
 datasets-valid (dataset.Create d) call state valid fit unused =
     let unnamed : has_name d.name state.datasets ≡ false =
     (first_unused (is_in_use state) (DatasetName d.name) (DatasetId d.id ∷ []) unused).0 in
-    placed-valid d state.tables state valid fit.sound
+    placed-valid d state.tables state valid (inl fit.sound)
     (λ e within named. let taken : bytes_eq e.name d.name ≡ true = same_text e.name d.name named in
     let free : bytes_eq e.name d.name ≡ false =
     none_passes (λ (x : Package). bytes_eq x.name d.name) e state.datasets unnamed
@@ -488,12 +505,15 @@ datasets-valid (dataset.Create d) call state valid fit unused =
     (All-IsIn (HasHome state.datasets) state.tables valid.homes t within)
     (inl (no-tables d state valid unused t within))))
 datasets-valid (dataset.Replace d) call state valid fit unused =
-    placed-valid d (tables_kept d.id d.resources state.tables) state valid
-    (fit.sound (All-IsIn (IsSound state.people) state.datasets valid.sound fit.old
-    (IsIn-Contains fit.old state.datasets fit.is_present)))
+    let was : IsSound state.people fit.old =
+    sound-made state.people state.sources fit.old valid.sources
+    (sound-in state fit.old valid (IsIn-Contains fit.old state.datasets fit.is_present))
+    (edited-made state.people call.caller fit.old fit.own) in
+    let sound : IsSound state.people d = fit.sound was in
+    placed-valid d (tables_kept d.id d.resources state.tables) state valid (inl sound)
     (λ e within named. let is : e ≡ fit.old = valid.names e fit.old within fit.is_present (named ∙ sym fit.name) in
     is_eq-slice_cmp e.id d.id ∙ same_text e.id d.id (ap (λ (x : Package). x.id) is ∙ fit.id))
-    (replaced-kept d call state valid fit) (replaced-homes d state valid)
+    (replaced-kept d call state valid fit) (replaced-homes d state valid sound.not_harvested)
 datasets-valid (dataset.Remove id) call state valid fit unused = record {
   people = valid.people;
   orgs = valid.orgs;
@@ -501,7 +521,7 @@ datasets-valid (dataset.Remove id) call state valid fit unused = record {
   datasets = IsAscending-dropped dataset_cmp (dataset_at_id id) state.datasets valid.datasets;
   names = λ e f in_e in_f same. valid.names e f (Contains-dropped (dataset_at_id id) e state.datasets in_e).0
       (Contains-dropped (dataset_at_id id) f state.datasets in_f).0 same;
-  sound = All-dropped (IsSound state.people) (dataset_at_id id) state.datasets valid.sound;
+  sound = All-dropped (IsSoundAmong state.people state.sources) (dataset_at_id id) state.datasets valid.sound;
   tables = drops-kept state.tables id [] valid.tables (none-breaks_reference state.tables id);
   homes = left-homes id state valid;
   sources = valid.sources;
@@ -528,6 +548,7 @@ home-made datasets a make same tables homes =
       dataset = home.dataset;
       is_present = home.is_present;
       id = home.id ∙ sym (ap (λ (b : Address). b.dataset) there);
+      made = home.made;
       resource = subst (λ (b : Address). is_among home.dataset.resources b.number ≡ true) (sym there) home.resource;
     }) homes
 
@@ -540,6 +561,7 @@ tables-homes (table.Create t) call state valid fit =
       dataset = fit.own.placed.dataset;
       is_present = fit.own.is_present;
       id = sym (ap (λ (a : Address). a.dataset) fit.own.here);
+      made = edited-made state.people call.caller fit.own.placed.dataset fit.own.own;
       resource = subst (λ (a : Address). is_among fit.own.placed.dataset.resources a.number ≡ true)
           (sym fit.own.here)
           (among-at fit.own.placed.dataset.resources fit.own.placed.position fit.own.placed.resource fit.own.named);
@@ -606,23 +628,113 @@ source-taken change call state fit unused = record {
   allowed = ap is_none (source-unfaulted change call state fit unused);
 }
 
-sources-valid : (change : SourceChange) (call : Call) (state : State) → IsValid state
-    → IsFitSource (call_view_of call state) state.sources change → AreUnused state (claims_of (Sources change))
-    → IsValid (changed (Sources change) state)
-sources-valid change call state valid fit unused = record {
+-- ---- datasets that go with a source
+
+-- Where only harvested datasets go, the state is valid: none of them has a table.
+pub kept-valid : (keep : Package → Bool) (state : State) → IsValid state
+    → ((d : Package) → IsIn d state.datasets → keep d ≡ false → is_harvested d ≡ true)
+    → IsValid (record state { datasets = filter keep state.datasets })
+kept-valid keep state valid goes = record {
   people = valid.people;
   orgs = valid.orgs;
   roles = valid.roles;
-  datasets = valid.datasets;
-  names = valid.names;
-  sound = valid.sound;
+  datasets = IsAscending-filter dataset_cmp keep state.datasets valid.datasets;
+  names = λ d e in_d in_e same. valid.names d e (was-there d in_d) (was-there e in_e) same;
+  sound = All-filter keep (IsSoundAmong state.people state.sources) state.datasets valid.sound;
   tables = valid.tables;
-  homes = valid.homes;
-  sources = sources-kept change state.sources valid.sources (new-named change call state fit)
-      (source-unfaulted change call state fit unused);
-  owners = owners-kept (OrgExists state.people) change state.sources (new-owned change call state fit) valid.owners;
+  homes = All-each (HasHome (filter keep state.datasets)) state.tables
+      (λ t m. home-kept t (All-IsIn (HasHome state.datasets) state.tables valid.homes t m));
+  sources = valid.sources;
+  owners = valid.owners;
   quota_used = valid.quota_used;
 }
+  where
+    was-there : (d : Package) → Contains (filter keep state.datasets) d → Contains state.datasets d
+    was-there d m =
+        Contains-IsIn d state.datasets
+        (IsIn-filter keep d state.datasets (IsIn-Contains d (filter keep state.datasets) m)).0
+
+    stays : (d : Package) → IsIn d state.datasets → is_harvested d ≡ false → (b : Bool) → keep d ≡ b → keep d ≡ true
+    stays d m made true is = is
+    stays d m made false is = absurd (true≢false (sym (goes d m is) ∙ made))
+
+    home-kept : (t : ResourceTable) → HasHome state.datasets t → HasHome (filter keep state.datasets) t
+    home-kept t home =
+        let m : IsIn home.dataset state.datasets = IsIn-Contains home.dataset state.datasets home.is_present in
+        record {
+          dataset = home.dataset;
+          is_present = Contains-IsIn home.dataset (filter keep state.datasets)
+              (filter-IsIn keep home.dataset state.datasets m
+              (stays home.dataset m home.made (keep home.dataset) refl));
+          id = home.id;
+          made = home.made;
+          resource = home.resource;
+        }
+
+turned : (b : Bool) → not b ≡ false → b ≡ true
+turned true is = refl
+turned false is = absurd (cc)
+
+-- So it is where the datasets of a source go.
+left-valid : (change : SourceChange) (state : State) → IsValid state → source_fault change state.sources ≡ None
+    → IsValid (record state { datasets = datasets_left change state.datasets })
+left-valid (source.Create new) state valid none = valid
+left-valid (source.Update name title url) state valid none = valid
+left-valid (source.Remove name) state valid none =
+    let there = unfaulted-source state.sources name none in
+    let s = named-in state.sources name there.0 there.1 in
+    kept-valid (λ d. not (is_of_source name d)) state valid
+    (λ d m gone. of-source_harvested d name
+    (subst (λ (n : List ℕ). n ≢ []) s.1 (source-named state.sources there.0 valid.sources s.0))
+    ((bytes_eq-Decides d.source name).0 (turned (is_of_source name d) gone)))
+left-valid (source.AddJob name created) state valid none = valid
+
+-- The sources of the datasets that are left aren't removed.
+left-spared : (change : SourceChange) (d : Package) (datasets : List Package) (other : List ℕ)
+    → IsIn d (datasets_left change datasets) → d.source ≡ other → IsSpared change other
+left-spared (source.Create new) d datasets other m is = tt
+left-spared (source.Update name title url) d datasets other m is = tt
+left-spared (source.Remove name) d datasets other m is =
+    ap (λ (n : List ℕ). bytes_eq n name) (sym is)
+    ∙ unnot (bytes_eq d.source name) (IsIn-filter (λ e. not (is_of_source name e)) d datasets m).1
+  where
+    unnot : (b : Bool) → not b ≡ true → b ≡ false
+    unnot true is = absurd (cc)
+    unnot false is = refl
+left-spared (source.AddJob name created) d datasets other m is = tt
+
+sources-valid : (change : SourceChange) (call : Call) (state : State) → IsValid state
+    → IsFitSource (call_view_of call state) state.sources change → AreUnused state (claims_of (Sources change))
+    → IsValid (changed (Sources change) state)
+sources-valid change call state valid fit unused =
+    let none : source_fault change state.sources ≡ None = source-unfaulted change call state fit unused in
+    let left = left-valid change state valid none in
+    record {
+      people = valid.people;
+      orgs = valid.orgs;
+      roles = valid.roles;
+      datasets = left.datasets;
+      names = left.names;
+      sound = All-each (IsSoundAmong state.people (changed_sources change state.sources))
+          (datasets_left change state.datasets)
+          (λ d m. sound-after none d m (All-IsIn (IsSoundAmong state.people state.sources)
+          (datasets_left change state.datasets) left.sound d m));
+      tables = valid.tables;
+      homes = left.homes;
+      sources = sources-kept change state.sources valid.sources (new-named change call state fit) none;
+      owners = owners-kept (OrgExists state.people) change state.sources (new-owned change call state fit)
+          valid.owners;
+      quota_used = valid.quota_used;
+    }
+  where
+    sound-after : source_fault change state.sources ≡ None → (d : Package)
+        → IsIn d (datasets_left change state.datasets) → IsSoundAmong state.people state.sources d
+        → IsSoundAmong state.people (changed_sources change state.sources) d
+    sound-after none d m (inl sound) = inl sound
+    sound-after none d m (inr from) =
+        inr (harvested-among state.sources (changed_sources change state.sources) d
+        (λ s n is. sources-stay change state.sources valid.sources none s n
+        (left-spared change d state.datasets s.source.name m is)) from)
 
 -- ---- a change, and what is charged for it
 
@@ -656,11 +768,21 @@ charged_valid (Named user) size state valid = record {
 made-here_open : (d : Package) → is_harvested d ≡ false → is_public_if_harvested d ≡ true
 made-here_open d here = ap (λ b. not b || is_public d) here
 
+or_so : (a : Bool) → (a || true) ≡ true
+or_so true = refl
+or_so false = refl
+
+sound-open : (people : PeopleLists) (sources : List SourceState) (d : Package) → IsSoundAmong people sources d
+    → is_public_if_harvested d ≡ true
+sound-open people sources d (inl sound) = made-here_open d sound.not_harvested
+sound-open people sources d (inr from) =
+    ap (λ b. not (is_harvested d) || b) from.seen ∙ or_so (not (is_harvested d))
+
 -- in a valid state nothing is harvested that isn't open
 pub harvested_open : (state : State) → IsValid state → list_all is_public_if_harvested state.datasets ≡ true
 harvested_open state valid =
     IsIn-list_all is_public_if_harvested state.datasets
-    (λ d within. made-here_open d (All-IsIn (IsSound state.people) state.datasets valid.sound d within).not_harvested)
+    (λ d within. sound-open state.people state.sources d (sound-in state d valid within))
 
 -- In a valid state what is fit on the caller's view is fit to be made.
 pub fit_in_valid : (change : PlannedChange) (call : Call) (state : State) → IsValid state

@@ -2,6 +2,7 @@ pub mod AcceptedChanges
 pub mod AloneEntries
 pub mod Answering
 pub mod BatchEntries
+pub mod CallHarvests
 pub mod ChangeEntries
 pub mod ChangesFor
 pub mod Changing
@@ -15,12 +16,19 @@ pub mod EffectiveChanges
 mod EntryExamples
 pub mod EntryLemmas
 pub mod Fitting
+pub mod Gone
+pub mod HarvestEntries
+pub mod HarvestKeeping
+pub mod HarvestNames
+pub mod HarvestRuns
 pub mod HarvestValues
+pub mod Harvested
 pub mod Hiding
 pub mod Histories
 pub mod InOrder
 pub mod IndexLemmas
 pub mod Isolating
+pub mod JobRuns
 pub mod Keeping
 pub mod Kept
 pub mod KeyLemmas
@@ -40,6 +48,7 @@ pub mod PlannedRows
 pub mod PublicCounting
 pub mod QueryLemmas
 pub mod Reading
+pub mod Replying
 pub mod RestoredDatasets
 pub mod RestoredHomes
 pub mod RestoredParts
@@ -58,11 +67,15 @@ pub mod SearchLemmas
 pub mod SearchSteps
 pub mod Settling
 pub mod Shelving
+pub mod SoundAmong
 pub mod SourceEntries
 pub mod SourceKeeping
 pub mod SourceRows
 pub mod SourceViews
 pub mod StateLemmas
+pub mod StepKeeping
+pub mod StepParts
+pub mod StepRows
 pub mod StoreLemmas
 pub mod TableEntries
 pub mod TableRows

@@ -1,11 +1,11 @@
 -- What a reply says of the step of the portal as a machine.
 use Rattle.std.proofs.Common.{◌≡◌, ◌≢◌, ◌⊎◌, inl, inr, true, false, refl, sym, ap, ◌∙◌}
-use Rattle.portal_calls.specs.Reply.{is_change}
-use Rattle.portal_calls.specs.declared.event.Event.{Event}
-use Rattle.portal_calls.specs.declared.event.Refusal.TheVariants.{NotFound, NotAuthorized, Validation, NameInUse}
-use Rattle.portal_calls.specs.declared.event.Refusal.TheVariants.{KeeperFault, OutOfMemory}
-use Rattle.portal_calls.specs.declared.event.Reply.{Reply}
-use Rattle.portal_calls.specs.declared.event.Reply.TheVariants.{Accepted, Shown, Refused}
+use Rattle.portal_events.specs.Reply.{is_change}
+use Rattle.portal_events.specs.declared.event.Event.{Event}
+use Rattle.portal_events.specs.declared.event.Refusal.TheVariants.{NotFound, NotAuthorized, Validation, NameInUse}
+use Rattle.portal_events.specs.declared.event.Refusal.TheVariants.{KeeperFault, OutOfMemory}
+use Rattle.portal_events.specs.declared.event.Reply.{Reply}
+use Rattle.portal_events.specs.declared.event.Reply.TheVariants.{Accepted, Harvest, Shown, Refused}
 use Rattle.portal_hall.specs.History.{Accepts, Refuses}
 use Rattle.portal_core.specs.State.{State}
 use Rattle.portal_core.specs.Step.{step_of}
@@ -27,6 +27,9 @@ change_made state after event (Accepted json) replies leaves made =
     ((accepted_as state event (Accepted json) is, is), leaves (λ k. absurd (cc)) (λ m. absurd (cc)))
 change_made state after event (Shown json) replies leaves made = absurd (cc)
 change_made state after event (Refused refusal) replies leaves made = absurd (cc)
+change_made state after event (Harvest answer) replies leaves made =
+    let is = replies (λ k. absurd (cc)) (λ m. absurd (cc)) in
+    ((accepted_as state event (Harvest answer) is ∙ made, is), leaves (λ k. absurd (cc)) (λ m. absurd (cc)))
 
 -- What a reply without a change says: the event isn't accepted, or memory ran out, or there was a fault.
 abbrev IsUnchanged : State → Event → Reply → Type 0 → Type 0
@@ -53,6 +56,7 @@ no_change {Fault} state after event reply replies leaves failed memory fault unm
     by : (r : Reply) → reply ≡ r → IsUnchanged state event reply Fault × (after ≡ state)
     by (Accepted json) is = absurd (cc)
     by (Shown json) is = settled (λ k. absurd (cc)) (λ m. absurd (cc))
+    by (Harvest answer) is = settled (λ k. absurd (cc)) (λ m. absurd (cc))
     by (Refused (NotFound kind)) is = settled (λ k. absurd (cc)) (λ m. absurd (cc))
     by (Refused (NotAuthorized right)) is = settled (λ k. absurd (cc)) (λ m. absurd (cc))
     by (Refused (Validation faults)) is = settled (λ k. absurd (cc)) (λ m. absurd (cc))

@@ -19,7 +19,6 @@ use Rattle.org_roles.specs.declared.entry.Org.{Org}
 use Rattle.packages.specs.declared.package.Resource.{Resource}
 use Rattle.packages.proofs.FindLemmas.{IsIn-find, IsIn-map, map-IsIn}
 use Rattle.table_schema.specs.declared.foreign.Foreign.{Foreign}
-use Rattle.dataset_answers.specs.Sound.{IsSound}
 use Rattle.datastore_table.specs.References.{is_self}
 use Rattle.datastore_table.proofs.RowLemmas.{both_hold}
 use Rattle.datastore_answers.specs.Consistent.{own_resolved}
@@ -49,10 +48,11 @@ use Rattle.portal_rows.proofs.MemberLemmas.{same_made}
 use Rattle.portal_core.specs.KeptRows.{kept_rows, row_target}
 use Rattle.portal_core.specs.State.{State}
 use Rattle.portal_core.specs.Typed.{IsTyped}
-use Rattle.portal_core.specs.Valid.{HasHome, IsValid}
+use Rattle.portal_core.specs.Valid.{HasHome, IsSoundAmong, IsValid}
 use Rattle.portal_core.specs.Values.{AreRowsOf, IsStateOf, harvests_of, kept_table, values_of, with_roles}
 use Rattle.portal_core.proofs.KeyLemmas.{same_address}
 use Rattle.portal_core.proofs.RowParts.{same-both}
+use Rattle.portal_core.proofs.SoundAmong.{among-numbered}
 use Rattle.portal_core.proofs.TableViewing.{any-is}
 use Rattle.portal_core.proofs.Values.{values-rows, rows_of_values-kept}
 
@@ -124,11 +124,12 @@ same-roles rows one other is also =
 own-number : (state : State) → IsValid state → (t : ResourceTable) → IsIn t state.tables → 1 ≤ t.address.number
 own-number state valid t m =
     let home = All-IsIn (HasHome state.datasets) state.tables valid.homes t m in
-    let sound = All-IsIn (IsSound state.people) state.datasets valid.sound home.dataset
-    (IsIn-Contains home.dataset state.datasets home.is_present) in
+    let numbered = among-numbered state.people state.sources home.dataset
+    (All-IsIn (IsSoundAmong state.people state.sources) state.datasets valid.sound home.dataset
+    (IsIn-Contains home.dataset state.datasets home.is_present)) in
     let r = any-is (λ (r : Resource). r.number == t.address.number) home.dataset.resources home.resource in
     let within = All-IsIn (λ (r : Resource). (1 ≤ r.number) × (r.number < home.dataset.next_resource))
-    home.dataset.resources sound.resources.within r.0 r.1 in
+    home.dataset.resources numbered.within r.0 r.1 in
     let same : r.0.number ≡ t.address.number = number_is r.0.number t.address.number r.2 in
     omega (arith, within.0, same)
 

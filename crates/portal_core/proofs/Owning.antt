@@ -1,6 +1,7 @@
 -- Each entry of an accepted change is the caller's own to make.
 use Rattle.std.proofs.Common.{◌≡◌, ℕ, ℤ, ◌+◌, Bool, true, not, ◌||◌, List, [], ◌∷◌, ◌++◌, map, Option, Some, None}
 use Rattle.std.proofs.Common.{Result, Ok, Err, refl, sym, ap, ◌∙◌, subst, inl, inr}
+use Rattle.std.specs.Prelude.{filter}
 use Rattle.std.specs.List.{All, flat_map}
 use Rattle.std.specs.Str.{bytes_eq}
 use Rattle.std.proofs.lemmas.List.Elements.{All-append, All-cons, All-map, All-nil}
@@ -35,6 +36,7 @@ use Rattle.datastore_answers.specs.declared.resource_table.ResourceTable.{Resour
 use Rattle.datastore_answers.proofs.KeepLemmas.{at-is}
 use Rattle.datastore_answers.proofs.TableLemmas.{there-at}
 use Rattle.harvest_answers.specs.Fit.{IsFitSource}
+use Rattle.harvest_results.specs.Effects.{is_of_source}
 use Rattle.harvest_sources.specs.Entries.{DropJob, DropSource, PutJob, PutSource, added_job, job_drops}
 use Rattle.harvest_sources.specs.Entries.{fault_if_open, updated_source}
 use Rattle.harvest_sources.specs.Jobs.{new_job}
@@ -51,7 +53,7 @@ use Rattle.portal_core.specs.Answer.{answer_to, call_view_of}
 use Rattle.portal_core.specs.Change.{Change}
 use Rattle.portal_core.specs.Entries.{Entry, DropDataset, DropOrg, DropRow, DropTable, EditDataset, OfSources, PutRow}
 use Rattle.portal_core.specs.Entries.{PutTable}
-use Rattle.portal_core.specs.EntriesOf.{drop_of_role, drops_of, drops_of_table, entries_of_batch, entries_of_datasets}
+use Rattle.portal_core.specs.EntriesOf.{drop_of_dataset, drop_of_role, drops_of, drops_of_table, entries_of_batch, entries_of_datasets}
 use Rattle.portal_core.specs.EntriesOf.{entries_of_people, entries_of_sources, entries_of_tables, head_of, head_with, ids_of, is_gone}
 use Rattle.portal_core.specs.EntriesOf.{puts_of, roles_in, rows_written, tables_gone}
 use Rattle.portal_core.specs.Fit.{IsFit}
@@ -148,7 +150,7 @@ own-datasets (dataset.Remove id) call view fit =
       own = rw (fit.not_harvested, fit.sysadmin) refl;
     } in
     All-append (IsOwnEntry call.caller view) (flat_map drops_of_table (tables_gone id [] view.tables))
-    (DropDataset id ∷ []) (own-gone call.caller view id [] own) (alone call.caller view (DropDataset id) fit.sysadmin)
+    (DropDataset id ∷ []) (own-gone call.caller view id [] own) (alone call.caller view (DropDataset id) (inl fit.sysadmin))
 
 -- ---- tables
 
@@ -267,20 +269,40 @@ own-job caller view name created (Some s) is own =
     (alone caller view (OfSources (PutJob (new_job s.source.name s.source.next_job created)))
     (own-itself caller view name s is (own s is)))
 
+-- The datasets of a source of that name may be dropped with it.
+own-harvested : (call : Call) (view : State) (name : List ℕ) → IsOwnSource call.caller view name
+    → AreOwn call.caller view (map drop_of_dataset (filter (is_of_source name) view.datasets))
+own-harvested call view name own =
+    each call.caller view drop_of_dataset (filter (is_of_source name) view.datasets)
+    (λ d within. let there = IsIn-filter (is_of_source name) d view.datasets within in
+    inr (record {
+      dataset = d;
+      is_present = Contains-IsIn d view.datasets there.0;
+      id = refl;
+      source = subst (IsOwnSource call.caller view) (sym ((bytes_eq-Decides d.source name).0 there.1)) own;
+    }))
+
+own-whole_removal : (call : Call) (view : State) (name : List ℕ) → IsOwnSource call.caller view name
+    → AreOwn call.caller view (entries_of_sources (source.Remove name) view.sources view.datasets)
+own-whole_removal call view name own =
+    All-append (IsOwnEntry call.caller view) (map drop_of_dataset (filter (is_of_source name) view.datasets))
+    (map OfSources (job_drops name (source_named view.sources name) ++ DropSource name ∷ []))
+    (own-harvested call view name own)
+    (own-removal call view name (source_named view.sources name) refl own)
+
 own-sources : (change : SourceChange) (call : Call) (view : State)
     → IsFitSource (call_view_of call view) view.sources change
-    → AreOwn call.caller view (entries_of_sources change view.sources)
+    → AreOwn call.caller view (entries_of_sources change view.sources view.datasets)
 own-sources (source.Create new) call view fit = alone call.caller view (OfSources (PutSource new)) fit.administered
 own-sources (source.Update name title url) call view fit =
     own-update call.caller view name title url (source_named view.sources name) refl fit.administered
 own-sources (source.Remove name) call view fit = by (source_named view.sources name) refl
   where
     by : (o : Option SourceState) → source_named view.sources name ≡ o
-        → AreOwn call.caller view (entries_of_sources (source.Remove name) view.sources)
+        → AreOwn call.caller view (entries_of_sources (source.Remove name) view.sources view.datasets)
     by None is = let never : fault_if_open None ≡ None = sym (ap fault_if_open is) ∙ fit.possible in absurd (cc)
     by (Some s) is =
-        own-removal call view name (source_named view.sources name) refl
-        (own-named_source call.caller view name s is (fit.administered s is))
+        own-whole_removal call view name (own-named_source call.caller view name s is (fit.administered s is))
 own-sources (source.AddJob name created) call view fit =
     own-job call.caller view name created (source_named view.sources name) refl fit.administered
 

@@ -5,6 +5,7 @@ use Rattle.std.specs.Prelude.{filter, find, is_some}
 use Rattle.std.specs.List.{All}
 use Rattle.std.specs.Str.{bytes_eq}
 use Rattle.std.proofs.lemmas.Slice.Eq.{bytes_eq-Decides}
+use Rattle.portal_base.proofs.Upserted.{All-each}
 use Rattle.portal_base.specs.declared.caller.Caller.{Caller}
 use Rattle.org_roles.specs.PeopleLists.{PeopleLists, org_in}
 use Rattle.org_roles.specs.declared.entry.Org.{Org}
@@ -13,13 +14,16 @@ use Rattle.visibility.specs.View.{datasets_seen, public_count}
 use Rattle.visibility.specs.Visibility.{is_public}
 use Rattle.visibility.specs.declared.class.Class.TheVariants.{Public}
 use Rattle.visibility.proofs.PublicLemmas.{public_count_seen}
-use Rattle.dataset_answers.specs.Sound.{IsSound}
+use Rattle.dataset_answers.specs.Sound.{OrgExists}
 use Rattle.facets.specs.Counters as counters
 use Rattle.facets.specs.Counters.{CountersState, class_count}
 use Rattle.facets.specs.Counts.{has_text}
 use Rattle.facets.specs.Facts.{texts_at}
 use Rattle.facets.specs.declared.field.FacetField.TheVariants.{Organization}
 use Rattle.organization_answers.specs.Dictionary.{AreCountsOf}
+use Rattle.portal_core.specs.State.{State}
+use Rattle.portal_core.specs.Valid.{IsValid}
+use Rattle.portal_core.proofs.Harvested.{sound-org}
 
 -- what the counters of datasets give for a name that isn't empty
 abbrev pub CountsPublic : Type 0
@@ -40,12 +44,13 @@ nameless (o ∷ os) all = by (bytes_eq o.name []) refl (nameless os (tail (λ o.
     by true is rest = absurd (all 0 o (omega arith) ((bytes_eq-Decides o.name []).0 is))
     by false is rest = rest
 
--- So it has no dataset.
+-- So it has no dataset, where the organizations of all datasets exist.
 unowned : (people : PeopleLists) → All (λ o. o.name ≢ []) people.orgs → (datasets : List Package)
-    → All (IsSound people) datasets → public_count [] datasets ≡ 0
-unowned people named [] sound = refl
-unowned people named (d ∷ ds) sound =
-    by (bytes_eq d.owner_org []) refl (unowned people named ds (tail (IsSound people) d ds sound))
+    → All (λ d. OrgExists people d.owner_org) datasets → public_count [] datasets ≡ 0
+unowned people named [] owned = refl
+unowned people named (d ∷ ds) owned =
+    by (bytes_eq d.owner_org []) refl
+    (unowned people named ds (tail (λ (e : Package). OrgExists people e.owner_org) d ds owned))
   where
     by : (b : Bool) → bytes_eq d.owner_org [] ≡ b → public_count [] ds ≡ 0
         → length (cond (b && is_public d) (d ∷ filter (λ (e : Package). bytes_eq e.owner_org [] && is_public e) ds)
@@ -53,7 +58,7 @@ unowned people named (d ∷ ds) sound =
     by true is rest =
         let exists : is_some (org_in people []) ≡ true =
         subst (λ (org : List ℕ). is_some (org_in people org) ≡ true) ((bytes_eq-Decides d.owner_org []).0 is)
-        (sound 0 d (omega arith)).org in
+        (owned 0 d (omega arith)) in
         absurd (cc (exists, nameless people.orgs named))
     by false is rest = rest
 
@@ -62,13 +67,22 @@ no_value : {X : Type 0} (texts : X → List (List ℕ)) (xs : List X) → length
 no_value texts [] = refl
 no_value texts (x ∷ xs) = no_value texts xs
 
-pub counts_seen : CountsPublic → (c : CountersState) (caller : Caller) (people : PeopleLists) (datasets : List Package)
-    → counters.StandsFor c datasets → All (λ o. o.name ≢ []) people.orgs → All (IsSound people) datasets
-    → AreCountsOf (datasets_seen caller people datasets) (λ org. class_count Public Organization org c)
-counts_seen law c caller people datasets stands named sound = by
+pub counts_seen : CountsPublic → (c : CountersState) (caller : Caller) (state : State) → IsValid state
+    → counters.StandsFor c state.datasets
+    → AreCountsOf (datasets_seen caller state.people state.datasets) (λ org. class_count Public Organization org c)
+counts_seen law c caller state valid stands = by
   where
-    by : (org : List ℕ) → class_count Public Organization org c ≡ public_count org (datasets_seen caller people datasets)
+    owned : All (λ d. OrgExists state.people d.owner_org) state.datasets
+    owned =
+        All-each (λ (d : Package). OrgExists state.people d.owner_org) state.datasets
+        (λ d within. sound-org state d valid within)
+
+    by : (org : List ℕ) → class_count Public Organization org c
+        ≡ public_count org (datasets_seen caller state.people state.datasets)
     by [] =
-        no_value (texts_at Organization) (counters.facts_in_class Public c) ∙ sym (unowned people named datasets sound) ∙ sym (public_count_seen caller people [] datasets)
+        no_value (texts_at Organization) (counters.facts_in_class Public c)
+        ∙ sym (unowned state.people valid.orgs state.datasets owned)
+        ∙ sym (public_count_seen caller state.people [] state.datasets)
     by (b ∷ bs) =
-        law c datasets (b ∷ bs) stands (λ is. absurd (cc)) ∙ sym (public_count_seen caller people (b ∷ bs) datasets)
+        law c state.datasets (b ∷ bs) stands (λ is. absurd (cc))
+        ∙ sym (public_count_seen caller state.people (b ∷ bs) state.datasets)

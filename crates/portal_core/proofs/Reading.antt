@@ -23,7 +23,7 @@ use Rattle.harvest_sources.specs.declared.change.SourceChange.{SourceChange}
 use Rattle.org_roles.specs.declared.change.OrgChange.{OrgChange}
 use Rattle.organization_answers.proofs.Fitting as organization
 use Rattle.visibility.specs.CallView.{CallView}
-use Rattle.portal_calls.specs.declared.event.Event.TheVariants.{Call as a_call}
+use Rattle.portal_events.specs.declared.event.Event.TheVariants.{Call as a_call}
 use Rattle.portal_core.proofs.Answering.{found_only, search_only}
 use Rattle.portal_core.specs.Search.{search_outcome}
 use Rattle.portal_core.proofs.Settling.{refused-same}

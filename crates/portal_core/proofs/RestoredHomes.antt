@@ -27,6 +27,7 @@ use Rattle.packages.proofs.FindLemmas.{IsIn-find, find-none}
 use Rattle.packages.proofs.ShelfInvariantLemmas.{id_named}
 use Rattle.packages.proofs.ShelfLemmas.{find_named, named_alone}
 use Rattle.visibility.specs.TableSummary.{is_among}
+use Rattle.visibility.specs.Visibility.{is_harvested}
 use Rattle.portal_core.specs.Restored.{IsAddressOf}
 
 -- ---- what begins the id of a resource
@@ -154,14 +155,16 @@ number_missing id d none number own among =
 -- ---- addresses
 
 pub address_found : (datasets : List Package) (id : List ℕ) (d : Package) (number : ℕ) (address : Address)
-    → Contains datasets d → number < 2 ^ 32 → resource_address d.id number ≡ id → is_among d.resources number ≡ true
-    → address.dataset ≡ d.id → address.number ≡ number → IsAddressOf datasets id address
-address_found datasets id d number address present small own among dataset_same number_same = record {
+    → Contains datasets d → is_harvested d ≡ false → number < 2 ^ 32 → resource_address d.id number ≡ id
+    → is_among d.resources number ≡ true → address.dataset ≡ d.id → address.number ≡ number
+    → IsAddressOf datasets id address
+address_found datasets id d number address present made small own among dataset_same number_same = record {
   same = ap₂ resource_address dataset_same number_same ∙ own;
   number = subst (λ (n : ℕ). n < 2 ^ 32) (sym number_same) small;
   dataset = d;
   is_present = present;
   own = sym dataset_same;
+  made = made;
   resource = ap (is_among d.resources) number_same ∙ among;
 }
 
@@ -173,7 +176,7 @@ address_part datasets id address is =
     ∙ part_of_id address.dataset address.number
     ∙ ap Some (sym is.own)
 
--- Where the only dataset that may be the home has no such resource, the id is of no resource.
+-- Where the only dataset that may be the home has no such resource, the id is of no resource of a made dataset.
 pub no_address : (datasets : List Package) (id : List ℕ) (d : Package)
     → ((e : Package) → Contains datasets e → dataset_part id ≡ Some e.id → e ≡ d)
     → ((number : ℕ) → resource_address d.id number ≡ id → is_among d.resources number ≡ true → ⊥)

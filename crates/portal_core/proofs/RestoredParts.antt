@@ -12,7 +12,7 @@ use Rattle.portal_base.proofs.Upserted.{All-IsIn, All-each}
 use Rattle.org_roles.specs.PeopleLists.{PeopleLists}
 use Rattle.org_roles.specs.declared.entry.Membership.{Membership}
 use Rattle.org_roles.specs.declared.entry.Org.{Org}
-use Rattle.dataset_answers.specs.Sound.{IsSound, OrgExists}
+use Rattle.dataset_answers.specs.Sound.{OrgExists}
 use Rattle.dataset_rows.specs.Rows.{IsWellTyped}
 use Rattle.datastore_answers.specs.Tables.{tables_of}
 use Rattle.datastore_answers.specs.declared.resource_table.ResourceTable.{ResourceTable}
@@ -36,11 +36,11 @@ use Rattle.portal_core.specs.Parts.{IsConsistent, state_of}
 use Rattle.portal_core.specs.Restored.{AreHarvestsOf, ArePeopleOf, AreShelvable, AreTablesOf}
 use Rattle.portal_core.specs.State.{State, quota_used_cmp}
 use Rattle.portal_core.specs.Typed.{IsTyped}
-use Rattle.portal_core.specs.Valid.{HasHome, IsValid}
+use Rattle.portal_core.specs.Valid.{HasHome, IsSoundAmong, IsValid}
 use Rattle.portal_core.specs.Values.{harvests_of, values_of, with_roles}
 use Rattle.portal_core.specs.declared.parts.Parts.{Parts}
-use Rattle.portal_core.proofs.RestoredDatasets.{same-sound}
 use Rattle.portal_core.proofs.RestoredSources.{typed-at_rest}
+use Rattle.portal_core.proofs.SoundAmong.{same-among}
 
 -- ---- organizations
 
@@ -60,7 +60,8 @@ same-orgs one other kept first second =
 -- ---- the state of the parts
 
 pub parts-consistent : (values : KeptValues) (harvests : KeptHarvests) (parts : Parts) → AreKeptValues values
-    → ArePeopleOf values.orgs parts.people.people → AreShelvable parts.people.people values.datasets
+    → ArePeopleOf values.orgs parts.people.people
+    → AreShelvable parts.people.people (sources_in parts.sources) values.datasets
     → datasets_of parts.shelf ≡ values.datasets → IsIndexed parts.shelf parts.indexes
     → AreTablesOf (datasets_of parts.shelf) values.tables (tables_of parts.tables)
     → AreHarvestsOf parts.people.people harvests (sources_in parts.sources) → parts.quota_used.used ≡ []
@@ -73,7 +74,7 @@ parts-consistent values harvests parts kept people shelvable datasets shelved ta
     datasets = subst (IsAscending dataset_cmp) (sym datasets) kept.datasets_ascend;
     names = subst (λ (ds : List Package). (d e : Package) → Contains ds d → Contains ds e → d.name ≡ e.name → d ≡ e)
         (sym datasets) shelvable.names;
-    sound = subst (All (IsSound parts.people.people)) (sym datasets) shelvable.sound;
+    sound = subst (All (IsSoundAmong parts.people.people (sources_in parts.sources))) (sym datasets) shelvable.sound;
     tables = tables.consistent;
     homes = tables.homes;
     sources = sources.valid;
@@ -139,19 +140,7 @@ no-people values none state valid same =
     subst (λ (k : OrgWithRoles). k.org.name ≢ []) (sym w.2)
     (All-IsIn (λ (x : Org). x.name ≢ []) state.people.orgs valid.orgs w.0 w.1))))
 
--- Its datasets may stand on one shelf,
-pub no-shelf : (values : KeptValues) (people : PeopleLists) → ArePeopleOf values.orgs people
-    → (AreShelvable people values.datasets → ⊥) → (state : State) → IsValid state → values_of state ≡ values → ⊥
-no-shelf values people of none state valid same =
-    none (subst (AreShelvable people) (ap (λ (v : KeptValues). v.datasets) same) (record {
-      sound = All-each (IsSound people) state.datasets (λ d m.
-          same-sound state.people people d
-          (same-orgs state.people people values.orgs (ap (λ (v : KeptValues). v.orgs) same) of.orgs)
-          (All-IsIn (IsSound state.people) state.datasets valid.sound d m));
-      names = valid.names;
-    }))
-
--- its sources at rest may be the sources of a state with its people,
+-- Its sources at rest may be the sources of a state with its people,
 pub no-sources : (values : KeptValues) (harvests : KeptHarvests) (people : PeopleLists) → ArePeopleOf values.orgs people
     → ((sources : List SourceState) → AreHarvestsOf people harvests sources → ⊥) → (state : State) → IsValid state
     → IsTyped state → values_of state ≡ values → harvests_of state ≡ harvests → ⊥
@@ -169,6 +158,21 @@ no-sources values harvests people of none state valid typed same own =
       rest = all_rest state.sources;
       typed = typed-at_rest state.sources typed.sources;
     })
+
+-- its datasets may stand on one shelf,
+pub no-shelf : (values : KeptValues) (harvests : KeptHarvests) (people : PeopleLists) (sources : List SourceState)
+    → ArePeopleOf values.orgs people → AreHarvestsOf people harvests sources
+    → (AreShelvable people sources values.datasets → ⊥) → (state : State) → IsValid state → values_of state ≡ values
+    → harvests_of state ≡ harvests → ⊥
+no-shelf values harvests people sources of restored none state valid same own =
+    none (subst (AreShelvable people sources) (ap (λ (v : KeptValues). v.datasets) same) (record {
+      sound = All-each (IsSoundAmong people sources) state.datasets (λ d m.
+          same-among state.people people state.sources sources d
+          (same-orgs state.people people values.orgs (ap (λ (v : KeptValues). v.orgs) same) of.orgs)
+          (ap (λ (h : KeptHarvests). h.sources) own ∙ sym restored.bare)
+          (All-IsIn (IsSoundAmong state.people state.sources) state.datasets valid.sound d m));
+      names = valid.names;
+    }))
 
 -- and its tables may be the tables of a state with its datasets.
 pub no-tables : (values : KeptValues) (datasets : List Package) → datasets ≡ values.datasets

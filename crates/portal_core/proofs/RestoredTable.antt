@@ -54,6 +54,7 @@ table-made datasets kept address targets table numbered is at targets_now other 
       dataset = at.dataset;
       is_present = at.is_present;
       id = at.own;
+      made = at.made;
       resource = at.resource;
     }
 
@@ -77,6 +78,7 @@ table-address datasets kept t is = record {
   dataset = is.home.dataset;
   is_present = is.home.is_present;
   own = is.home.id;
+  made = is.home.made;
   resource = is.home.resource;
 }
 

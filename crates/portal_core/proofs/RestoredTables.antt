@@ -166,6 +166,7 @@ tables-restored datasets kept ts made zip all up is consistent_if = record {
     dataset = of.home.dataset;
     is_present = of.home.is_present;
     id = of.home.id;
+    made = of.home.made;
     resource = of.home.resource;
   });
   sized = record {

@@ -10,12 +10,12 @@ use Rattle.portal_calls.specs.Answer.{AcceptsOnly}
 use Rattle.portal_calls.specs.declared.answer.Answer.{Answer}
 use Rattle.portal_calls.specs.declared.answer.Answer.TheVariants.{Shown, Refused, Accepted}
 use Rattle.portal_calls.specs.declared.call.Call.{Call}
-use Rattle.portal_calls.specs.Reply.{is_change, is_name_in_use}
-use Rattle.portal_calls.specs.declared.event.Event.{Event}
-use Rattle.portal_calls.specs.declared.event.Event.TheVariants.{Call as a_call}
-use Rattle.portal_calls.specs.declared.event.Refusal.TheVariants.{KeeperFault, OutOfMemory}
-use Rattle.portal_calls.specs.declared.event.Reply.TheVariants as reply
-use Rattle.portal_calls.proofs.Refusing.{quiet-refusal, refusal_kept, refusal_there}
+use Rattle.portal_events.specs.Reply.{is_change, is_name_in_use}
+use Rattle.portal_events.specs.declared.event.Event.{Event}
+use Rattle.portal_events.specs.declared.event.Event.TheVariants.{Call as a_call, Harvest as a_step}
+use Rattle.portal_events.specs.declared.event.Refusal.TheVariants.{KeeperFault, OutOfMemory}
+use Rattle.portal_events.specs.declared.event.Reply.TheVariants as reply
+use Rattle.portal_events.proofs.Refusing.{quiet-refusal, refusal_kept, refusal_there}
 use Rattle.portal_hall.specs.History.{replay}
 use Rattle.portal_core.specs.Indexes.{IsIndexed}
 use Rattle.datastore_answers.specs.Linked.{AreLinked}
@@ -38,6 +38,8 @@ use Rattle.portal_core.proofs.Answering.{answer_fit}
 use Rattle.portal_core.proofs.ChangeEntries.{applied-planned}
 use Rattle.portal_core.proofs.Keeping.{changed_valid, charged_valid, fit_in_valid}
 use Rattle.portal_core.proofs.Knowing.{by_nobody, unknown-call}
+use Rattle.portal_core.proofs.HarvestKeeping.{unaccepted-same}
+use Rattle.portal_core.proofs.StepKeeping.{stepped_valid}
 
 -- ---- what is accepted
 
@@ -140,6 +142,7 @@ pub refused-same : (state : State) (event : Event) → (step_of state event).is_
     → (step_of state event).core ≡ state
 refused-same state (a_call call) not_made =
     outcome_of-same (answer_in state (known_call state.people call)) (known_call state.people call) state not_made
+refused-same state (a_step step) not_made = unaccepted-same step state not_made
 
 -- A change is accepted exactly if the reply is one of a change.
 outcome_of-change : (answer : Answer Change) (call : Call) (state : State)
@@ -158,6 +161,7 @@ pub accepted-change : (state : State) (event : Event)
     → (step_of state event).is_accepted ≡ is_change (step_of state event).reply
 accepted-change state (a_call call) =
     outcome_of-change (answer_in state (known_call state.people call)) (known_call state.people call) state
+accepted-change state (a_step step) = refl
 
 -- ---- callers whom no user has
 
@@ -245,6 +249,7 @@ step-valid state (a_call call) valid =
     let known : Call = known_call state.people call in
     outcome_of-valid (planned_answer known (view_of known.caller state)) known state valid
     (answer_fit known (view_of known.caller state))
+step-valid state (a_step step) valid = stepped_valid step state valid
 
 pub replay-valid : (state : State) (events : List Event) → IsValid state → IsValid (replay step_of state events)
 replay-valid state [] valid = valid
@@ -270,9 +275,10 @@ settled_there (Accepted json change) call state = by (find (is_in_use state) cha
     by (Some c) = λ is. absurd (cc)
 
 -- It is never that memory ran out,
-pub step_there : (state : State) (call : Call) → (call_step state call).reply ≢ reply.Refused OutOfMemory
-step_there state call =
+pub step_there : (state : State) (event : Event) → (step_of state event).reply ≢ reply.Refused OutOfMemory
+step_there state (a_call call) =
     settled_there (answer_in state (known_call state.people call)) (known_call state.people call) state
+step_there state (a_step step) = λ is. absurd (cc)
 
 settled_kept : (answer : Answer Change) (call : Call) (state : State)
     → (outcome_of answer call state).reply ≢ reply.Refused KeeperFault
@@ -285,6 +291,7 @@ settled_kept (Accepted json change) call state = by (find (is_in_use state) chan
     by (Some c) = λ is. absurd (cc)
 
 -- nor that the keeper failed.
-pub step_kept : (state : State) (call : Call) → (call_step state call).reply ≢ reply.Refused KeeperFault
-step_kept state call =
+pub step_kept : (state : State) (event : Event) → (step_of state event).reply ≢ reply.Refused KeeperFault
+step_kept state (a_call call) =
     settled_kept (answer_in state (known_call state.people call)) (known_call state.people call) state
+step_kept state (a_step step) = λ is. absurd (cc)

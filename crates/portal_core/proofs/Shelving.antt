@@ -38,7 +38,7 @@ use Rattle.portal_core.specs.Changed.{AreUnused, is_in_use}
 use Rattle.portal_core.specs.Fit.{IsFit}
 use Rattle.portal_core.specs.Opened.{opened, is_opening}
 use Rattle.portal_core.specs.Parts.{state_of, IsConsistent, IsFree, IsOnShelf, IsTakenBy, IsUnrefused}
-use Rattle.portal_core.specs.Valid.{IsValid}
+use Rattle.portal_core.specs.Valid.{IsSoundAmong, IsValid}
 use Rattle.portal_core.specs.declared.change.Claim.TheVariants.{DatasetName, DatasetId}
 use Rattle.portal_core.specs.declared.parts.Parts.{Parts}
 use Rattle.portal_core.specs.declared.opening.Opening.{Opening}
@@ -95,25 +95,47 @@ only_left false b is = is
 only_right : (a b : Bool) → a ≡ false → (a || b) ≡ b
 only_right a b is = ap (λ c. c || b) is
 
--- the name of a sound dataset is in use exactly where it leads to a number
+twice : (a : Bool) → (a || a) ≡ a
+twice true = refl
+twice false = refl
+
+-- The name of a made dataset is in use exactly where it leads to a number: no id of a made dataset is a name, and the id of
+-- a harvested one is its own name.
 pub name_used : (parts : Parts) (d : Package) → IsConsistent parts → IsSound parts.people.people d
     → is_some (number_in d.name parts.shelf) ≡ has_name d.name (datasets_of parts.shelf)
 name_used parts d consistent sound =
-    let each = All-IsIn (IsSound parts.people.people) (datasets_of parts.shelf) consistent.valid.sound in
+    let each = All-IsIn (IsSoundAmong parts.people.people (sources_in parts.sources)) (datasets_of parts.shelf)
+    consistent.valid.sound in
     leads_is parts.shelf d.name
     ∙ list_any-within (is_named d.name) (λ e. bytes_eq e.name d.name) (datasets_of parts.shelf)
-    (λ e within. only_right (bytes_eq e.id d.name) (bytes_eq e.name d.name)
-    (name_is_no_id d.name e.id sound.name (each e within).id))
+    (λ e within. by e (each e within))
+  where
+    by : (e : Package) → IsSoundAmong parts.people.people (sources_in parts.sources) e
+        → is_named d.name e ≡ bytes_eq e.name d.name
+    by e (inl made) =
+        only_right (bytes_eq e.id d.name) (bytes_eq e.name d.name) (name_is_no_id d.name e.id sound.name made.id)
+    by e (inr from) =
+        ap (λ (key : List ℕ). bytes_eq key d.name || bytes_eq e.name d.name) from.own.id_is_name
+        ∙ twice (bytes_eq e.name d.name)
 
 -- and so is its id
 pub id_used : (parts : Parts) (d : Package) → IsConsistent parts → IsSound parts.people.people d
     → is_some (number_in d.id parts.shelf) ≡ has_id d.id (datasets_of parts.shelf)
 id_used parts d consistent sound =
-    let each = All-IsIn (IsSound parts.people.people) (datasets_of parts.shelf) consistent.valid.sound in
+    let each = All-IsIn (IsSoundAmong parts.people.people (sources_in parts.sources)) (datasets_of parts.shelf)
+    consistent.valid.sound in
     leads_is parts.shelf d.id
     ∙ list_any-within (is_named d.id) (λ e. bytes_eq e.id d.id) (datasets_of parts.shelf)
-    (λ e within. only_left (bytes_eq e.id d.id) (bytes_eq e.name d.id)
-    (turned d.id e.name (name_is_no_id e.name d.id (each e within).name sound.id)))
+    (λ e within. by e (each e within))
+  where
+    by : (e : Package) → IsSoundAmong parts.people.people (sources_in parts.sources) e
+        → is_named d.id e ≡ bytes_eq e.id d.id
+    by e (inl made) =
+        only_left (bytes_eq e.id d.id) (bytes_eq e.name d.id)
+        (turned d.id e.name (name_is_no_id e.name d.id made.name sound.id))
+    by e (inr from) =
+        ap (λ (key : List ℕ). bytes_eq e.id d.id || bytes_eq key d.id) (sym from.own.id_is_name)
+        ∙ twice (bytes_eq e.id d.id)
 
 none_of : {X : Type 0} (o : Option X) → is_some o ≡ false → o ≡ None
 none_of None is = refl

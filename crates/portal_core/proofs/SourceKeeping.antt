@@ -14,8 +14,9 @@ use Rattle.portal_base.specs.declared.caller.Caller.{Caller}
 use Rattle.portal_base.specs.Ordered.{dropped, found, upserted}
 use Rattle.portal_base.proofs.Unique.{IsIn}
 use Rattle.portal_base.proofs.Upserted.{All-IsIn, All-dropped, All-each, All-upserted, IsAscending-dropped}
-use Rattle.portal_base.proofs.Upserted.{IsAscending-upserted, IsIn-upserted, filter-upserted}
-use Rattle.packages.proofs.FindLemmas.{IsIn-find, map-IsIn}
+use Rattle.portal_base.proofs.Upserted.{IsAscending-upserted, IsIn-upserted, dropped-IsIn, filter-upserted, upserted-IsIn}
+use Rattle.portal_base.proofs.Upserted.{upserted-IsIn_other}
+use Rattle.packages.proofs.FindLemmas.{IsIn-find, IsIn-map, find-none, map-IsIn}
 use Rattle.org_roles.specs.PeopleLists.{PeopleLists}
 use Rattle.visibility.specs.View.{administers, people_seen}
 use Rattle.visibility.proofs.ViewLemmas.{administers_seen}
@@ -36,6 +37,8 @@ use Rattle.harvest_stages.proofs.MapLemmas.{IsAscending-map}
 use Rattle.harvest_stages.proofs.RestoreLemmas.{job_cmp_total}
 use Rattle.harvest_stages.specs.Ready.{IsNamed}
 use Rattle.organization_answers.specs.Owners.{owners_of, owners_seen}
+use Rattle.portal_core.proofs.Harvested.{IsLike}
+use Rattle.portal_core.proofs.Kept.{unique-at}
 use Rattle.portal_core.proofs.SourceViews.{found-named}
 
 -- ---- the source of a name
@@ -371,6 +374,99 @@ owners-kept P (AddJob name created) sources own all = by (source_named sources n
         let source : HarvestSource = record s.source { next_job = s.source.next_job + 1 } in
         job-owned P (new_job s.source.name s.source.next_job created) (changed_by (PutSource source) sources)
         (put-owned P source sources (All-IsIn (HasOwner P) sources all s (named-in sources name s is).0) all)
+
+-- ---- sources that stay
+
+-- the change doesn't remove the source of that name
+abbrev pub IsSpared : SourceChange → List ℕ → Type 0
+IsSpared (Create source) other = Unit {0}
+IsSpared (Update name title url) other = Unit {0}
+IsSpared (Remove name) other = bytes_eq other name ≡ false
+IsSpared (AddJob name created) other = Unit {0}
+
+-- A source without a fault is there.
+pub unfaulted-source : (sources : List SourceState) (name : List ℕ) → fault_if_open (source_named sources name) ≡ None
+    → (s : SourceState) × (source_named sources name ≡ Some s)
+unfaulted-source sources name none = by (source_named sources name) refl none
+  where
+    by : (o : Option SourceState) → source_named sources name ≡ o → fault_if_open o ≡ None
+        → (s : SourceState) × (source_named sources name ≡ Some s)
+    by None is none = absurd (cc)
+    by (Some s) is none = (s, is)
+
+-- A source stays where one of its name and its organization takes the place of the one of this name.
+upserted-like : (new old : SourceState) (sources : List SourceState) → AreSources sources → IsIn old sources
+    → new.source.name ≡ old.source.name → new.source.owner_org ≡ old.source.owner_org → (s : SourceState)
+    → IsIn s sources → IsLike (upserted source_cmp new sources) s
+upserted-like new old sources was there named of_org s m = by (bytes_eq s.source.name old.source.name) refl
+  where
+    by : (b : Bool) → bytes_eq s.source.name old.source.name ≡ b → IsLike (upserted source_cmp new sources) s
+    by true here =
+        let same : s ≡ old =
+        unique-at source_cmp source_cmp_total sources was.ascending s old m there
+        (is_eq-slice_cmp s.source.name old.source.name ∙ here) in (
+          new,
+          upserted-IsIn source_cmp new sources,
+          named ∙ ap (λ (t : SourceState). t.source.name) (sym same),
+          of_org ∙ ap (λ (t : SourceState). t.source.owner_org) (sym same),
+        )
+    by false other = (
+      s,
+      upserted-IsIn_other source_cmp new s sources m
+          (is_eq-slice_cmp s.source.name new.source.name ∙ ap (bytes_eq s.source.name) named ∙ other),
+      refl,
+      refl,
+    )
+
+-- A source stays where a job is put.
+job-like : (job : Job) (sources : List SourceState) (s : SourceState) → IsLike sources s
+    → IsLike (changed_by (PutJob job) sources) s
+job-like job sources s like =
+    let same : (job_at_name job.source job like.0).source ≡ like.0.source = same-source job.source job like.0 in (
+      job_at_name job.source job like.0,
+      IsIn-map (job_at_name job.source job) like.0 sources like.1,
+      ap (λ (source : HarvestSource). source.name) same ∙ like.2,
+      ap (λ (source : HarvestSource). source.owner_org) same ∙ like.3,
+    )
+
+-- After a change without a fault each source that isn't removed still has its name and its organization.
+pub sources-stay : (change : SourceChange) (sources : List SourceState) → AreSources sources
+    → source_fault change sources ≡ None → (s : SourceState) → IsIn s sources → IsSpared change s.source.name
+    → IsLike (changed_sources change sources) s
+sources-stay (Create source) sources was none s m spared =
+    let unused : source_named sources source.name ≡ None = free (source_named sources source.name) none in
+    subst (λ (l : List SourceState). IsLike l s) (sym (added-sources source sources unused)) (
+      s,
+      upserted-IsIn_other source_cmp (with_jobs_of source None) s sources m
+          (is_eq-slice_cmp s.source.name source.name
+          ∙ find-none (λ (t : SourceState). bytes_eq t.source.name source.name) s sources unused m),
+      refl,
+      refl,
+    )
+sources-stay (Update name title url) sources was none s m spared =
+    let old = unfaulted-source sources name none in
+    let source : HarvestSource = record old.0.source { title = title; url = url } in
+    let there = named-in sources name old.0 old.1 in
+    subst (λ (o : Option SourceState). IsLike (sources_after (updated_source title url o) sources) s) (sym old.1)
+    (subst (λ (l : List SourceState). IsLike l s)
+    (sym (replaced-sources source old.0 sources (ap (source_named sources) there.1 ∙ old.1)))
+    (upserted-like (with_jobs_of source (Some old.0)) old.0 sources was there.0 refl refl s m))
+sources-stay (Remove name) sources was none s m spared =
+    subst (λ (l : List SourceState). IsLike l s) (sym (removed-sources name sources)) (
+      s,
+      dropped-IsIn (source_at name) s sources m (is_eq-slice_cmp s.source.name name ∙ spared),
+      refl,
+      refl,
+    )
+sources-stay (AddJob name created) sources was none s m spared =
+    let old = unfaulted-source sources name none in
+    let source : HarvestSource = record old.0.source { next_job = old.0.source.next_job + 1 } in
+    let there = named-in sources name old.0 old.1 in
+    subst (λ (o : Option SourceState). IsLike (sources_after (added_job created o) sources) s) (sym old.1)
+    (job-like (new_job old.0.source.name old.0.source.next_job created) (changed_by (PutSource source) sources) s
+    (subst (λ (l : List SourceState). IsLike l s)
+    (sym (replaced-sources source old.0 sources (ap (source_named sources) there.1 ∙ old.1)))
+    (upserted-like (with_jobs_of source (Some old.0)) old.0 sources was there.0 refl refl s m)))
 
 -- The owners of the sources that a caller sees are those of the owners that it administers.
 pub owners-kept_seen : (caller : Caller) (people : PeopleLists) (sources : List SourceState)

@@ -1,18 +1,25 @@
--- The changes of rows for a change of sources.
+-- The changes of rows for a change of sources, with the datasets that go with one.
 use Rattle.std.proofs.Common.{◌≡◌, ℕ, ℤ, ◌+◌, ◌<◌, ◌^◌, Bool, true, false, List, [], ◌∷◌, ◌++◌, Option, Some, None, map}
-use Rattle.std.proofs.Common.{All, append_assoc, refl, sym, ap, ap₂, subst, ◌∙◌, arith, if◌then◌else◌, true≢false}
-use Rattle.std.specs.Prelude.{IfSome}
+use Rattle.std.proofs.Common.{not, All, append_assoc, refl, sym, ap, ap₂, subst, ◌∙◌, arith, if◌then◌else◌, true≢false}
+use Rattle.std.specs.Prelude.{IfSome, filter}
 use Rattle.std.specs.Ordering.{is_eq}
 use Rattle.std.specs.Str.{bytes_eq}
 use Rattle.std.proofs.lemmas.Cmp.{tied_itself}
 use Rattle.std.proofs.lemmas.List.{map-append}
+use Rattle.std.proofs.lemmas.Map.Lookups.{exact_bytes}
 use Rattle.std.proofs.lemmas.Option.{same_Some}
 use Rattle.std.proofs.lemmas.Slice.Eq.{bytes_eq-Decides}
-use Rattle.portal_base.specs.Ordered.{dropped, found}
+use Rattle.portal_base.specs.Ordered.{IsAscending, found}
+use Rattle.portal_base.proofs.Filtered.{IsIn-filter}
+use Rattle.portal_base.proofs.Removed.{is_eq_true}
 use Rattle.portal_base.proofs.Unique.{IsIn}
 use Rattle.portal_base.proofs.Upserted.{All-IsIn, All-dropped, All-each, All-upserted, IsIn-dropped, upserted-IsIn}
-use Rattle.packages.proofs.FindLemmas.{IsIn-find, IsIn-map, find-none, map-IsIn}
+use Rattle.packages.specs.Order.{dataset_cmp}
+use Rattle.packages.specs.declared.package.Package.{Package}
+use Rattle.packages.proofs.FindLemmas.{IsIn-find, IsIn-map, find-none, map-IsIn, none-find}
+use Rattle.dataset_answers.specs.Changed.{dataset_at_id}
 use Rattle.harvest_answers.specs.Fit.{IsFitSource}
+use Rattle.harvest_results.specs.Effects.{is_of_source}
 use Rattle.harvest_rows.specs.Rows.{job_row, source_row}
 use Rattle.harvest_sources.specs.Entries.{SourceEntry, PutSource, DropSource, PutJob, DropJob, added_job}
 use Rattle.harvest_sources.specs.Entries.{changed_by as sources_changed_by}
@@ -34,9 +41,10 @@ use Rattle.portal_keeper.specs.declared.row.RowKind.TheVariants as kind
 use Rattle.portal_keeper.proofs.SlotLemmas.{none_from_absent}
 use Rattle.portal_core.specs.Changed.{AreUnused, changed, is_in_use}
 use Rattle.portal_core.specs.ChangedRows.{IsTypedSourceChange, changes_if_source, changes_of_new_job}
-use Rattle.portal_core.specs.ChangedRows.{changes_of_source, changes_of_sources, changes_of_texts, removal_of_job}
+use Rattle.portal_core.specs.ChangedRows.{changes_of_harvests, changes_of_source, changes_of_texts, removal_of_job}
 use Rattle.portal_core.specs.ChangedRows.{removals_of_source}
 use Rattle.portal_core.specs.Entries.{OfSources}
+use Rattle.portal_core.specs.EntriesOf.{drop_of_dataset}
 use Rattle.portal_core.specs.KeptRows.{IsSized, kept_rows}
 use Rattle.portal_core.specs.Planned.{Sources, claims_of}
 use Rattle.portal_core.specs.RowChanges.{planned_row_changes}
@@ -45,6 +53,7 @@ use Rattle.portal_core.specs.Valid.{IsValid}
 use Rattle.portal_core.specs.declared.change.Claim.TheVariants.{SourceName}
 use Rattle.portal_core.proofs.ChangesFor.{changes_for, changes_for-++, changes_for-cons, changes_for-map, changes_for-one}
 use Rattle.portal_core.proofs.ChangesFor.{map-twice}
+use Rattle.portal_core.proofs.DatasetRows.{dropped-changes, found-id}
 use Rattle.portal_core.proofs.EntryLemmas.{source-there}
 use Rattle.portal_core.proofs.InOrder.{HasSizedJobs, sized-jobs}
 use Rattle.portal_core.proofs.Keeping.{first_unused}
@@ -173,6 +182,13 @@ updated title url name state valid sized (Some s) is also also_sized =
 
 -- ---- a source that goes
 
+-- the state without the source of that name and its jobs, and with these datasets
+abbrev gone_in : List ℕ → List Package → Option SourceState → State → State
+gone_in name left o state = record state {
+  datasets = left;
+  sources = sources_after (job_drops name o ++ DropSource name ∷ []) state.sources;
+}
+
 -- Once the source of a name is dropped, no source has the name.
 last-dropped : (entries : List SourceEntry) (name : List ℕ) (sources : List SourceState) (t : SourceState)
     → IsIn t (sources_after (entries ++ DropSource name ∷ []) sources) → t.source.name ≡ name → ⊥
@@ -181,21 +197,17 @@ last-dropped [] name sources t m same =
 last-dropped (entry ∷ entries) name sources t m same =
     last-dropped entries name (sources_changed_by entry sources) t m same
 
-gone : (name : List ℕ) (state : State) → IsValid state → IsSized state → (o : Option SourceState)
-    → source_named state.sources name ≡ o
-    → IsValid (record state { sources = sources_after (job_drops name o ++ DropSource name ∷ []) state.sources })
-    → IsSized (record state { sources = sources_after (job_drops name o ++ DropSource name ∷ []) state.sources })
-    → changes_for (kept_rows state)
-    (kept_rows (record state { sources = sources_after (job_drops name o ++ DropSource name ∷ []) state.sources }))
+gone : (name : List ℕ) (left : List Package) (state : State) → IsValid state → IsSized state
+    → (o : Option SourceState) → source_named state.sources name ≡ o
+    → IsValid (gone_in name left o state) → IsSized (gone_in name left o state)
+    → changes_for (kept_rows state) (kept_rows (gone_in name left o state))
     (map OfSources (job_drops name o ++ DropSource name ∷ []))
     ≡ changes_if_source removals_of_source o
-gone name state valid sized None is also also_sized =
-    changes_for-one (kept_rows state)
-    (kept_rows (record state { sources = dropped (source_at name) state.sources })) (OfSources (DropSource name)) None
+gone name left state valid sized None is also also_sized =
+    changes_for-one (kept_rows state) (kept_rows (gone_in name left None state)) (OfSources (DropSource name)) None
     None (no_source state name (unnamed name state.sources is))
-    (no_source (record state { sources = dropped (source_at name) state.sources }) name
-    (last-dropped [] name state.sources))
-gone name state valid sized (Some s) is also also_sized =
+    (no_source (gone_in name left None state) name (last-dropped [] name state.sources))
+gone name left state valid sized (Some s) is also also_sized =
     ap (changes_for before after) (map-append OfSources drops (DropSource name ∷ []))
     ∙ changes_for-++ before after (map OfSources drops) (OfSources (DropSource name) ∷ [])
     ∙ ap₂ (λ (l k : List Change). l ++ k)
@@ -211,7 +223,7 @@ gone name state valid sized (Some s) is also also_sized =
     drops = map (λ (job : Job). DropJob name job.number) s.jobs
 
     new : State
-    new = record state { sources = sources_after (drops ++ DropSource name ∷ []) state.sources }
+    new = gone_in name left (Some s) state
 
     before : List KeptRow
     before = kept_rows state
@@ -224,6 +236,50 @@ gone name state valid sized (Some s) is also also_sized =
 
     none : (t : SourceState) → IsIn t new.sources → t.source.name ≡ name → ⊥
     none = last-dropped drops name state.sources
+
+-- None of the datasets of a source is left at its id.
+none-of_source : (name : List ℕ) (datasets : List Package) → IsAscending dataset_cmp datasets → (d : Package)
+    → IsIn d (filter (is_of_source name) datasets)
+    → found (dataset_at_id d.id) (filter (λ e. not (is_of_source name e)) datasets) ≡ None
+none-of_source name datasets up d m =
+    none-find (λ (e : Package). is_eq (dataset_at_id d.id e)) (filter (λ e. not (is_of_source name e)) datasets)
+    (λ e n. apart e (IsIn-filter (λ (u : Package). not (is_of_source name u)) e datasets n)
+    (is_eq (dataset_at_id d.id e)) refl)
+  where
+    own : IsIn d datasets × (is_of_source name d ≡ true)
+    own = IsIn-filter (is_of_source name) d datasets m
+
+    apart : (e : Package) → IsIn e datasets × (not (is_of_source name e) ≡ true) → (b : Bool)
+        → is_eq (dataset_at_id d.id e) ≡ b → b ≡ false
+    apart e stays false is = refl
+    apart e stays true is =
+        let same : e ≡ d =
+        same_Some e d
+        (sym (found-id d.id e datasets up stays.0 (exact_bytes e.id d.id (is_eq_true (dataset_at_id d.id e) is)))
+        ∙ found-id d.id d datasets up own.0 refl) in
+        let left : false ≡ true = sym (ap not (ap (is_of_source name) same ∙ own.1)) ∙ stays.1 in
+        absurd (cc)
+
+-- the rows of the datasets of a source, and those of its jobs and its own
+removed : (name : List ℕ) (state : State) → IsValid state → IsSized state
+    → IsValid (changed (Sources (source.Remove name)) state) → IsSized (changed (Sources (source.Remove name)) state)
+    → planned_row_changes (Sources (source.Remove name)) state
+    ≡ changes_of_harvests (source.Remove name) state.sources state.datasets
+removed name state valid sized also also_sized =
+    changes_for-++ (kept_rows state) (kept_rows new) (map drop_of_dataset goes)
+    (map OfSources (job_drops name (source_named state.sources name) ++ DropSource name ∷ []))
+    ∙ ap₂ (λ (l k : List Change). l ++ k)
+    (dropped-changes goes state new valid sized also also_sized
+    (λ d m. (IsIn-filter (is_of_source name) d state.datasets m).0)
+    (none-of_source name state.datasets valid.datasets))
+    (gone name (filter (λ d. not (is_of_source name d)) state.datasets) state valid sized
+    (source_named state.sources name) refl also also_sized)
+  where
+    goes : List Package
+    goes = filter (is_of_source name) state.datasets
+
+    new : State
+    new = changed (Sources (source.Remove name)) state
 
 -- ---- a new job
 
@@ -300,13 +356,13 @@ new_job_changes old middle s created g h numbered job made first second is new =
 pub source-changes : (change : SourceChange) (state : State) → IsValid state → IsSized state
     → AreUnused state (claims_of (Sources change)) → IsValid (changed (Sources change) state)
     → IsSized (changed (Sources change) state)
-    → planned_row_changes (Sources change) state ≡ changes_of_sources change state.sources
+    → planned_row_changes (Sources change) state ≡ changes_of_harvests change state.sources state.datasets
 source-changes (source.Create h) state valid sized unused also also_sized =
     created-source h state unused also also_sized
 source-changes (source.Update name title url) state valid sized unused also also_sized =
     updated title url name state valid sized (source_named state.sources name) refl also also_sized
 source-changes (source.Remove name) state valid sized unused also also_sized =
-    gone name state valid sized (source_named state.sources name) refl also also_sized
+    removed name state valid sized also also_sized
 source-changes (source.AddJob name created) state valid sized unused also also_sized =
     with_number name created state valid sized (source_named state.sources name) refl also also_sized
 

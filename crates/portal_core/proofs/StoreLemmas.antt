@@ -5,19 +5,27 @@ use Rattle.portal_core.specs.Indexes.{IsIndexed}
 use Rattle.portal_base.specs.declared.caller.Caller.{Caller}
 use Rattle.portal_base.specs.declared.caller.Caller.TheVariants.{Anonymous, Named}
 use Rattle.portal_calls.specs.declared.call.Call.{Call}
+use Rattle.harvest_sources.specs.declared.step.Step.{Step}
 use Rattle.portal_keeper.specs.Changed.{rows_after}
 use Rattle.portal_keeper.specs.Keeping.{ChangesRows, KeepsRows, Shows}
 use Rattle.portal_keeper.specs.declared.change.Change.{Change}
+use Rattle.portal_keeper.specs.declared.change.KeepFault.{KeepFault}
+use Rattle.portal_keeper.specs.declared.change.KeepFault.TheVariants.{Failed, OutOfMemory}
 use Rattle.portal_keeper.specs.declared.row.KeptRow.{KeptRow}
 use Rattle.portal_core.specs.Changed.{AreUnused, changed, charge_of, charged, with_charge, with_planned}
+use Rattle.portal_core.specs.Faults.{act_fault}
 use Rattle.portal_core.specs.Fit.{IsFit}
+use Rattle.portal_core.specs.Harvest.{state_after_step}
 use Rattle.portal_core.specs.KeptRows.{IsSized, kept_rows}
 use Rattle.portal_core.specs.Parts.{IsConsistent, planned_in, state_of, with_prepared}
 use Rattle.portal_core.specs.Planned.{Datasets, People, PlannedChange, Sources, Tables, claims_of}
 use Rattle.portal_core.specs.PortalValue.{AreKept}
-use Rattle.portal_core.specs.RowChanges.{planned_row_changes}
+use Rattle.portal_core.specs.RowChanges.{planned_row_changes, step_row_changes}
 use Rattle.portal_core.specs.State.{State}
+use Rattle.portal_core.specs.Valid.{IsValid}
 use Rattle.portal_core.specs.View.{view_of}
+use Rattle.portal_core.specs.declared.act_fault.ActFault.{ActFault}
+use Rattle.portal_core.specs.declared.act_fault.ActFault.TheVariants.{Keeper}
 use Rattle.portal_core.specs.declared.parts.Parts.{Parts}
 use Rattle.portal_core.specs.declared.parts.Prepared.{Prepared}
 use Rattle.portal_core.specs.declared.quota.QuotaUsed.{QuotaUsed}
@@ -25,6 +33,8 @@ use Rattle.portal_core.proofs.AcceptedChanges.{charged-rows}
 use Rattle.portal_core.proofs.Keeping.{fit_in_valid}
 use Rattle.portal_core.proofs.PlannedRows.{planned-follow}
 use Rattle.portal_core.proofs.Settling.{applied_consistent, kept_consistent}
+use Rattle.portal_core.proofs.StepKeeping.{stepped_valid}
+use Rattle.portal_core.proofs.StepRows.{step-follow}
 
 -- ---- a keeper's rows
 
@@ -61,6 +71,22 @@ decided_kept rows old new kept same shelf indexes =
     same_kept rows old new kept same
     (subst (λ (s : ShelfState). IsIndexed s new.indexes) (sym shelf)
     (subst (IsIndexed old.shelf) (sym indexes) kept.consistent.shelved))
+
+-- Only a keeper that failed gives the fault of a keeper.
+pub failed_fault : (fault : KeepFault) (given : ActFault) → given ≡ act_fault fault → given ≡ Keeper → fault ≡ Failed
+failed_fault Failed given is keeper = refl
+failed_fault OutOfMemory given is keeper = absurd (cc)
+
+-- Parts that make up the same state are kept where the keeper left the rows.
+pub unmade_kept : (old new : Option (List KeptRow)) (before after : Parts) → AreKept old before
+    → state_of after ≡ state_of before → IsIndexed after.shelf after.indexes → KeepsRows old new → AreKept new after
+unmade_kept old new before after kept same shelved rows =
+    let there = same_kept old before after kept same shelved in
+    record {
+      consistent = there.consistent;
+      sized = there.sized;
+      kept = shown_kept old new (kept_rows (state_of after)) there.kept rows;
+    }
 
 -- What is fit on the caller's view is fit on the state.
 pub fit_there : (planned : PlannedChange) (call : Call) (parts : Parts) → IsConsistent parts
@@ -126,3 +152,21 @@ applied_kept planned call before after old new kept fit unused sized is shelved 
         by : (caller : Caller) → IsSized (charged caller call.size (changed planned state))
         by Anonymous = sized
         by (Named user) = record { tables = sized.tables; next_jobs = sized.next_jobs }
+
+-- Where the keeper made the changes of rows of a step of a harvest, and the parts the step, they are kept again.
+pub stepped_kept : (step : Step) (before after : Parts) (old new : Option (List KeptRow)) → AreKept old before
+    → IsSized (state_after_step step (state_of before)) → state_of after ≡ state_after_step step (state_of before)
+    → IsIndexed after.shelf after.indexes → ChangesRows old (step_row_changes step (state_of before)) new
+    → AreKept new after
+stepped_kept step before after old new kept sized is shelved rows =
+    let state : State = state_of before in
+    record {
+      consistent = record {
+        valid = subst IsValid (sym is) (stepped_valid step state kept.consistent.valid);
+        shelved = shelved;
+      };
+      sized = subst IsSized (sym is) sized;
+      kept = subst (λ (s : State). Shows new (kept_rows s)) (sym is)
+          (shown_changed old new (step_row_changes step state) (kept_rows state) (kept_rows (state_after_step step state))
+          kept.kept rows (step-follow step state kept.consistent.valid kept.sized sized));
+    }

@@ -1,4 +1,4 @@
--- A change whose entries a caller doesn't see is hidden from the caller.
+-- A change or a step of a harvest whose entries a caller doesn't see is hidden from the caller.
 use Rattle.std.proofs.Common.{◌≡◌, ℕ, Bool, true, false, ◌&&◌, ◌||◌, List, [], ◌∷◌, map, Option, Some, None}
 use Rattle.std.proofs.Common.{if◌then◌else◌, refl, sym, ap, ◌∙◌, subst, inl, inr, ◌⊎◌}
 use Rattle.std.specs.Prelude.{filter, find}
@@ -34,10 +34,11 @@ use Rattle.harvest_sources.specs.Entries.{changed_by as sources_changed_by, with
 use Rattle.harvest_sources.specs.Entries.{without_job}
 use Rattle.harvest_sources.specs.Sources.{SourceState, source_at, source_cmp}
 use Rattle.harvest_sources.specs.declared.source.HarvestSource.{HarvestSource}
+use Rattle.harvest_sources.specs.declared.step.Step.{Step}
 use Rattle.portal_calls.specs.declared.answer.Answer.{Answer}
 use Rattle.portal_calls.specs.declared.answer.Answer.TheVariants.{Accepted}
 use Rattle.portal_calls.specs.declared.call.Call.{Call}
-use Rattle.portal_calls.specs.declared.event.Event.TheVariants.{Call as a_call}
+use Rattle.portal_events.specs.declared.event.Event.TheVariants.{Call as a_call, Harvest as a_step}
 use Rattle.visibility.specs.View.{administers, is_called, is_role_seen}
 use Rattle.visibility.specs.Visibility.{sees_in}
 use Rattle.portal_core.specs.Change.{Change}
@@ -45,6 +46,7 @@ use Rattle.portal_core.specs.Changed.{applied, charged, is_in_use}
 use Rattle.portal_core.specs.Entries.{Entry, PutOrg, DropOrg, PutRole, DropRole, PutDataset, EditDataset}
 use Rattle.portal_core.specs.Entries.{DropDataset, PutTable, DropTable, PutRow, DropRow, OfSources, changed_by, rows_at}
 use Rattle.portal_core.specs.Entries.{state_after, table_of, with_row, without_row}
+use Rattle.portal_core.specs.Harvest.{harvest_entries}
 use Rattle.portal_core.specs.Hidden.{AreUnseen, IsEntryUnseen, IsHidden, IsHiddenBetween, IsHiddenChange, IsIdUnseen}
 use Rattle.portal_core.specs.Hidden.{IsRoleUnseen, is_caller, is_kept, source_of_entry}
 use Rattle.portal_core.specs.Known.{is_known, known_call}
@@ -643,3 +645,12 @@ unseen-hidden caller state call json change others answers unseen = record {
         (outcome_unless_in_use claim (known_call state.people call) json change state).core
     by None = applied-hidden caller call change state others unseen
     by (Some c) = unchanged-hidden caller state
+
+-- ---- a step of a harvest
+
+pub unseen-step : (caller : Caller) (state : State) (step : Step) → AreUnseen caller state (harvest_entries step state)
+    → IsHidden caller state (a_step step)
+unseen-step caller state step unseen = record {
+  others = refl;
+  between = unseen-between caller state (harvest_entries step state) unseen;
+}

@@ -1,7 +1,8 @@
 -- Entries that drop nothing beside what they name.
-use Rattle.std.specs.Prelude.{◌≡◌, List, [], ◌∷◌, Option, Some, None}
+use Rattle.std.specs.Prelude.{◌≡◌, List, [], ◌∷◌, Option, Some, None, filter}
 use Rattle.datastore_answers.specs.Tables.{tables_in}
 use Rattle.portal_base.specs.Ordered.{found}
+use Rattle.harvest_results.specs.Effects.{is_of_source}
 use Rattle.harvest_sources.specs.Entries.{SourceEntry, PutSource, DropSource, PutJob, DropJob, PutListing}
 use Rattle.harvest_sources.specs.Sources.{SourceState, source_at}
 use Rattle.harvest_sources.specs.declared.job.Job.{Job}
@@ -16,16 +17,17 @@ abbrev pub jobs_if : Option SourceState → List Job
 jobs_if None = []
 jobs_if (Some s) = s.jobs
 
--- A source that the entry drops has no jobs.
-abbrev pub DropsSourceAlone : SourceEntry → List SourceState → Type 0
-DropsSourceAlone (DropSource name) sources = jobs_if (found (source_at name) sources) ≡ []
-DropsSourceAlone (PutSource source) sources = Unit {0}
-DropsSourceAlone (PutJob job) sources = Unit {0}
-DropsSourceAlone (DropJob name number) sources = Unit {0}
-DropsSourceAlone (PutListing name listing) sources = Unit {0}
+-- A source that the entry drops has no jobs and no datasets.
+abbrev pub DropsSourceAlone : SourceEntry → State → Type 0
+DropsSourceAlone (DropSource name) state =
+    (jobs_if (found (source_at name) state.sources) ≡ []) × (filter (is_of_source name) state.datasets ≡ [])
+DropsSourceAlone (PutSource source) state = Unit {0}
+DropsSourceAlone (PutJob job) state = Unit {0}
+DropsSourceAlone (DropJob name number) state = Unit {0}
+DropsSourceAlone (PutListing name listing) state = Unit {0}
 
 -- What the entry drops has nothing in it: an organization no roles, a dataset no tables, a table no rows, and a source no
--- jobs.
+-- jobs and no datasets.
 abbrev pub DropsAlone : Entry → State → Type 0
 DropsAlone (DropOrg name) state = roles_in name state.people.roles ≡ []
 DropsAlone (DropDataset id) state = tables_in id state.tables ≡ []
@@ -38,7 +40,7 @@ DropsAlone (EditDataset id edit) state = Unit {0}
 DropsAlone (PutTable head) state = Unit {0}
 DropsAlone (PutRow address row) state = Unit {0}
 DropsAlone (DropRow address id) state = Unit {0}
-DropsAlone (OfSources entry) state = DropsSourceAlone entry state.sources
+DropsAlone (OfSources entry) state = DropsSourceAlone entry state
 
 -- That holds of each of the entries, in the state after those before it.
 abbrev pub AllDropAlone : List Entry → State → Type 0

@@ -1,5 +1,5 @@
 -- The state after a change, with its charge. And what it means that a name or an id that a change claims is in use.
-use Rattle.std.specs.Prelude.{◌≡◌, ℕ, List, [], ◌+◌, codes, Bool, is_some, Option, Some, None, find}
+use Rattle.std.specs.Prelude.{◌≡◌, ℕ, List, [], ◌+◌, codes, Bool, not, is_some, Option, Some, None, filter, find}
 use Rattle.portal_base.specs.Ordered.{upserted}
 use Rattle.portal_base.specs.declared.caller.Caller.{Caller}
 use Rattle.portal_base.specs.declared.caller.Caller.TheVariants.{Anonymous, Named}
@@ -11,8 +11,12 @@ use Rattle.dataset_answers.specs.declared.change.DatasetChange.TheVariants as da
 use Rattle.datastore_answers.specs.Changed.{changed_tables}
 use Rattle.datastore_answers.specs.Tables.{tables_kept}
 use Rattle.datastore_answers.specs.declared.resource_table.ResourceTable.{ResourceTable}
+use Rattle.harvest_results.specs.Effects.{is_of_source}
 use Rattle.harvest_sources.specs.Entries.{changed_sources}
 use Rattle.harvest_sources.specs.Sources.{source_named}
+use Rattle.harvest_sources.specs.declared.change.SourceChange.{SourceChange}
+use Rattle.harvest_sources.specs.declared.change.SourceChange.TheVariants as source
+use Rattle.packages.specs.declared.package.Package.{Package}
 use Rattle.portal_calls.specs.declared.call.Call.{Call}
 use Rattle.portal_core.specs.Change.{Change}
 use Rattle.portal_core.specs.Entries.{state_after}
@@ -77,6 +81,13 @@ tables_left (dataset.Create d) tables = tables
 tables_left (dataset.Replace d) tables = tables_kept d.id d.resources tables
 tables_left (dataset.Remove id) tables = tables_kept id [] tables
 
+-- The datasets after a change of sources: those of a source that goes go with it.
+abbrev pub datasets_left : SourceChange → List Package → List Package
+datasets_left (source.Create new) datasets = datasets
+datasets_left (source.Update name title url) datasets = datasets
+datasets_left (source.Remove name) datasets = filter (λ d. not (is_of_source name d)) datasets
+datasets_left (source.AddJob name created) datasets = datasets
+
 -- The state after the planned change, as the parts of the portal make it. A law says that its entries make it too.
 abbrev pub changed : PlannedChange → State → State
 changed (People change) state = record state { people = changed_people change state.people }
@@ -85,7 +96,10 @@ changed (Datasets change) state = record state {
   tables = tables_left change state.tables;
 }
 changed (Tables change) state = record state { tables = changed_tables change state.tables }
-changed (Sources change) state = record state { sources = changed_sources change state.sources }
+changed (Sources change) state = record state {
+  datasets = datasets_left change state.datasets;
+  sources = changed_sources change state.sources;
+}
 
 -- the same, with the call's size charged for it
 abbrev pub with_planned : Call → PlannedChange → State → State

@@ -1,8 +1,10 @@
--- The changes of rows for a change of people, of datasets, of tables or of sources, in terms of the lists that it changes.
+-- The changes of rows for a change of people, of datasets, of tables or of sources, and for a step of a harvest, in terms of
+-- the lists that it changes.
 use Rattle.std.specs.Prelude.{◌<◌, ◌^◌, ℕ, List, [], ◌∷◌, ◌++◌, All, map, Option, Some, None, is_some, option_map}
 use Rattle.std.specs.Prelude.{if◌then◌else◌, ◌+◌, ℤ, IfSome}
 use Rattle.std.specs.Cmp.{nat_cmp_total}
 use Rattle.std.specs.List.{flat_map}
+use Rattle.std.specs.Option.{option_map_or}
 use Rattle.dataset_answers.specs.Changed.{dataset_at_id}
 use Rattle.dataset_answers.specs.declared.change.DatasetChange.{DatasetChange}
 use Rattle.dataset_answers.specs.declared.change.DatasetChange.TheVariants as dataset
@@ -16,12 +18,15 @@ use Rattle.datastore_table.specs.Batch.{AreThoseOf, Written}
 use Rattle.datastore_table.specs.Rows.{row_cmp}
 use Rattle.datastore_table.specs.declared.row.Row.{Row}
 use Rattle.harvest_rows.specs.Rows.{job_row, source_row}
-use Rattle.harvest_sources.specs.Jobs.{id_of_job, new_job}
-use Rattle.harvest_sources.specs.Sources.{SourceState, source_named}
+use Rattle.harvest_sources.specs.Jobs.{id_of_job, new_job, with_report}
+use Rattle.harvest_sources.specs.Sources.{SourceState, open_job, source_named}
 use Rattle.harvest_sources.specs.declared.change.SourceChange.{SourceChange}
 use Rattle.harvest_sources.specs.declared.change.SourceChange.TheVariants as source
 use Rattle.harvest_sources.specs.declared.job.Job.{Job}
+use Rattle.harvest_sources.specs.declared.job.SourceReport.{SourceReport}
 use Rattle.harvest_sources.specs.declared.source.HarvestSource.{HarvestSource}
+use Rattle.harvest_sources.specs.declared.step.StepReply.{StepReply}
+use Rattle.harvest_sources.specs.declared.step.StepReply.TheVariants.{Started, Gather, Object, Nothing, Done, Ended, Already}
 use Rattle.harvest_stages.specs.Stages.{sources_in}
 use Rattle.org_roles.specs.Changed.{with_org, with_role, without_role}
 use Rattle.org_roles.specs.PeopleLists.{PeopleLists, org_in}
@@ -33,6 +38,7 @@ use Rattle.packages.specs.Shelf.{datasets_of}
 use Rattle.packages.specs.declared.package.Package.{Package}
 use Rattle.packages.specs.declared.package.Resource.{Resource}
 use Rattle.portal_base.specs.Ordered.{IsAscending, IsKey, IsKey-field, IsMonotone, IsMonotone-field, found}
+use Rattle.portal_core.specs.EntriesOf.{datasets_gone}
 use Rattle.portal_core.specs.Entries.{row_at_id}
 use Rattle.portal_core.specs.KeptRows.{dataset_row, resource_id, row_targets, table_rows}
 use Rattle.portal_core.specs.RowChanges.{is_body}
@@ -222,7 +228,7 @@ abbrev pub changes_if_source : (SourceState → List Change) → Option SourceSt
 changes_if_source changes None = []
 changes_if_source changes (Some s) = changes s
 
--- the changes of rows for a change of these sources
+-- the changes of the rows of sources and jobs for a change of these sources
 abbrev pub changes_of_sources : SourceChange → List SourceState → List Change
 changes_of_sources (source.Create new) sources = Put (source_row new) ∷ []
 changes_of_sources (source.Update name title url) sources =
@@ -230,6 +236,16 @@ changes_of_sources (source.Update name title url) sources =
 changes_of_sources (source.Remove name) sources = changes_if_source removals_of_source (source_named sources name)
 changes_of_sources (source.AddJob name created) sources =
     changes_if_source (changes_of_new_job created) (source_named sources name)
+
+-- the row of a dataset goes
+abbrev pub removal_of_dataset : Package → Change
+removal_of_dataset d = Remove kind.Set d.id
+
+-- The changes of rows for a change of these sources: the rows of the datasets that go with a source, and those of sources
+-- and jobs.
+abbrev pub changes_of_harvests : SourceChange → List SourceState → List Package → List Change
+changes_of_harvests change sources datasets =
+    map removal_of_dataset (datasets_gone change datasets) ++ changes_of_sources change sources
 
 -- What the type of its number says: the number of the next job is a `u64` after a new job too.
 abbrev pub IsTypedSourceChange : SourceChange → List SourceState → Type 0
@@ -239,6 +255,45 @@ IsTypedSourceChange (source.Remove name) sources = Unit {0}
 IsTypedSourceChange (source.AddJob name created) sources =
     IfSome (source_named sources name) (λ s. s.source.next_job + 1 < 2 ^ 64)
 
+-- ---- steps of harvests
+
+-- what changes in the row of a dataset that is put among these
+abbrev pub changes_of_put : Option Package → List Package → List Change
+changes_of_put None datasets = []
+changes_of_put (Some d) datasets =
+    changes_between kind.Set d.id (dataset_body d.id datasets) (Some (row_text d))
+
+-- the row of the dataset with this id goes
+abbrev pub removal_at_id : List ℕ → Change
+removal_at_id id = Remove kind.Set id
+
+-- what changes in the row of a job that gets this report
+abbrev pub changes_of_report : SourceReport → Job → List Change
+changes_of_report report job =
+    changes_between kind.Job (id_of_job job) (Some (job_row job).body) (Some (job_row (with_report report job)).body)
+
+-- the same for the open job of the source, if both are there
+abbrev pub changes_if_open : SourceReport → Option SourceState → List Change
+changes_if_open report None = []
+changes_if_open report (Some s) = option_map_or (changes_of_report report) (open_job s) []
+
+-- What changes in the rows of jobs by a step with this answer, given the sources before it: a job that ends gets its report.
+-- A job that begins is kept as a new one.
+abbrev pub changes_of_reply : StepReply → List SourceState → List Change
+changes_of_reply (Started jobs) sources = []
+changes_of_reply (Gather job url) sources = []
+changes_of_reply (Object job item) sources = []
+changes_of_reply Nothing sources = []
+changes_of_reply Done sources = []
+changes_of_reply (Ended report) sources = changes_if_open report (source_named sources report.source)
+changes_of_reply Already sources = []
+
+-- The changes of rows for a step with this answer, which puts this dataset and drops those with these ids, given the sources
+-- and the datasets before it.
+abbrev pub changes_of_step : Option Package → List (List ℕ) → StepReply → List SourceState → List Package → List Change
+changes_of_step put gone reply sources datasets =
+    changes_of_put put datasets ++ map removal_at_id gone ++ changes_of_reply reply sources
+
 -- ---- all plans
 
 -- the changes of rows for a plan on these parts
@@ -247,7 +302,8 @@ changes_of_plan (portal.People change) parts = changes_of_people change parts.pe
 changes_of_plan (portal.Datasets change) parts =
     changes_of_datasets change (datasets_of parts.shelf) parts.tables.tables
 changes_of_plan (portal.Tables change) parts = changes_of_tables change parts.tables.tables
-changes_of_plan (portal.Sources change) parts = changes_of_sources change (sources_in parts.sources)
+changes_of_plan (portal.Sources change) parts =
+    changes_of_harvests change (sources_in parts.sources) (datasets_of parts.shelf)
 
 -- what the types of what a plan says of tables and of sources say
 abbrev pub IsTypedPlan : Plan → Parts → Type 0

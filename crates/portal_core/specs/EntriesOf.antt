@@ -1,5 +1,6 @@
 -- The entries of a planned change, given the view of its caller. What goes with something else is written out: the roles in an
--- organization that goes, the tables of resources that go, and the rows of a table that goes.
+-- organization that goes, the tables of resources that go, the rows of a table that goes, and the datasets and the jobs of
+-- a source that goes.
 use Rattle.std.specs.Prelude.{ℕ, List, [], ◌∷◌, ◌++◌, map, filter, Bool, ◌&&◌, not, Option, Some, None, Result, Ok, Err}
 use Rattle.std.specs.List.{flat_map}
 use Rattle.std.specs.Str.{bytes_eq}
@@ -13,6 +14,7 @@ use Rattle.datastore_table.specs.declared.row.Row.{Row}
 use Rattle.org_roles.specs.declared.change.OrgChange.{OrgChange}
 use Rattle.org_roles.specs.declared.change.OrgChange.TheVariants as org
 use Rattle.org_roles.specs.declared.entry.Membership.{Membership}
+use Rattle.packages.specs.declared.package.Package.{Package}
 use Rattle.packages.specs.declared.package.Resource.{Resource}
 use Rattle.visibility.specs.TableSummary.{is_among}
 use Rattle.dataset_answers.specs.Edits.{edit_of}
@@ -22,9 +24,11 @@ use Rattle.datastore_answers.specs.Changed.{TableChange}
 use Rattle.datastore_answers.specs.Changed as table
 use Rattle.datastore_answers.specs.Order.{at_address}
 use Rattle.datastore_answers.specs.declared.resource_table.ResourceTable.{ResourceTable}
+use Rattle.harvest_results.specs.Effects.{is_of_source}
 use Rattle.harvest_sources.specs.Entries.{entries_of_change}
 use Rattle.harvest_sources.specs.Sources.{SourceState}
 use Rattle.harvest_sources.specs.declared.change.SourceChange.{SourceChange}
+use Rattle.harvest_sources.specs.declared.change.SourceChange.TheVariants as source
 use Rattle.portal_core.specs.Entries.{TableHead, Entry, PutOrg, DropOrg, PutRole, DropRole, PutDataset, EditDataset}
 use Rattle.portal_core.specs.Entries.{DropDataset, PutTable, DropTable, PutRow, DropRow, OfSources}
 
@@ -113,6 +117,17 @@ entries_of_tables (table.DeleteRows address ids) tables = map (DropRow address) 
 
 -- ---- sources and jobs
 
--- the entries of a change of sources, among these sources
-abbrev pub entries_of_sources : SourceChange → List SourceState → List Entry
-entries_of_sources change sources = map OfSources (entries_of_change change sources)
+abbrev pub drop_of_dataset : Package → Entry
+drop_of_dataset d = DropDataset d.id
+
+-- of these datasets, those that go with a change of sources: those of a source that goes
+abbrev pub datasets_gone : SourceChange → List Package → List Package
+datasets_gone (source.Create new) datasets = []
+datasets_gone (source.Update name title url) datasets = []
+datasets_gone (source.Remove name) datasets = filter (is_of_source name) datasets
+datasets_gone (source.AddJob name created) datasets = []
+
+-- the entries of a change of sources, among these sources and datasets
+abbrev pub entries_of_sources : SourceChange → List SourceState → List Package → List Entry
+entries_of_sources change sources datasets =
+    map drop_of_dataset (datasets_gone change datasets) ++ map OfSources (entries_of_change change sources)

@@ -16,8 +16,8 @@ use Rattle.portal_core.specs.Entries.{DropDataset, PutTable, DropTable, PutRow, 
 use Rattle.portal_core.specs.State.{State}
 use Rattle.portal_core.specs.Step.{step_of}
 use Rattle.portal_core.specs.View.{is_own_quota, is_table_seen}
-use Rattle.portal_calls.specs.declared.event.Event.{Event}
-use Rattle.portal_calls.specs.declared.event.Event.TheVariants.{Call as a_call}
+use Rattle.portal_events.specs.declared.event.Event.{Event}
+use Rattle.portal_events.specs.declared.event.Event.TheVariants.{Call as a_call, Harvest as a_step}
 
 -- the two callers are one
 abbrev pub is_caller : Caller → Caller → Bool
@@ -29,6 +29,7 @@ is_caller (Named user) (Named other) = bytes_eq user other
 -- the event is a call of the caller
 abbrev pub is_call_of : Caller → Event → Bool
 is_call_of caller (a_call call) = is_caller caller call.caller
+is_call_of caller (a_step step) = false
 
 -- Each item that is kept of the list before is in it after, and each item that is kept of it after was in it before. So
 -- each item that was added, changed or removed is kept neither before nor after.

@@ -3,12 +3,12 @@ use Rattle.std.specs.Prelude.{◌≡◌, Bool, true, false, not, cond, List, [],
 use Rattle.std.specs.List.{list_all}
 use Rattle.portal_base.specs.declared.caller.Caller.{Caller}
 use Rattle.portal_core.specs.Hidden.{is_call_of, IsHidden}
-use Rattle.portal_calls.specs.Reply.{is_name_in_use}
+use Rattle.portal_events.specs.Reply.{is_name_in_use}
 use Rattle.portal_core.specs.State.{State}
 use Rattle.portal_core.specs.Step.{Outcome, step_of}
 use Rattle.portal_core.specs.View.{view_of}
-use Rattle.portal_calls.specs.declared.event.Event.{Event}
-use Rattle.portal_calls.specs.declared.event.Reply.{Reply}
+use Rattle.portal_events.specs.declared.event.Event.{Event}
+use Rattle.portal_events.specs.declared.event.Reply.{Reply}
 
 -- the caller's own calls among the events, in their order
 abbrev pub calls_of : Caller → List Event → List Event

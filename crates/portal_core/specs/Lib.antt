@@ -7,6 +7,8 @@ pub mod Entries
 pub mod EntriesOf
 pub mod Faults
 pub mod Fit
+pub mod Harvest
+pub mod HarvestHistory
 pub mod Hidden
 pub mod History
 pub mod Indexes
@@ -25,6 +27,7 @@ pub mod Search
 pub mod SearchBody
 pub mod State
 pub mod Step
+pub mod Stepped
 pub mod Typed
 pub mod Valid
 pub mod Values

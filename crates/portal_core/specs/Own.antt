@@ -1,5 +1,5 @@
 -- The entries that a caller has the right to make, on the caller's view.
-use Rattle.std.specs.Prelude.{◌≡◌, ℕ, true, List}
+use Rattle.std.specs.Prelude.{◌≡◌, ◌⊎◌, ℕ, true, List}
 use Rattle.std.specs.List.{Contains}
 use Rattle.org_roles.specs.PeopleLists.{is_sysadmin_in}
 use Rattle.harvest_sources.specs.Entries.{SourceEntry, PutSource, DropSource, PutJob, DropJob, PutListing}
@@ -26,6 +26,13 @@ pub record IsOwnSource (caller : Caller) (view : State) (sought : List ℕ) : Ty
   pub name : source.source.name ≡ sought
   pub own : administers view.people caller source.source.owner_org ≡ true
 
+-- a dataset of that id is in the view, and the caller administers the organization of the source that it was harvested from
+pub record IsOwnHarvested (caller : Caller) (view : State) (sought : List ℕ) : Type 0 where
+  pub dataset : Package
+  pub is_present : Contains view.datasets dataset
+  pub id : dataset.id ≡ sought
+  pub source : IsOwnSource caller view dataset.source
+
 -- The caller administers the organization of the source that is put, or that of the source that is there.
 abbrev pub IsOwnSourceEntry : Caller → State → SourceEntry → Type 0
 IsOwnSourceEntry caller view (PutSource source) = administers view.people caller source.owner_org ≡ true
@@ -35,7 +42,8 @@ IsOwnSourceEntry caller view (DropJob name number) = IsOwnSource caller view nam
 IsOwnSourceEntry caller view (PutListing name listing) = IsOwnSource caller view name
 
 -- The caller has the right to make the entry: it administers the organization; may edit the new dataset, or the dataset that
--- is edited or has the table; only a sysadmin drops a dataset; and the caller administers the organization of a source.
+-- is edited or has the table; only a sysadmin drops a dataset, unless it goes with its source; and the caller administers
+-- the organization of a source.
 abbrev pub IsOwnEntry : Caller → State → Entry → Type 0
 IsOwnEntry caller view (PutOrg org) = administers view.people caller org.name ≡ true
 IsOwnEntry caller view (DropOrg name) = administers view.people caller name ≡ true
@@ -43,7 +51,8 @@ IsOwnEntry caller view (PutRole role) = administers view.people caller role.org 
 IsOwnEntry caller view (DropRole org user) = administers view.people caller org ≡ true
 IsOwnEntry caller view (PutDataset dataset) = may_edit_in view.people caller dataset ≡ true
 IsOwnEntry caller view (EditDataset id edit) = IsOwnDataset caller view id
-IsOwnEntry caller view (DropDataset id) = is_sysadmin_in view.people caller ≡ true
+IsOwnEntry caller view (DropDataset id) =
+    (is_sysadmin_in view.people caller ≡ true) ⊎ IsOwnHarvested caller view id
 IsOwnEntry caller view (PutTable head) = IsOwnDataset caller view head.address.dataset
 IsOwnEntry caller view (DropTable address) = IsOwnDataset caller view address.dataset
 IsOwnEntry caller view (PutRow address row) = IsOwnDataset caller view address.dataset

@@ -1,8 +1,9 @@
 -- The portal's parts, and changes that are prepared on them.
-use Rattle.std.specs.Prelude.{◌≡◌, ℕ, ⊤, IsTrue, List, Option, Some, None, is_none}
+use Rattle.std.specs.Prelude.{◌≡◌, ◌⊎◌, ℕ, ⊤, IsTrue, List, Option, Some, None, is_none, map}
 use Rattle.std.specs.Option.{option_map}
 use Rattle.org_roles.specs.Changed.{IsReady, org_fault}
 use Rattle.packages.specs.Shelf.{ShelfState, package_at, number_in, datasets_of}
+use Rattle.packages.specs.Tags.{text_set}
 use Rattle.packages.specs.declared.package.Package.{Package}
 use Rattle.dataset_answers.specs.Sound.{IsSound}
 use Rattle.harvest_sources.specs.Sources.{SourceState}
@@ -13,6 +14,7 @@ use Rattle.harvest_sources.specs.Entries.{source_fault}
 use Rattle.harvest_stages.specs.Ready as stages
 use Rattle.harvest_stages.specs.Stages.{sources_in}
 use Rattle.portal_core.specs.Changed.{changed, with_charge}
+use Rattle.portal_core.specs.EntriesOf.{datasets_gone}
 use Rattle.portal_core.specs.Indexes.{IsIndexed, IsReadyIn}
 use Rattle.portal_core.specs.Planned.{PlannedChange}
 use Rattle.portal_core.specs.State.{State}
@@ -72,6 +74,10 @@ pub record IsOnShelfAs (shelf : ShelfState) (dataset : Package) : Type 0 where
   pub on_shelf : IsOnShelf shelf dataset.id
   pub name : option_map (λ d. d.name) (package_at on_shelf.number shelf) ≡ Some dataset.name
 
+-- the shelf has the dataset of that id so, or no dataset has it, as id or as name
+abbrev pub IsPlaced : List ℕ → ShelfState → Type 0
+IsPlaced id shelf = IsOnShelf shelf id ⊎ (number_in id shelf ≡ None)
+
 -- the shelf can take the change
 abbrev pub IsTakenBy : DatasetChange → ShelfState → Type 0
 IsTakenBy (dataset.Create d) shelf = IsFree shelf d
@@ -109,7 +115,7 @@ planned_in (Put prepared) = planned.Datasets (dataset.Create prepared.dataset)
 planned_in (Replace prepared) = planned.Datasets (dataset.Replace prepared.dataset)
 planned_in (Remove number id) = planned.Datasets (dataset.Remove id)
 planned_in (Tables change) = planned.Tables (table.change_of change)
-planned_in (Sources prepared) = planned.Sources prepared.change
+planned_in (Sources prepared gone) = planned.Sources prepared.change
 
 -- the state after the prepared change, with its charge
 abbrev pub with_prepared : Prepared → State → State
@@ -126,6 +132,22 @@ pub record IsReplaceReady (shelf : ShelfState) (number : ℕ) (dataset : Package
   pub id : option_map (λ d. d.id) (package_at number shelf) ≡ Some dataset.id
   pub name : option_map (λ d. d.name) (package_at number shelf) ≡ Some dataset.name
 
+-- the ids of the datasets that go with a change of sources
+abbrev pub ids_gone : SourceChange → List Package → List (List ℕ)
+ids_gone change datasets = map (λ d. d.id) (datasets_gone change datasets)
+
+-- The names of the datasets that go with a change of sources, in order, are their ids.
+abbrev pub AreGoneByName : SourceChange → List Package → Type 0
+AreGoneByName change datasets =
+    text_set (map (λ d. d.name) (datasets_gone change datasets)) ≡ ids_gone change datasets
+
+-- That holds of a change of sources.
+abbrev pub GoesByName : PlannedChange → List Package → Type 0
+GoesByName (planned.People change) datasets = ⊤
+GoesByName (planned.Datasets change) datasets = ⊤
+GoesByName (planned.Tables change) datasets = ⊤
+GoesByName (planned.Sources change) datasets = AreGoneByName change datasets
+
 -- there is room for the change
 abbrev pub IsChangeReady : PreparedChange → Parts → Type 0
 IsChangeReady (People change) parts = IsReady change parts.people
@@ -134,7 +156,8 @@ IsChangeReady (Replace prepared) parts =
     IsReplaceReady parts.shelf prepared.number prepared.dataset × IsReadyIn prepared parts.indexes
 IsChangeReady (Remove number id) parts = option_map (λ d. d.id) (package_at number parts.shelf) ≡ Some id
 IsChangeReady (Tables change) parts = table.IsReadyPlan change parts.tables
-IsChangeReady (Sources prepared) parts = stages.IsReady prepared parts.sources
+IsChangeReady (Sources prepared gone) parts =
+    stages.IsReady prepared parts.sources × (gone ≡ ids_gone prepared.change (datasets_of parts.shelf))
 
 -- there is room for what is charged
 abbrev pub IsChargeReady : Option QuotaUsed → Parts → Type 0

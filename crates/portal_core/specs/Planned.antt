@@ -66,7 +66,7 @@ abbrev pub entries_of : PlannedChange → State → List Entry
 entries_of (People change) view = entries_of_people change view.people.roles
 entries_of (Datasets change) view = entries_of_datasets change view.tables
 entries_of (Tables change) view = entries_of_tables change view.tables
-entries_of (Sources change) view = entries_of_sources change view.sources
+entries_of (Sources change) view = entries_of_sources change view.sources view.datasets
 
 -- the planned change, written out on its caller's view
 abbrev pub change_of : PlannedChange → State → Change

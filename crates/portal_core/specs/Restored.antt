@@ -1,26 +1,32 @@
 -- The parts of a state that are read back from the values that a store keeps of it: what has to hold of each part, so
 -- that the state is valid and has these values.
-use Rattle.std.specs.Prelude.{◌≡◌, ◌≢◌, ◌<◌, ◌≤◌, ◌^◌, ◌==◌, ℕ, true, List, [], All, if◌then◌else◌, map}
+use Rattle.std.specs.Prelude.{◌≡◌, ◌≢◌, ◌<◌, ◌≤◌, ◌^◌, ◌==◌, ℕ, true, false, List, [], All, if◌then◌else◌, map}
 use Rattle.std.specs.List.{Contains}
+use Rattle.std.specs.Cmp.Lexicographic.{slice_cmp}
+use Rattle.std.specs.Ordering.{nat_cmp}
 use Rattle.org_roles.specs.PeopleLists.{AreSorted, PeopleLists, RolesHaveOrgs}
 use Rattle.packages.specs.declared.package.Package.{Package}
-use Rattle.portal_base.specs.Ordered.{ascending}
+use Rattle.packages.specs.Numbered.{AreNumbered}
+use Rattle.portal_base.specs.Ordered.{IsAscending, ascending}
 use Rattle.portal_rows.specs.KeptValues.{kept_table_cmp}
 use Rattle.portal_rows.specs.declared.kept_tables.KeptTable.{KeptTable}
 use Rattle.portal_rows.specs.declared.org_reading.OrgWithRoles.{OrgWithRoles}
-use Rattle.dataset_answers.specs.Sound.{IsSound, OrgExists}
+use Rattle.dataset_answers.specs.Sound.{OrgExists}
 use Rattle.harvest_rows.specs.KeptHarvests.{kept_job_cmp}
 use Rattle.harvest_rows.specs.declared.kept_harvests.KeptHarvests.{KeptHarvests}
+use Rattle.harvest_results.specs.Results.{IsOwn}
 use Rattle.harvest_sources.specs.Sources.{AreSources, SourceState}
+use Rattle.harvest_sources.specs.declared.source.HarvestSource.{HarvestSource}
 use Rattle.harvest_stages.specs.AtRest.{IsAtRest, all_jobs, bare_sources}
 use Rattle.datastore_answers.specs.Consistent.{AreConsistent}
 use Rattle.datastore_answers.specs.declared.address.Address.{Address}
 use Rattle.datastore_answers.specs.declared.resource_table.ResourceTable.{ResourceTable}
 use Rattle.datastore_table.specs.Meets.{IsTable}
 use Rattle.visibility.specs.TableSummary.{is_among}
+use Rattle.visibility.specs.Visibility.{is_harvested, is_public}
 use Rattle.portal_core.specs.KeptRows.{AreSized, resource_id}
 use Rattle.portal_core.specs.Typed.{IsTypedSource}
-use Rattle.portal_core.specs.Valid.{HasHome}
+use Rattle.portal_core.specs.Valid.{HasHome, IsSoundAmong}
 use Rattle.portal_core.specs.Values.{kept_table, with_roles}
 
 -- ---- people
@@ -34,20 +40,27 @@ pub record ArePeopleOf (kept : List OrgWithRoles) (people : PeopleLists) : Type 
 
 -- ---- datasets
 
--- Datasets that may stand on one shelf, given the people: each is sound, and no two have one name.
-pub record AreShelvable (people : PeopleLists) (datasets : List Package) : Type 0 where
-  pub sound : All (IsSound people) datasets
+-- what has to hold of a harvested dataset of the source
+abbrev pub IsHarvestOf : HarvestSource → Package → Type 0
+IsHarvestOf source d =
+    IsOwn source d × (is_public d ≡ true) × AreNumbered d × IsAscending (slice_cmp nat_cmp) d.tags
+
+-- Datasets that may stand on one shelf, given the people and the sources of harvests: each is sound, and no two have one
+-- name.
+pub record AreShelvable (people : PeopleLists) (sources : List SourceState) (datasets : List Package) : Type 0 where
+  pub sound : All (IsSoundAmong people sources) datasets
   pub names : (d e : Package) → Contains datasets d → Contains datasets e → d.name ≡ e.name → d ≡ e
 
 -- ---- tables
 
--- The address of an existing resource that has this id.
+-- The address of an existing resource that has this id. Its dataset wasn't harvested.
 pub record IsAddressOf (datasets : List Package) (id : List ℕ) (address : Address) : Type 0 where
   pub same : resource_id address ≡ id
   pub number : address.number < 2 ^ 32
   pub dataset : Package
   pub is_present : Contains datasets dataset
   pub own : dataset.id ≡ address.dataset
+  pub made : is_harvested dataset ≡ false
   pub resource : is_among dataset.resources address.number ≡ true
 
 -- the number of a referenced resource, where the table's own number is the first one and a row has the second

@@ -3,9 +3,11 @@ use Rattle.std.specs.Prelude.{ℕ, Bool, false, not, List, Option, Some, None, f
 use Rattle.std.specs.Str.{bytes_eq}
 use Rattle.harvest_sources.specs.Entries.{SourceEntry, PutSource, DropSource, PutJob, DropJob, PutListing}
 use Rattle.harvest_sources.specs.Jobs.{id_of_job, job_id}
+use Rattle.harvest_sources.specs.declared.step.Step.{Step}
 use Rattle.portal_core.specs.Entries.{Entry, PutOrg, DropOrg, PutRole, DropRole, PutDataset, EditDataset}
 use Rattle.portal_core.specs.Entries.{DropDataset, PutTable, DropTable, PutRow, DropRow, OfSources}
 use Rattle.portal_core.specs.Changed.{changed}
+use Rattle.portal_core.specs.Harvest.{state_after_step, harvest_entries}
 use Rattle.portal_core.specs.Planned.{PlannedChange, entries_of}
 use Rattle.portal_core.specs.State.{State}
 use Rattle.portal_keeper.specs.Rows.{body_at}
@@ -82,3 +84,10 @@ effective_changes rows changes = filter (is_effective rows) changes
 abbrev pub planned_row_changes : PlannedChange → State → List Change
 planned_row_changes planned state =
     effective_changes (kept_rows state) (row_changes (entries_of planned state) (changed planned state))
+
+-- ---- the changes for a step of a harvest
+
+-- the changes of rows for a step of a harvest, given the state before it: those of its entries that change something
+abbrev pub step_row_changes : Step → State → List Change
+step_row_changes step state =
+    effective_changes (kept_rows state) (row_changes (harvest_entries step state) (state_after_step step state))

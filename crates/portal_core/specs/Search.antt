@@ -12,9 +12,9 @@ use Rattle.portal_calls.specs.Answer.{answer_if_found, denial_of, unless_denied}
 use Rattle.portal_calls.specs.declared.answer.Answer.{Answer}
 use Rattle.portal_calls.specs.declared.answer.Answer.TheVariants.{Shown}
 use Rattle.portal_calls.specs.declared.answer.Denial.{Denial}
-use Rattle.portal_calls.specs.Reply.{refusal_of}
-use Rattle.portal_calls.specs.declared.event.Reply.{Reply}
-use Rattle.portal_calls.specs.declared.event.Reply.TheVariants as reply
+use Rattle.portal_events.specs.Reply.{refusal_of}
+use Rattle.portal_events.specs.declared.event.Reply.{Reply}
+use Rattle.portal_events.specs.declared.event.Reply.TheVariants as reply
 use Rattle.datastore_answers.specs.Summaries.{summaries_of}
 use Rattle.dataset_answers.specs.Dictionary.{package_dictionary}
 use Rattle.dataset_search.specs.Found.{found, page}

@@ -3,17 +3,20 @@ use Rattle.std.specs.Prelude.{true, false, Option, Some, None, find}
 use Rattle.portal_base.specs.declared.json_value.Json.{Json}
 use Rattle.portal_calls.specs.declared.answer.Answer.{Answer}
 use Rattle.portal_calls.specs.declared.answer.Answer.TheVariants as answer
-use Rattle.portal_calls.specs.Reply.{refusal_of}
+use Rattle.portal_events.specs.Reply.{refusal_of}
 use Rattle.portal_calls.specs.declared.call.Call.{Call}
-use Rattle.portal_calls.specs.declared.event.Event.{Event}
-use Rattle.portal_calls.specs.declared.event.Event.TheVariants.{Call as a_call}
-use Rattle.portal_calls.specs.declared.event.Refusal.TheVariants.{NameInUse}
-use Rattle.portal_calls.specs.declared.event.Reply.{Reply}
-use Rattle.portal_calls.specs.declared.event.Reply.TheVariants.{Accepted, Shown, Refused}
+use Rattle.portal_events.specs.declared.event.Event.{Event}
+use Rattle.portal_events.specs.declared.event.Event.TheVariants.{Call as a_call, Harvest as a_step}
+use Rattle.portal_events.specs.declared.event.Refusal.TheVariants.{NameInUse}
+use Rattle.portal_events.specs.declared.event.Reply.{Reply}
+use Rattle.portal_events.specs.declared.event.Reply.TheVariants.{Accepted, Shown, Refused, Harvest}
 use Rattle.portal_hall.specs.History.{Step}
+use Rattle.harvest_sources.specs.Steps.{is_accepted}
+use Rattle.harvest_sources.specs.declared.step.Step.{Step as HarvestStep}
 use Rattle.portal_core.specs.Answer.{answer_to}
 use Rattle.portal_core.specs.Change.{Change}
 use Rattle.portal_core.specs.Changed.{applied, is_in_use, key_of}
+use Rattle.portal_core.specs.Harvest.{state_after_step, harvest_change}
 use Rattle.portal_core.specs.Known.{known_call}
 use Rattle.portal_core.specs.Planned.{PlannedChange, change_of}
 use Rattle.portal_core.specs.State.{State}
@@ -61,6 +64,17 @@ known_step state call = outcome_of (answer_in state call) call state
 abbrev pub call_step : State → Call → Outcome
 call_step state call = known_step state (known_call state.people call)
 
+-- The outcome of a step of a harvest. It is nobody's call: nobody's view matters, and nobody is charged.
+abbrev pub harvest_step : State → HarvestStep → Outcome
+harvest_step state step =
+    let answer = (harvest_change step state).reply in
+    record {
+      core = state_after_step step state;
+      reply = Harvest answer;
+      is_accepted = is_accepted answer;
+    }
+
 -- One step of the state.
 abbrev pub step_of : State → Event → Outcome
 step_of state (a_call call) = call_step state call
+step_of state (a_step step) = harvest_step state step

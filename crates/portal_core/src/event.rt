@@ -1,2 +1,2 @@
-//! Events of a portal and the replies to them, which portal_calls defines.
-pub use portal_calls::event::{Event, Refusal, Reply};
+//! Events of a portal and the replies to them, which portal_events defines.
+pub use portal_events::{Event, Refusal, Reply};

@@ -1,6 +1,6 @@
 //! The indexes of the datasets on a shelf: their terms, for searches, and the counts of their values. A change of the shelf
 //! is one of the indexes too. Growth is prepared before; then a change takes no memory and can't fail.
-ghost use Rattle.std.specs.Prelude.{◌≡◌, [], ℕ, List, IfOk, IsSome, Some};
+ghost use Rattle.std.specs.Prelude.{◌≡◌, [], ℕ, List, IfNone, IfOk, IfSome, IsSome, Some};
 ghost use Rattle.facets.specs.Counters.{entries_with};
 ghost use Rattle.dataset_answers.specs.Changed.{dataset_at_id};
 ghost use Rattle.packages.specs.Order.{dataset_cmp};
@@ -10,11 +10,13 @@ ghost use Rattle.portal_base.specs.Ordered.{dropped, upserted};
 ghost use Rattle.search_index.specs.Index.{with_terms};
 ghost use Rattle.portal_core.specs.Indexes.{AreSameIndexes, IsIndexed, IsReadyIn};
 ghost use Rattle.portal_core.specs.Parts.{IsFree, IsReplaceReady};
+ghost use Rattle.portal_core.specs.Stepped.{without_ids};
 
 use facets::counters::{Counters, PreparedCounts};
 use facets::laws::{counters_follow_what_is_put, counters_follow_what_is_removed};
 use packages::package::Package;
 use packages::shelf::Shelf;
+use portal_base::text::Text;
 use search_index::index::{Index, PreparedTerms};
 use std::alloc::{AllocError, Global};
 
@@ -131,4 +133,36 @@ impl Indexes {
         self.index.remove(number);
         self.counters.remove(&removed);
     }
+
+    /// Removes the datasets with these ids from the shelf.
+    pub(crate) fn remove_all(&mut self, shelf: &mut Shelf, ids: &[Text])
+        requires { IsIndexed shelf.old self.old }
+        ensures indexed { IsIndexed shelf.new self.new }
+        ensures datasets { datasets_of shelf.new ≡ without_ids ids.now (datasets_of shelf.old) }
+    {
+        for id in ids {
+            self.remove_id(shelf, id);
+        }
+    }
+
+    /// Removes the dataset with this id from the shelf, if there is one.
+    fn remove_id(&mut self, shelf: &mut Shelf, id: &Text)
+        requires { IsIndexed shelf.old self.old }
+        ensures indexed { IsIndexed shelf.new self.new }
+        ensures datasets { datasets_of shelf.new ≡ dropped (dataset_at_id id.now) (datasets_of shelf.old) }
+    {
+        if let Some(number) = number_of_id(shelf, id) {
+            self.remove(shelf, number);
+        }
+    }
+}
+
+/// The number of the dataset with this id.
+fn number_of_id(shelf: &Shelf, id: &Text) -> Option<u32>
+    ensures there { IfSome result (λ number. option_map (λ d. d.id) (package_at number shelf.now) ≡ Some id.now) }
+    ensures none { IfNone result (dropped (dataset_at_id id.now) (datasets_of shelf.now) ≡ datasets_of shelf.now) }
+{
+    let number = shelf.number_of(id.as_str())?;
+    let dataset = shelf.package_at(number)?;
+    (dataset.id.as_str() == id.as_str()).then_some(number)
 }

@@ -8,14 +8,13 @@ ghost use Rattle.org_roles.specs.PeopleLists.{is_user_in};
 ghost use Rattle.org_roles.specs.declared.entry.Membership.{Membership};
 ghost use Rattle.org_roles.specs.declared.entry.User.{User};
 ghost use Rattle.visibility.specs.View.{administers, is_called};
-ghost use Rattle.harvest_sources.specs.Sources.{source_cmp};
-ghost use Rattle.portal_base.specs.Ordered.{IsAscending};
+ghost use Rattle.harvest_sources.specs.declared.step.Step.{Step};
 ghost use Rattle.portal_calls.specs.Action.{is_reading};
-ghost use Rattle.portal_calls.specs.Reply.{is_change, is_name_in_use};
+ghost use Rattle.portal_events.specs.Reply.{is_change, is_name_in_use, is_of_call};
 ghost use Rattle.portal_calls.specs.declared.answer.Answer.TheVariants.{Accepted};
 ghost use Rattle.portal_calls.specs.declared.call.Call.{Call};
-ghost use Rattle.portal_calls.specs.declared.event.Event.{Event};
-ghost use Rattle.portal_calls.specs.declared.event.Reply.{Reply};
+ghost use Rattle.portal_events.specs.declared.event.Event.{Event};
+ghost use Rattle.portal_events.specs.declared.event.Reply.{Reply};
 ghost use Rattle.portal_hall.specs.History.{replay};
 ghost use Rattle.portal_core.specs.Alone.{AllDropAlone};
 ghost use Rattle.portal_core.specs.Answer.{answer_to};
@@ -23,6 +22,7 @@ ghost use Rattle.portal_core.specs.Change.{Change};
 ghost use Rattle.portal_core.specs.Changed.{IsUnused, applied, changed, is_in_use};
 ghost use Rattle.portal_core.specs.Entries.{Entry, state_after};
 ghost use Rattle.portal_core.specs.Fit.{IsFit};
+ghost use Rattle.portal_core.specs.Harvest.{harvest_entries};
 ghost use Rattle.portal_core.specs.Hidden.{AreUnseen, IsHidden, is_caller};
 ghost use Rattle.portal_core.specs.History.{AreAlike, AreOthersHidden, calls_of, exchanges_of, has_no_name_in_use};
 ghost use Rattle.portal_core.specs.Known.{known_call};
@@ -45,6 +45,11 @@ pub fn a_replay_goes_on()
 pub fn the_reply_says_whether_something_changed()
     ensures { (state : State) (event : Event) →
         (step_of state event).is_accepted ≡ is_change (step_of state event).reply }
+{}
+
+/// The reply to a call is a reply of calls, and no answer to a step of a harvest.
+pub fn a_call_gets_a_reply_of_calls()
+    ensures { (state : State) (call : Call) → IsTrue (is_of_call (call_step state call).reply) }
 {}
 
 /// A caller whom no user has is nobody: its call comes to what it would come to as a call of nobody.
@@ -177,6 +182,12 @@ pub fn an_unseen_change_is_hidden()
         AreUnseen caller state change.entries → IsHidden caller state (Event.Call call) }
 {}
 
+/// A step of a harvest is hidden from a caller who sees nothing at the keys of its entries, neither before nor after.
+pub fn an_unseen_step_is_hidden()
+    ensures { (caller : Caller) (state : State) (step : Step) →
+        AreUnseen caller state (harvest_entries step state) → IsHidden caller state (Event.Harvest step) }
+{}
+
 /// Isolation. Let each accepted event that is no call of the caller be hidden from the caller when it comes. Then the
 /// caller's calls get the replies that they get without the other events, and the caller's view after each is the same.
 /// This holds up to the first call whose reply, with the other events or without them, is that a name or an id is in
@@ -214,16 +225,16 @@ pub fn entries_make_the_change_in_the_view()
         ≡ changed planned (view_of call.caller state) }
 {}
 
-/// A state whose sources are in order gives a planned change no other entries than its caller's view: the caller sees all
-/// that goes with what the change drops.
+/// A valid state gives a planned change no other entries than its caller's view: the caller sees all that goes with what
+/// the change drops.
 pub fn entries_are_those_in_the_view()
     ensures { (call : Call) (state : State) (planned : PlannedChange) →
-        IsAscending source_cmp state.sources → IsFit call (view_of call.caller state) planned →
+        IsValid state → IsFit call (view_of call.caller state) planned →
         entries_of planned (view_of call.caller state) ≡ entries_of planned state }
 {}
 
 /// Nothing goes without an entry of its own: when an entry drops an organization, a dataset, a table or a source, its
-/// roles, its tables, its rows or its jobs have been dropped by the entries before.
+/// roles, its tables, its rows or its jobs and datasets have been dropped by the entries before.
 pub fn nothing_goes_without_an_entry()
     ensures { (call : Call) (state : State) (planned : PlannedChange) →
         IsValid state → IsFit call (view_of call.caller state) planned →

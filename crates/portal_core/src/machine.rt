@@ -1,13 +1,13 @@
 //! The portal as a machine, which a hall runs for many threads, one event at a time.
 use crate::portal::Portal;
-use portal_calls::event::{Event, Reply};
+use portal_events::{Event, Reply};
 use portal_hall::machine::Machine;
 use portal_keeper::keeper::Keeper;
 
 impl<K: Keeper> Machine for Portal<K> {
     ghost use Rattle.std.specs.Prelude.{◌≡◌};
-    ghost use Rattle.portal_calls.specs.declared.event.Refusal.TheVariants.{KeeperFault, OutOfMemory};
-    ghost use Rattle.portal_calls.specs.declared.event.Reply.TheVariants.{Refused};
+    ghost use Rattle.portal_events.specs.declared.event.Refusal.TheVariants.{KeeperFault, OutOfMemory};
+    ghost use Rattle.portal_events.specs.declared.event.Reply.TheVariants.{Refused};
     ghost use Rattle.portal_core.specs.State.{State};
     ghost use Rattle.portal_core.specs.Step.{step_of};
 

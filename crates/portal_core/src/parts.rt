@@ -7,12 +7,14 @@ ghost use Rattle.datastore_answers.specs.Linked.{AreLinked};
 ghost use Rattle.harvest_stages.specs.Ready as stages;
 ghost use Rattle.harvest_stages.specs.Stages.{sources_in};
 ghost use Rattle.dataset_answers.specs.Sound.{IsSound};
-ghost use Rattle.portal_core.specs.Planned.{planned_of, Datasets, claims_of};
+ghost use Rattle.packages.specs.Shelf.{datasets_of};
+ghost use Rattle.portal_core.specs.Planned.{planned_of, Datasets, Sources, claims_of};
 ghost use Rattle.portal_core.specs.Changed.{AreUnused, changed, charge_of, is_in_use, key_of, with_charge, with_planned};
 ghost use Rattle.portal_core.specs.Fit.{IsFit};
 ghost use Rattle.portal_core.specs.Indexes.{IsIndexed};
 ghost use Rattle.portal_core.specs.Parts.{state_of, planned_in, with_prepared, IsConsistent, MakesSound, IsTakenBy};
 ghost use Rattle.portal_core.specs.Parts.{IsUnrefused, IsPlanned, IsPrepared, IsChangeReady, IsChargeReady, IsTakenBySources};
+ghost use Rattle.portal_core.specs.Parts.{AreGoneByName, GoesByName, ids_gone};
 ghost use Rattle.portal_base.specs.Outside.{Rose};
 ghost use Rattle.portal_core.specs.PortalValue.{AreKept};
 ghost use Rattle.portal_core.specs.State.{accepted_bytes_of};
@@ -20,6 +22,7 @@ ghost use Rattle.portal_core.specs.View.{view_of};
 
 use crate::act_fault::ActFault;
 use crate::change::Plan;
+use crate::harvest::ids_gone;
 use crate::indexes::{Indexes, PreparedDataset};
 use crate::quota::{QuotaLedger, QuotaUsed};
 use dataset_answers::change::DatasetChange;
@@ -34,6 +37,7 @@ use packages::package::Package;
 use packages::shelf::Shelf;
 use portal_base::caller::Caller;
 use portal_base::copy::TryClone;
+use portal_base::seq::Seq;
 use portal_base::text::Text;
 use portal_calls::call::Call;
 use portal_keeper::keeper::Keeper;
@@ -62,8 +66,8 @@ enum PreparedChange {
     Remove(u32, Text),
     /// A change of a table.
     Tables(TablePlan),
-    /// A change of a source, or a new job for it.
-    Sources(PreparedSource),
+    /// A change of a source, or a new job for it, and the ids of the datasets that go with it.
+    Sources(PreparedSource, Seq<Text>),
 }
 
 /// A change for which memory is prepared, with the caller's quota after it. `Parts` alone makes one.
@@ -155,7 +159,7 @@ impl Parts {
     }
 
     /// Prepares a change that is fit and claims nothing that is in use, and its charge. The state stays the same.
-    #[tactic(auto, using(crate::proofs::Shelving::unrefused, crate::proofs::Settling::linked_after))]
+    #[tactic(auto, using(crate::proofs::Shelving::unrefused, crate::proofs::Settling::linked_after, crate::proofs::Gone::goes_by_name))]
     fn prepare(&mut self, alloc: Global, call: &Call, plan: Plan) -> Result<Prepared, AllocError>
         requires consistent { IsConsistent self.old }
         requires fit { IsFit call.now (state_of self.old) (planned_of plan) }
@@ -178,6 +182,7 @@ impl Parts {
         requires shelved { IsIndexed self.old.shelf self.old.indexes }
         requires unrefused { IsUnrefused (planned_of plan) self.old }
         requires planned { IsPlanned plan self.old }
+        requires named { GoesByName (planned_of plan) (datasets_of self.old.shelf) }
         ensures same { state_of self.new ≡ state_of self.old }
         ensures shelved { IsIndexed self.new.shelf self.new.indexes }
         ensures quota_used { self.new.quota_used ≡ self.old.quota_used }
@@ -194,12 +199,28 @@ impl Parts {
                 self.tables.reserve()?;
                 Ok(PreparedChange::Tables(plan))
             }
-            Plan::Sources(change) => Ok(PreparedChange::Sources(prepare_source(
-                alloc,
-                &mut self.sources,
-                change,
-            )?)),
+            Plan::Sources(change) => self.prepare_sources(alloc, change),
         }
+    }
+
+    /// Prepares a change of the sources that they don't refuse, with the ids of the datasets that go with it.
+    fn prepare_sources(
+        &mut self,
+        alloc: Global,
+        change: SourceChange,
+    ) -> Result<PreparedChange, AllocError>
+        requires shelved { IsIndexed self.old.shelf self.old.indexes }
+        requires taken { IsTakenBySources change (sources_in self.old.sources) }
+        requires named { AreGoneByName change (datasets_of self.old.shelf) }
+        ensures same { state_of self.new ≡ state_of self.old }
+        ensures shelved { IsIndexed self.new.shelf self.new.indexes }
+        ensures quota_used { self.new.quota_used ≡ self.old.quota_used }
+        ensures change { IfOk result (λ prepared. planned_in prepared ≡ Sources change) }
+        ensures ready { IfOk result (λ prepared. IsChangeReady prepared self.new) }
+    {
+        let gone = ids_gone(alloc, &self.shelf, &change)?;
+        let prepared = prepare_source(alloc, &mut self.sources, change)?;
+        Ok(PreparedChange::Sources(prepared, gone))
     }
 
     /// Prepares a change of a dataset. A dataset that is replaced or removed is found by its id.
@@ -298,8 +319,21 @@ impl Parts {
                 self.indexes.remove(&mut self.shelf, number);
             }
             PreparedChange::Tables(plan) => self.tables.commit(plan),
-            PreparedChange::Sources(change) => self.sources.commit_change(change),
+            PreparedChange::Sources(change, gone) => self.commit_sources(change, &gone),
         }
+    }
+
+    /// Makes a prepared change of the sources. The datasets with these ids go with it.
+    fn commit_sources(&mut self, change: PreparedSource, gone: &Seq<Text>)
+        requires ready { stages.IsReady change self.old.sources }
+        requires gone { gone.now ≡ ids_gone change.change (datasets_of self.old.shelf) }
+        requires shelved { IsIndexed self.old.shelf self.old.indexes }
+        ensures state { state_of self.new ≡ changed (Sources change.change) (state_of self.old) }
+        ensures shelved { IsIndexed self.new.shelf self.new.indexes }
+        ensures quota_used { self.new.quota_used ≡ self.old.quota_used }
+    {
+        self.indexes.remove_all(&mut self.shelf, gone.as_slice());
+        self.sources.commit_change(change);
     }
 
     /// Makes a prepared charge.

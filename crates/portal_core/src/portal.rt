@@ -19,13 +19,14 @@ use crate::decide::decide;
 use crate::opening::opened_parts;
 pub use crate::opening::{OpenFault, Opening, Role0};
 use crate::parts::Parts;
+use harvest_sources::Step;
 use portal_base::caller::Caller;
 use portal_base::copy::TryClone;
 use portal_base::json_value::Json;
 use portal_base::text::Text;
 use portal_calls::answer::Answer;
 use portal_calls::call::{Call, Request};
-use portal_calls::event::{Event, Refusal, Reply, refusal_of};
+use portal_events::{Event, Refusal, Reply, refusal_of};
 use portal_keeper::keeper::Keeper;
 use std::alloc::{AllocError, Global};
 use std::marker::Model;
@@ -57,7 +58,7 @@ impl<K: Keeper> Portal<K> {
     ghost use Rattle.portal_core.specs.Known.{is_known};
     ghost use Rattle.portal_core.specs.Opened.{is_opening};
     ghost use Rattle.portal_core.specs.PortalValue.{AreOfNoState, IsOpenedOver};
-    ghost use Rattle.portal_core.specs.Step.{step_of, call_step};
+    ghost use Rattle.portal_core.specs.Step.{step_of, call_step, harvest_step};
     ghost use Rattle.portal_core.specs.Valid.{IsValid};
 
     /// Opens a portal over a keeper. If the keeper has no rows, the portal has the users, organizations and roles of the
@@ -106,8 +107,7 @@ impl<K: Keeper> Portal<K> {
             → Rose (K.faults self.old.keeper) (K.faults self.new.keeper) }
         ensures counts { K.faults self.old.keeper ≤ K.faults self.new.keeper }
     {
-        let Event::Call(call) = event;
-        match self.act_on_call(call) {
+        match self.act_on(event) {
             Ok(reply) => reply,
             Err(ActFault::Keeper) => Reply::Refused(Refusal::KeeperFault),
             Err(ActFault::OutOfMemory) => Reply::Refused(Refusal::OutOfMemory),
@@ -120,6 +120,32 @@ impl<K: Keeper> Portal<K> {
         ensures rows { Shows (K.rows result) (kept_rows self.state) }
     {
         self.keeper
+    }
+
+    /// Makes the step of an event: of a call, or of a harvest.
+    fn act_on(&mut self, event: &Event) -> Result<Reply, ActFault>
+        ensures reply { IfOk result (λ reply. reply ≡ (step_of self.old.state event.now).reply) }
+        ensures state { OnOk result (self.new.state ≡ (step_of self.old.state event.now).core) }
+        ensures kept { OnErr result (self.new.state ≡ self.old.state) }
+        ensures fault { IsErrOf result ActFault.Keeper → Rose (K.faults self.old.keeper) (K.faults self.new.keeper) }
+        ensures counts { K.faults self.old.keeper ≤ K.faults self.new.keeper }
+    {
+        match event {
+            Event::Call(call) => self.act_on_call(call),
+            Event::Harvest(step) => self.act_on_step(step),
+        }
+    }
+
+    /// Makes the step of a harvest.
+    fn act_on_step(&mut self, step: &Step) -> Result<Reply, ActFault>
+        ensures reply { IfOk result (λ reply. reply ≡ (harvest_step self.old.state step.now).reply) }
+        ensures state { OnOk result (self.new.state ≡ (harvest_step self.old.state step.now).core) }
+        ensures kept { OnErr result (self.new.state ≡ self.old.state) }
+        ensures fault { IsErrOf result ActFault.Keeper → Rose (K.faults self.old.keeper) (K.faults self.new.keeper) }
+        ensures counts { K.faults self.old.keeper ≤ K.faults self.new.keeper }
+    {
+        let reply = self.parts.step(self.alloc, &mut self.keeper, step)?;
+        Ok(Reply::Harvest(reply))
     }
 
     /// Makes the step of a call. A caller whom no user has is nobody.

@@ -62,10 +62,10 @@ pub(crate) fn parts_of_values(
     let Some(people) = people_of_values(alloc, users, orgs)? else {
         return Ok(None);
     };
-    let Some((shelf, indexes)) = indexed_shelf_of_values(alloc, &people, datasets)? else {
+    let Some(sources) = sources_of_values(alloc, &people, harvests)? else {
         return Ok(None);
     };
-    let Some(sources) = sources_of_values(alloc, &people, harvests)? else {
+    let Some((shelf, indexes)) = indexed_shelf_of_values(alloc, &people, &sources, datasets)? else {
         return Ok(None);
     };
     match tables_of_values(alloc, &shelf, tables)? {

@@ -1,11 +1,12 @@
 //! The addresses of resources, which are read back from their ids.
-ghost use Rattle.std.specs.Prelude.{◌≡◌, ℕ, IfNone, IfOk, IfSome, Some, true};
+ghost use Rattle.std.specs.Prelude.{◌≡◌, ℕ, IfNone, IfOk, IfSome, Some, false, true};
 ghost use Rattle.std.specs.List.{Contains};
 ghost use Rattle.datastore_answers.specs.declared.address.Address.{Address};
 ghost use Rattle.packages.specs.Named.{dataset_part, resource_address};
 ghost use Rattle.packages.specs.Shelf.{datasets_of};
 ghost use Rattle.packages.specs.declared.package.Package.{Package};
 ghost use Rattle.visibility.specs.TableSummary.{is_among};
+ghost use Rattle.visibility.specs.Visibility.{is_harvested};
 ghost use Rattle.portal_core.specs.Restored.{IsAddressOf};
 
 use datastore_answers::address::Address;
@@ -15,8 +16,9 @@ use packages::shelf::Shelf;
 use portal_base::copy::TryClone;
 use portal_base::text::Text;
 use std::alloc::{AllocError, Global};
+use visibility::permissions::is_harvested;
 
-/// The address of the resource with this id, if a dataset of the shelf has that resource.
+/// The address of the resource with this id, if a dataset of the shelf has that resource and wasn't harvested.
 pub(crate) fn address_of(
     alloc: Global,
     shelf: &Shelf,
@@ -26,7 +28,7 @@ pub(crate) fn address_of(
     ensures none { IfOk result (λ found. IfNone found
         ((address : Address) → IsAddressOf (datasets_of shelf.now) id.now address → ⊥)) }
 {
-    let Some(dataset) = home_of(shelf, id.as_str()) else {
+    let Some(dataset) = made_home_of(shelf, id.as_str()) else {
         return Ok(None);
     };
     let Some(number) = number_of(dataset, id.as_str()) else {
@@ -34,6 +36,24 @@ pub(crate) fn address_of(
     };
     let dataset = dataset.id.try_clone(alloc)?;
     Ok(Some(Address { dataset, number }))
+}
+
+/// The dataset whose own id begins the id of a resource, unless it was harvested.
+fn made_home_of<'a>(shelf: &'a Shelf, id: &str) -> Option<&'a Package>
+    ensures home { IfSome result (λ dataset. Contains (datasets_of shelf.now) dataset.now
+        × (dataset_part id.now ≡ Some dataset.now.id)) }
+    ensures made { IfSome result (λ dataset. is_harvested dataset.now ≡ false) }
+    ensures only { IfSome result (λ dataset. (d : Package) → Contains (datasets_of shelf.now) d →
+        dataset_part id.now ≡ Some d.id → d ≡ dataset.now) }
+    ensures none { IfNone result ((d : Package) → Contains (datasets_of shelf.now) d →
+        dataset_part id.now ≡ Some d.id → is_harvested d ≡ false → ⊥) }
+{
+    let dataset = home_of(shelf, id)?;
+    if is_harvested(dataset) {
+        None
+    } else {
+        Some(dataset)
+    }
 }
 
 /// The dataset whose own id begins the id of a resource. It is found by the shelf's index.

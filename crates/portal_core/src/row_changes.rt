@@ -1,14 +1,16 @@
-//! The changes of the store's rows for an accepted change: only those that change something.
+//! The changes of the store's rows for an accepted change and for a step of a harvest: only those that change something.
 ghost use Rattle.std.specs.Prelude.{◌≡◌, ◌++◌, ◌∷◌, [], IfOk, OnOk, if◌then◌else◌};
 ghost use Rattle.portal_core.specs.Changed.{AreUnused, changed};
 ghost use Rattle.portal_core.specs.ChangedRows.{IsTypedPlan, changes_between, changes_of_plan};
 ghost use Rattle.portal_core.specs.Fit.{IsFit};
 ghost use Rattle.portal_core.specs.KeptRows.{IsSized};
-ghost use Rattle.portal_core.specs.Parts.{IsConsistent, IsPlanned, IsUnrefused, state_of};
+ghost use Rattle.packages.specs.Shelf.{datasets_of};
+ghost use Rattle.portal_core.specs.Parts.{GoesByName, IsConsistent, IsPlanned, IsUnrefused, state_of};
 ghost use Rattle.portal_core.specs.Planned.{claims_of, planned_of};
 ghost use Rattle.portal_core.specs.RowChanges.{is_body, planned_row_changes};
 
 mod datasets;
+mod harvests;
 mod people;
 mod sources;
 mod tables;
@@ -55,6 +57,7 @@ impl Parts {
         requires consistent { IsConsistent self.now }
         requires unrefused { IsUnrefused (planned_of plan.now) self.now }
         requires planned { IsPlanned plan.now self.now }
+        requires named { GoesByName (planned_of plan.now) (datasets_of self.now.shelf) }
         ensures changes { OnOk result (changes.new.items ≡ changes.old.items ++ changes_of_plan plan.now self.now) }
         ensures typed { OnOk result (IsTypedPlan plan.now self.now) }
     {
@@ -64,7 +67,9 @@ impl Parts {
                 datasets::push_changes(alloc, changes, &self.shelf, &self.tables, change)
             }
             Plan::Tables(plan) => tables::push_changes(alloc, changes, &self.tables, plan),
-            Plan::Sources(change) => sources::push_changes(alloc, changes, &self.sources, change),
+            Plan::Sources(change) => {
+                sources::push_changes(alloc, changes, &self.shelf, &self.sources, change)
+            }
         }
     }
 }

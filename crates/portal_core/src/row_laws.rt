@@ -4,6 +4,7 @@ ghost use Rattle.std.specs.List.{Contains};
 ghost use Rattle.datastore_answers.specs.Order.{table_cmp};
 ghost use Rattle.harvest_rows.specs.declared.kept_harvests.KeptHarvests.{KeptHarvests};
 ghost use Rattle.harvest_sources.specs.Sources.{AreSources};
+ghost use Rattle.harvest_sources.specs.declared.step.Step.{Step};
 ghost use Rattle.harvest_stages.specs.AtRest.{at_rest};
 ghost use Rattle.portal_base.specs.Ordered.{IsAscending};
 ghost use Rattle.portal_base.specs.declared.json_value.Json.{Json};
@@ -14,6 +15,7 @@ ghost use Rattle.portal_core.specs.Change.{Change};
 ghost use Rattle.portal_core.specs.Changed.{AreUnused, IsUnused, applied, changed};
 ghost use Rattle.portal_core.specs.Entries.{Entry, state_after};
 ghost use Rattle.portal_core.specs.Fit.{IsFit};
+ghost use Rattle.portal_core.specs.Harvest.{state_after_step};
 ghost use Rattle.portal_core.specs.Planned.{PlannedChange, claims_of};
 ghost use Rattle.portal_core.specs.State.{State};
 ghost use Rattle.portal_core.specs.Step.{answer_in};
@@ -23,7 +25,7 @@ ghost use Rattle.portal_keeper.specs.Rows.{AreInOrder, body_at};
 ghost use Rattle.portal_keeper.specs.declared.row.KeptRow.{KeptRow};
 ghost use Rattle.portal_core.specs.KeptRows.{IsSized, kept_rows, listed_rows};
 ghost use Rattle.portal_core.specs.PortalValue.{IsReopened, reopened};
-ghost use Rattle.portal_core.specs.RowChanges.{effective_changes, planned_row_changes, row_changes};
+ghost use Rattle.portal_core.specs.RowChanges.{effective_changes, planned_row_changes, row_changes, step_row_changes};
 ghost use Rattle.portal_core.specs.Typed.{IsTyped};
 ghost use Rattle.portal_core.specs.Values.{AreRowsOf, IsStateOf, harvests_of, values_of};
 ghost use Rattle.portal_core.specs.declared.opening.Opening.{Opening};
@@ -144,4 +146,14 @@ pub fn row_changes_follow_a_planned_change()
         rows_after (planned_row_changes planned state) (kept_rows state) ≡ kept_rows (changed planned state) }
     ensures none { (planned : PlannedChange) (state : State) →
         kept_rows (changed planned state) ≡ kept_rows state → planned_row_changes planned state ≡ [] }
+{}
+
+/// The changes of rows for a step of a harvest lead from the rows of a valid state to those of the state after it. If the rows
+/// are the same, there is none.
+pub fn row_changes_follow_a_step_of_a_harvest()
+    ensures follow { (step : Step) (state : State) → IsValid state → IsSized state →
+        IsSized (state_after_step step state) →
+        rows_after (step_row_changes step state) (kept_rows state) ≡ kept_rows (state_after_step step state) }
+    ensures none { (step : Step) (state : State) →
+        kept_rows (state_after_step step state) ≡ kept_rows state → step_row_changes step state ≡ [] }
 {}

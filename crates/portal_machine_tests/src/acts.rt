@@ -1,17 +1,16 @@
-//! Acts in a hall over a portal. They are generic over the keeper: the borrow checker doesn't cover them over a portal of one
-//! keeper.
+//! Acts in a hall over a machine with the portal's events. They are generic over it: the borrow checker doesn't cover them over
+//! a portal of one keeper.
 ghost use Rattle.std.specs.Prelude.{◌≡◌};
 ghost use Rattle.portal_hall.specs.Passes.{IsPassOf, room_of};
 
-use portal_calls::event::{Event, Reply};
-use portal_core::portal::Portal;
+use portal_events::{Event, Reply};
 use portal_hall::acted::Acted;
 use portal_hall::hall::Hall;
+use portal_hall::machine::Machine;
 use portal_hall::pass::Pass;
-use portal_keeper::keeper::Keeper;
 use std::sync::Wait;
 
-/// The portal's reply, the length of the history at the reply, and the event's index in it, if it was accepted.
+/// The machine's reply, the length of the history at the reply, and the event's index in it, if it was accepted.
 #[derive(Drop)]
 pub struct Outcome {
     pub reply: Reply,
@@ -20,10 +19,10 @@ pub struct Outcome {
 }
 
 /// The outcome of the event, if there was memory for it in the history.
-pub fn act<R: Wait, K: Keeper>(
+pub fn act<R: Wait, M: Machine<Event = Event, Reply = Reply>>(
     rt: &R,
-    hall: &Hall<Portal<K>>,
-    pass: &mut Pass<Portal<K>>,
+    hall: &Hall<M>,
+    pass: &mut Pass<M>,
     event: Event,
 ) -> Option<Outcome>
     requires { IsPassOf hall.now pass.old }

@@ -7,7 +7,7 @@ use portal_base::seq::Seq;
 use portal_base::text::Text;
 use portal_calls::action::Action;
 use portal_calls::call::{Call, Request};
-use portal_calls::event::Event;
+use portal_events::Event;
 use std::alloc::{AllocError, Global};
 
 /// The user who makes each call.

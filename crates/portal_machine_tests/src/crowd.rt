@@ -7,9 +7,10 @@ use crate::calls::create_dataset;
 use crate::crew::{Crew, Slot};
 use portal_base::moment::Moment;
 use portal_core::portal::Portal;
+use portal_events::{Event, Reply};
 use portal_hall::hall::Hall;
+use portal_hall::machine::Machine;
 use portal_hall::pass::Pass;
-use portal_keeper::keeper::Keeper;
 use portal_keeper::memory::MemoryKeeper;
 use std::alloc::Global;
 use std::array;
@@ -52,11 +53,11 @@ impl Entries {
 }
 
 /// Creates the 25 datasets of that thread, and counts their entries.
-fn create_datasets<R: Wait, K: Keeper>(
+fn create_datasets<R: Wait, M: Machine<Event = Event, Reply = Reply>>(
     rt: &R,
     alloc: Global,
-    hall: &Hall<Portal<K>>,
-    pass: &mut Pass<Portal<K>>,
+    hall: &Hall<M>,
+    pass: &mut Pass<M>,
     moment: Moment,
     thread: usize,
     entries: &Entries,
@@ -73,11 +74,11 @@ fn create_datasets<R: Wait, K: Keeper>(
 }
 
 /// Creates the dataset with that number, with a nonce of the same number, and returns its index in the history.
-fn create<R: Wait, K: Keeper>(
+fn create<R: Wait, M: Machine<Event = Event, Reply = Reply>>(
     rt: &R,
     alloc: Global,
-    hall: &Hall<Portal<K>>,
-    pass: &mut Pass<Portal<K>>,
+    hall: &Hall<M>,
+    pass: &mut Pass<M>,
     moment: Moment,
     number: u64,
 ) -> Option<u64>
@@ -109,12 +110,13 @@ pub fn create_in_threads<R: Threads + Wait + Sync>(
     create_in_slots(rt, alloc, hall, crew.slots.as_mut_slice(), moment, entries)
 }
 
-/// The pass of each slot creates 25 datasets, in a thread of its own.
-fn create_in_slots<R: Threads + Wait + Sync>(
+/// The pass of each slot creates 25 datasets, in a thread of its own. It is generic over the machine, so that what threads can
+/// send is shown of passes and of a portal apart.
+fn create_in_slots<R: Threads + Wait + Sync, M: Machine<Event = Event, Reply = Reply> + Send>(
     rt: &R,
     alloc: Global,
-    hall: &Hall<Portal<MemoryKeeper>>,
-    slots: &mut [Slot<Portal<MemoryKeeper>>],
+    hall: &Hall<M>,
+    slots: &mut [Slot<M>],
     moment: Moment,
     entries: &Entries,
 )
@@ -125,7 +127,7 @@ fn create_in_slots<R: Threads + Wait + Sync>(
         rt,
         slots,
         4,
-        &|thread: usize, slot: &mut Slot<Portal<MemoryKeeper>>|
+        &|thread: usize, slot: &mut Slot<M>|
             requires { IsSomeAnd slot.old (λ pass. IsPassOf hall.now pass × (room_of pass ≡ 1)) }
             ensures { IsSomeAnd slot.new (λ pass. IsPassOf hall.entry.now pass × (room_of pass ≡ 1)) }
         {

@@ -6,5 +6,6 @@ mod acts;
 mod calls;
 mod crew;
 mod crowd;
+mod pair;
 #[cfg(test)]
 mod turns;

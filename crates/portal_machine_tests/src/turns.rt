@@ -1,16 +1,16 @@
 //! Passes that act in turn on a portal.
-use crate::acts::{Outcome, act};
-use crate::calls::{SYSADMIN, create_dataset, create_organization, list_datasets, show_dataset};
+use crate::calls::{SYSADMIN, create_organization, list_datasets};
 use crate::crew::{Crew, leave};
 use crate::crowd::{Entries, create_in_threads};
+use crate::pair::see_one_history;
 use org_roles::entry::User;
 use org_roles::people::names_are_distinct;
 use portal_base::json_value::Json;
 use portal_base::moment::Moment;
 use portal_base::seq::Seq;
 use portal_base::text::Text;
-use portal_calls::event::{Refusal, Reply};
 use portal_core::portal::{Opening, Portal};
+use portal_events::Reply;
 use portal_hall::hall::Hall;
 use portal_keeper::memory::MemoryKeeper;
 use std::alloc::Global;
@@ -41,48 +41,6 @@ fn opened(alloc: Global, moment: Moment) -> Result<Portal<MemoryKeeper>, Fail> {
     }
 }
 
-/// Whether the event was accepted, as the history's first.
-fn is_first_entry(outcome: &Option<Outcome>) -> bool {
-    match outcome {
-        Some(
-            Outcome {
-                reply: Reply::Accepted(_),
-                front: 1,
-                entry: Some(0),
-            },
-        ) => true,
-        _ => false,
-    }
-}
-
-/// Whether the portal showed something, where the history had one event.
-fn is_shown_after_one(outcome: &Option<Outcome>) -> bool {
-    match outcome {
-        Some(
-            Outcome {
-                reply: Reply::Shown(_),
-                front: 1,
-                entry: None,
-            },
-        ) => true,
-        _ => false,
-    }
-}
-
-/// Whether the portal refused a name that is in use, where the history had one event.
-fn is_name_in_use_after_one(outcome: &Option<Outcome>) -> bool {
-    match outcome {
-        Some(
-            Outcome {
-                reply: Reply::Refused(Refusal::NameInUse(key)),
-                front: 1,
-                entry: None,
-            },
-        ) => key.as_str() == "name",
-        _ => false,
-    }
-}
-
 /// The count of names that the portal lists, if it shows a list.
 fn listed(alloc: Global, portal: &mut Portal<MemoryKeeper>, moment: Moment) -> Option<usize> {
     match portal.act(&list_datasets(alloc, moment)) {
@@ -91,44 +49,19 @@ fn listed(alloc: Global, portal: &mut Portal<MemoryKeeper>, moment: Moment) -> O
     }
 }
 
-// Each outcome is tested at once, so that few values are there at a time.
+// The events are made and tested apart, so that the test holds the hall and its passes alone.
 #[test]
 fn two_passes_and_one_history(rt: HostRuntime) -> Result<(), Fail> {
     let alloc = rt.alloc();
     let moment = Moment::from_seconds(0).ok_or("no moment")?;
-    let create = create_dataset(alloc, moment, 7, 1)?;
-    let show = show_dataset(alloc, moment, 7)?;
     let portal = opened(alloc, moment)?;
     match Hall::open(alloc, portal, 2) {
         Ok((hall, mut one)) => {
             let mut two = hall.split(&mut one, 1);
-            let created = is_first_entry(&act(&rt, &hall, &mut one, create));
-            let shown = is_shown_after_one(&act(&rt, &hall, &mut two, show));
+            let is_one_history = see_one_history(&rt, alloc, &hall, &mut one, &mut two, moment);
             hall.join(&mut one, two);
             let (mut portal, history) = hall.close(one);
-            assert!(rt; created && shown);
-            assert!(rt; history.len() == 1 && listed(alloc, &mut portal, moment) == Some(1));
-            Ok(())
-        }
-        Err(_) => Err("no hall")?,
-    }
-}
-
-#[test]
-fn a_name_that_another_pass_took(rt: HostRuntime) -> Result<(), Fail> {
-    let alloc = rt.alloc();
-    let moment = Moment::from_seconds(0).ok_or("no moment")?;
-    let create = create_dataset(alloc, moment, 7, 1)?;
-    let create_again = create_dataset(alloc, moment, 7, 2)?;
-    let portal = opened(alloc, moment)?;
-    match Hall::open(alloc, portal, 2) {
-        Ok((hall, mut one)) => {
-            let mut two = hall.split(&mut one, 1);
-            let created = is_first_entry(&act(&rt, &hall, &mut one, create));
-            let again = is_name_in_use_after_one(&act(&rt, &hall, &mut two, create_again));
-            hall.join(&mut one, two);
-            let (mut portal, history) = hall.close(one);
-            assert!(rt; created && again);
+            assert!(rt; is_one_history == Some(true));
             assert!(rt; history.len() == 1 && listed(alloc, &mut portal, moment) == Some(1));
             Ok(())
         }

@@ -27,10 +27,10 @@ use Rattle.http_front.specs.declared.action_target.ActionTarget.{ActionTarget}
 use Rattle.portal_base.specs.Json.{data_of}
 use Rattle.portal_base.specs.Outside.{Rose, Takes, TakesPrefix}
 use Rattle.portal_base.specs.declared.json_value.Json.{the_lemmas}
-use Rattle.portal_calls.specs.declared.event.Refusal.TheVariants.{NotFound, NotAuthorized, Validation, NameInUse}
-use Rattle.portal_calls.specs.declared.event.Refusal.TheVariants.{KeeperFault, OutOfMemory}
-use Rattle.portal_calls.specs.declared.event.Reply.{Reply}
-use Rattle.portal_calls.specs.declared.event.Reply.TheVariants.{Accepted, Shown, Refused}
+use Rattle.portal_events.specs.declared.event.Refusal.TheVariants.{NotFound, NotAuthorized, Validation, NameInUse}
+use Rattle.portal_events.specs.declared.event.Refusal.TheVariants.{KeeperFault, OutOfMemory}
+use Rattle.portal_events.specs.declared.event.Reply.{Reply}
+use Rattle.portal_events.specs.declared.event.Reply.TheVariants.{Accepted, Shown, Refused, Harvest}
 use Rattle.portal_core.specs.State.{State}
 use Rattle.portal_serve.proofs.Working.{Rose-before}
 use Rattle.portal_serve.specs.RequestOutcome.{RequestOutcome}
@@ -93,6 +93,7 @@ has_phrase (Ok (Refused (Validation faults))) = refl
 has_phrase (Ok (Refused (NameInUse key))) = refl
 has_phrase (Ok (Refused KeeperFault)) = refl
 has_phrase (Ok (Refused OutOfMemory)) = refl
+has_phrase (Ok (Harvest answer)) = refl
 has_phrase (Err TooLong) = refl
 has_phrase (Err NotJson) = refl
 has_phrase (Err Fraction) = refl
@@ -117,6 +118,7 @@ status_kept (Ok (Refused (Validation faults))) other = λ is. absurd (omega (ari
 status_kept (Ok (Refused (NameInUse key))) other = λ is. absurd (omega (arith, is))
 status_kept (Ok (Refused KeeperFault)) other = λ is. other refl
 status_kept (Ok (Refused OutOfMemory)) other = λ is. absurd (omega (arith, is))
+status_kept (Ok (Harvest answer)) other = λ is. absurd (omega (arith, is))
 status_kept (Err TooLong) other = λ is. absurd (omega (arith, is))
 status_kept (Err NotJson) other = λ is. absurd (omega (arith, is))
 status_kept (Err Fraction) other = λ is. absurd (omega (arith, is))

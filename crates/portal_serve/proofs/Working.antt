@@ -24,7 +24,7 @@ use Rattle.action_api.specs.Request.{request_for}
 use Rattle.portal_base.specs.declared.caller.Caller.{Caller}
 use Rattle.portal_calls.specs.declared.call.Request.{Request}
 use Rattle.portal_core.specs.Step.{call_step}
-use Rattle.portal_calls.specs.declared.event.Reply.{Reply}
+use Rattle.portal_events.specs.declared.event.Reply.{Reply}
 use Rattle.portal_serve.specs.Run.{Begins, DrawsAll, script_state, StageTrace}
 use Rattle.portal_serve.specs.Stopped.{end_of_call, begun_limit}
 use Rattle.portal_serve.specs.declared.calls.CallStop.{CallStop}

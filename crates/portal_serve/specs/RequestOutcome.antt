@@ -6,7 +6,7 @@ use Rattle.portal_calls.specs.declared.call.Call.{Call}
 use Rattle.portal_calls.specs.declared.call.Request.{Request}
 use Rattle.portal_core.specs.State.{State}
 use Rattle.portal_core.specs.Step.{Outcome, call_step}
-use Rattle.portal_calls.specs.declared.event.Reply.{Reply}
+use Rattle.portal_events.specs.declared.event.Reply.{Reply}
 
 -- the reply, or the early fault, and the state after it
 pub record RequestOutcome : Type 0 where

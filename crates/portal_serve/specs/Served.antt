@@ -19,8 +19,8 @@ use Rattle.portal_base.specs.Json.{json_text}
 use Rattle.portal_base.specs.Outside.{Rose, Takes, TakesPrefix}
 use Rattle.portal_base.specs.declared.json_value.Json.{Json}
 use Rattle.portal_calls.specs.declared.call.Request.{Request}
-use Rattle.portal_calls.specs.declared.event.Refusal.TheVariants.{KeeperFault}
-use Rattle.portal_calls.specs.declared.event.Reply.TheVariants.{Refused}
+use Rattle.portal_events.specs.declared.event.Refusal.TheVariants.{KeeperFault}
+use Rattle.portal_events.specs.declared.event.Reply.TheVariants.{Refused}
 use Rattle.portal_core.specs.State.{State}
 use Rattle.portal_serve.specs.RequestOutcome.{RequestOutcome, outcome_of_request}
 use Rattle.portal_serve.specs.Tokens.{Digests, caller_of_token}

@@ -7,7 +7,7 @@ use Rattle.action_api.specs.declared.early.Early.{Early}
 use Rattle.portal_serve.specs.RequestOutcome.{RequestOutcome, outcome_of_request}
 use Rattle.portal_serve.specs.Script.{ScriptCall, call_of_line}
 use Rattle.portal_core.specs.State.{State}
-use Rattle.portal_calls.specs.declared.event.Reply.{Reply}
+use Rattle.portal_events.specs.declared.event.Reply.{Reply}
 
 -- a line asks for a call
 abbrev pub asks : Result ScriptCall Early → Bool

@@ -1,5 +1,6 @@
 //! One call of a portal, with its size and the moment and nonce that were drawn for it.
-ghost use Rattle.std.specs.Prelude.{◌≡◌, ◌≢◌, ◌≤◌, Err, Ok, IfOk, OnOk, OnErr, IsErrOf};
+ghost use Rattle.std.specs.Prelude.{◌≡◌, ◌≢◌, ◌≤◌, Err, Ok, IfOk, IsTrue, OnOk, OnErr, IsErrOf};
+ghost use Rattle.action_api.specs.Reply.{has_text};
 ghost use Rattle.portal_base.specs.Outside.{Rose};
 ghost use Rattle.portal_serve.specs.RequestOutcome.{outcome_of_request};
 
@@ -8,8 +9,9 @@ use portal_base::caller::Caller;
 use portal_base::moment::Moment;
 use portal_base::nonce::Nonce;
 use portal_calls::call::{Call, Request};
-use portal_calls::event::{Event, Refusal, Reply};
+use portal_core::laws::a_call_gets_a_reply_of_calls;
 use portal_core::portal::Portal;
+use portal_events::{Event, Refusal, Reply};
 use portal_keeper::keeper::Keeper;
 use std::alloc::AllocError;
 
@@ -53,6 +55,7 @@ pub fn reply_to_request<P: Keeper>(
         ≡ (outcome_of_request portal.old.state caller drawn.size drawn.moment drawn.nonce.0 request).reply) }
     ensures state { OnOk result (portal.new.state
         ≡ (outcome_of_request portal.old.state caller drawn.size drawn.moment drawn.nonce.0 request).state) }
+    ensures has_text { IfOk result (λ reply. IsTrue (has_text reply)) }
     ensures kept_reply { IfOk result (λ reply. reply ≢ Ok (Reply.Refused Refusal.KeeperFault)) }
     ensures memory { OnOk result (request ≢ Err Early.OutOfMemory) }
     ensures kept { OnErr result (portal.new.state ≡ portal.old.state) }
@@ -76,6 +79,7 @@ pub fn reply_to_request<P: Keeper>(
         moment,
         nonce,
     };
+    a_call_gets_a_reply_of_calls();
     let reply = portal.act(&Event::Call(call));
     match reply {
         Reply::Refused(Refusal::KeeperFault) => Err(NoReply::KeeperFault),

@@ -1,7 +1,7 @@
 //! Calls on a stage: each draws its moment and nonce, is made on the portal, and writes its reply's line.
-ghost use Rattle.std.specs.Prelude.{◌≡◌, ◌⊎◌, ◌≤◌, Some, Err, IfOk, OnOk, OnErr, IsErrOf};
+ghost use Rattle.std.specs.Prelude.{◌≡◌, ◌⊎◌, ◌≤◌, Some, Err, IfOk, IsTrue, OnOk, OnErr, IsErrOf};
 ghost use Rattle.portal_base.specs.Outside.{Rose, Takes, TakesPrefix};
-ghost use Rattle.action_api.specs.Reply.{reply_status};
+ghost use Rattle.action_api.specs.Reply.{has_text, reply_status};
 ghost use Rattle.portal_serve.specs.Calls.{BeginsCall, MakesCall};
 ghost use Rattle.portal_serve.specs.Values.{script_call};
 ghost use Rattle.portal_serve.specs.Stage.{AreSameLoans, trace_of};
@@ -18,8 +18,8 @@ use portal_base::caller::Caller;
 use portal_base::json_value::Json;
 use portal_base::outside::{Clock, Nonces, Sink};
 use portal_base::seq::Seq;
-use portal_calls::event::Reply;
 use portal_core::portal::Portal;
+use portal_events::Reply;
 use portal_keeper::keeper::Keeper;
 use std::alloc::{AllocError, Global};
 
@@ -99,6 +99,7 @@ fn reply_to_call<P: Keeper>(
         (record { caller = caller; action = action.now; body = body }) drawn.size drawn.moment drawn.nonce.0).reply) }
     ensures state { OnOk result (portal.new.state ≡ (outcome_of_call portal.old.state
         (record { caller = caller; action = action.now; body = body }) drawn.size drawn.moment drawn.nonce.0).state) }
+    ensures has_text { IfOk result (λ reply. IsTrue (has_text reply)) }
     ensures kept { OnErr result (portal.new.state ≡ portal.old.state) }
     ensures keeper_fault { IsErrOf result NoReply.KeeperFault
         → Rose (P.faults portal.old.keeper) (P.faults portal.new.keeper) }

@@ -24,8 +24,8 @@ use portal_base::nonce::Nonce;
 use portal_base::outside::Link;
 use portal_base::seq::Seq;
 use portal_calls::call::Request;
-use portal_calls::event::{Refusal, Reply};
 use portal_core::portal::Portal;
+use portal_events::{Refusal, Reply};
 use portal_keeper::keeper::Keeper;
 use std::alloc::{AllocError, Global};
 

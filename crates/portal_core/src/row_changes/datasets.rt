@@ -8,7 +8,7 @@ ghost use Rattle.portal_base.specs.Ordered.{IsAscending};
 ghost use Rattle.portal_core.specs.ChangedRows.{changes_between, changes_of_datasets, dataset_body};
 ghost use Rattle.portal_core.specs.ChangedRows.{removals_of_gone, removals_unless};
 ghost use Rattle.portal_core.specs.KeptRows.{dataset_row};
-ghost use Rattle.portal_core.specs.Parts.{IsOnShelf, IsTakenBy};
+ghost use Rattle.portal_core.specs.Parts.{IsPlaced, IsTakenBy};
 ghost use Rattle.visibility.specs.TableSummary.{is_among};
 
 use crate::row_changes::push_between;
@@ -48,7 +48,7 @@ pub(crate) fn push_changes(
                 &dataset.id,
                 dataset.resources.as_slice(),
             )?;
-            push_edit(alloc, changes, shelf, dataset)
+            push_put(alloc, changes, shelf, dataset)
         }
         DatasetChange::Remove(id) => {
             push_gone(alloc, changes, tables, id, &[])?;
@@ -75,15 +75,15 @@ fn push_dataset(
     Ok(())
 }
 
-/// Adds what changes in the row of a dataset that this one replaces.
-fn push_edit(
+/// Adds what changes in the row of a dataset that is put in place of the one with its id, if there is one.
+pub(crate) fn push_put(
     alloc: Global,
     changes: &mut Vec<Change>,
     shelf: &Shelf,
     dataset: &Package,
 ) -> Result<(), AllocError>
     requires ascending { IsAscending dataset_cmp (datasets_of shelf.now) }
-    requires on_shelf { IsOnShelf shelf.now dataset.now.id }
+    requires placed { IsPlaced dataset.now.id shelf.now }
     ensures { OnOk result (changes.new.items ≡ changes.old.items
         ++ changes_between RowKind.Set dataset.now.id (dataset_body dataset.now.id (datasets_of shelf.now))
         (Some (row_text dataset.now))) }
@@ -95,7 +95,11 @@ fn push_edit(
 }
 
 /// Adds the removal of the row of the dataset of that id.
-fn push_removal(alloc: Global, changes: &mut Vec<Change>, id: &Text) -> Result<(), AllocError>
+pub(crate) fn push_removal(
+    alloc: Global,
+    changes: &mut Vec<Change>,
+    id: &Text,
+) -> Result<(), AllocError>
     ensures { OnOk result (changes.new.items ≡ changes.old.items ++ Change.Remove RowKind.Set id.now ∷ []) }
 {
     let id = id.try_clone(alloc)?;
@@ -103,10 +107,10 @@ fn push_removal(alloc: Global, changes: &mut Vec<Change>, id: &Text) -> Result<(
     Ok(())
 }
 
-/// The body of the row of the dataset of that id.
+/// The body of the row of the dataset of that id, if there is one.
 fn dataset_body(alloc: Global, shelf: &Shelf, id: &Text) -> Result<Option<Text>, AllocError>
     requires ascending { IsAscending dataset_cmp (datasets_of shelf.now) }
-    requires on_shelf { IsOnShelf shelf.now id.now }
+    requires placed { IsPlaced id.now shelf.now }
     ensures { IfOk result (λ body. body ≡ dataset_body id.now (datasets_of shelf.now)) }
 {
     match shelf.number_of(id.as_str()) {

@@ -1,15 +1,22 @@
-//! The changes of the rows of sources and of their jobs.
+//! The changes of the rows of sources and of their jobs, and of the datasets that go with a source.
 ghost use Rattle.std.specs.Prelude.{◌≡◌, ◌<◌, ◌^◌, ◌++◌, ◌+◌, ◌∷◌, [], IfOk, OnOk, map};
 ghost use Rattle.harvest_rows.specs.Rows.{job_row, source_row};
 ghost use Rattle.harvest_stages.specs.Stages.{sources_in};
-ghost use Rattle.portal_core.specs.ChangedRows.{IsTypedSourceChange, changes_of_new_job, changes_of_source};
-ghost use Rattle.portal_core.specs.ChangedRows.{changes_of_sources, changes_of_texts, removal_of_job, removals_of_source};
+ghost use Rattle.packages.specs.Shelf.{datasets_of};
+ghost use Rattle.portal_core.specs.ChangedRows.{IsTypedSourceChange, changes_of_harvests, changes_of_new_job};
+ghost use Rattle.portal_core.specs.ChangedRows.{changes_of_source, changes_of_sources, changes_of_texts};
+ghost use Rattle.portal_core.specs.ChangedRows.{removal_of_dataset, removal_of_job, removals_of_source};
+ghost use Rattle.portal_core.specs.EntriesOf.{datasets_gone};
+ghost use Rattle.portal_core.specs.Parts.{AreGoneByName};
 
+use crate::harvest::ids_gone;
+use crate::row_changes::harvests::push_gone;
 use crate::row_changes::push_between;
 use harvest_rows::jobs::job_row;
 use harvest_rows::sources::source_row;
 use harvest_sources::{HarvestSource, Job, SourceChange, SourceJobs, job_id};
 use harvest_stages::Stages;
+use packages::shelf::Shelf;
 use portal_base::copy::TryClone;
 use portal_base::moment::Moment;
 use portal_base::text::Text;
@@ -17,8 +24,41 @@ use portal_keeper::change::Change;
 use portal_keeper::row::{KeptRow, RowKind};
 use std::alloc::{AllocError, Global};
 
-/// Adds the changes of rows for a change of the sources.
+/// Adds the changes of rows for a change of the sources: those of the datasets that go with a source, and then those of
+/// sources and jobs.
 pub(crate) fn push_changes(
+    alloc: Global,
+    changes: &mut Vec<Change>,
+    shelf: &Shelf,
+    stages: &Stages,
+    change: &SourceChange,
+) -> Result<(), AllocError>
+    requires by_name { AreGoneByName change.now (datasets_of shelf.now) }
+    ensures changes { OnOk result (changes.new.items ≡ changes.old.items
+        ++ changes_of_harvests change.now (sources_in stages.now) (datasets_of shelf.now)) }
+    ensures typed { OnOk result (IsTypedSourceChange change.now (sources_in stages.now)) }
+{
+    push_datasets(alloc, changes, shelf, change)?;
+    push_source_changes(alloc, changes, stages, change)
+}
+
+/// Adds the removals of the rows of the datasets that go with a source.
+fn push_datasets(
+    alloc: Global,
+    changes: &mut Vec<Change>,
+    shelf: &Shelf,
+    change: &SourceChange,
+) -> Result<(), AllocError>
+    requires { AreGoneByName change.now (datasets_of shelf.now) }
+    ensures { OnOk result (changes.new.items
+        ≡ changes.old.items ++ map removal_of_dataset (datasets_gone change.now (datasets_of shelf.now))) }
+{
+    let ids = ids_gone(alloc, shelf, change)?;
+    push_gone(alloc, changes, ids.as_slice())
+}
+
+/// Adds the changes of the rows of sources and jobs for a change of the sources.
+fn push_source_changes(
     alloc: Global,
     changes: &mut Vec<Change>,
     stages: &Stages,

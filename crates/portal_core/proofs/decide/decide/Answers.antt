@@ -19,4 +19,4 @@ answer-requires-clause-counts c =
     subst (λ (viewer : ViewerState). AreCountsOf (datasets_for viewer)
     (λ org. class_count Public Organization org parts.indexes.counters)) (sym c.new.ensures)
     (counts_seen c.counters_give_the_public_counts.ensures parts.indexes.counters c.args.call.now.caller
-    parts.people.people (state_of parts).datasets c.requires.shelved.counts c.requires.valid.orgs c.requires.valid.sound)
+    (state_of parts) c.requires.valid c.requires.shelved.counts)

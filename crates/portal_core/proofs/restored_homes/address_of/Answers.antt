@@ -7,7 +7,7 @@ use Rattle.portal_core.proofs.restored_homes.address_of.Goals as goal
 pub returns-in_default-clause-none : goal.returns-in_default-clause-none
 returns-in_default-clause-none c =
     λ address is. c.in_default.ensures.none is.dataset is.is_present
-    (ap dataset_part c.as_str.ensures ∙ address_part (datasets_of c.args.shelf.now) c.args.id.now address is)
+    (ap dataset_part c.as_str.ensures ∙ address_part (datasets_of c.args.shelf.now) c.args.id.now address is) is.made
 
 pub returns-in_default-number_of-clause-none : goal.returns-in_default-number_of-clause-none
 returns-in_default-number_of-clause-none c =

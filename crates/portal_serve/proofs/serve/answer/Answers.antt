@@ -1,5 +1,5 @@
 -- The status of a reply has a phrase, and where memory runs out, the reply says so.
-use Rattle.std.proofs.Common.{◌≡◌, ◌∙◌, ℕ, List, ap, inr, subst}
+use Rattle.std.proofs.Common.{◌∙◌, ℕ, List, ap, inr, subst}
 use Rattle.portal_serve.proofs.Serving.{replies_phrase}
 use Rattle.portal_serve.specs.Served.{Writes, link_trace, outcome_of_incoming}
 use Rattle.portal_serve.proofs.serve.answer.Goals as goal

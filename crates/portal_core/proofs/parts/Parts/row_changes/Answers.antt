@@ -2,6 +2,7 @@ use Rattle.std.proofs.Common.{◌++◌, ◌∙◌, List, ap}
 use Rattle.portal_keeper.specs.declared.change.Change.{Change}
 use Rattle.portal_core.specs.ChangedRows.{changes_of_plan}
 use Rattle.portal_core.specs.Planned.{planned_of}
+use Rattle.portal_core.proofs.Gone.{goes_by_name}
 use Rattle.portal_core.proofs.PlannedRows.{plan-changes, planned-sized}
 use Rattle.portal_core.proofs.Shelving.{unrefused}
 use Rattle.portal_core.proofs.parts.Parts.row_changes.Goals as goal
@@ -9,6 +10,11 @@ use Rattle.portal_core.proofs.parts.Parts.row_changes.Goals as goal
 pub push_row_changes-requires-clause-unrefused : goal.push_row_changes-requires-clause-unrefused
 push_row_changes-requires-clause-unrefused c =
     unrefused (planned_of c.args.plan.now) c.args.self.now c.args.call.now c.requires.consistent c.requires.fit
+    c.requires.unused
+
+pub push_row_changes-requires-clause-named : goal.push_row_changes-requires-clause-named
+push_row_changes-requires-clause-named c =
+    goes_by_name (planned_of c.args.plan.now) c.args.self.now c.args.call.now c.requires.consistent c.requires.fit
     c.requires.unused
 
 pub returns-clause-changes : goal.returns-clause-changes

@@ -3,7 +3,7 @@ use Rattle.std.proofs.Common.{◌≡◌, ◌∙◌, IfOk, ap, subst, sym}
 use Rattle.portal_base.specs.declared.caller.Caller.{Caller}
 use Rattle.portal_base.specs.declared.caller.Caller.TheVariants.{Anonymous}
 use Rattle.portal_calls.specs.declared.call.Call.{Call}
-use Rattle.portal_calls.specs.declared.event.Reply.{Reply}
+use Rattle.portal_events.specs.declared.event.Reply.{Reply}
 use Rattle.portal_core.specs.Known.{is_known}
 use Rattle.portal_core.specs.Search.{search_reply}
 use Rattle.portal_core.specs.Step.{known_step}

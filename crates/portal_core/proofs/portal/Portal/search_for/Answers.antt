@@ -3,7 +3,7 @@ use Rattle.std.proofs.Common.{◌≡◌, ◌∙◌, IfOk, List, ap, subst}
 use Rattle.datastore_answers.specs.Summaries.{summaries_of}
 use Rattle.datastore_answers.specs.Tables.{tables_of, tables_seen}
 use Rattle.datastore_answers.specs.declared.resource_table.ResourceTable.{ResourceTable}
-use Rattle.portal_calls.specs.declared.event.Reply.{Reply}
+use Rattle.portal_events.specs.declared.event.Reply.{Reply}
 use Rattle.visibility.specs.TableSummary.{TableSummary, summaries_seen}
 use Rattle.visibility.specs.View.{datasets_seen, people_seen}
 use Rattle.visibility.specs.Viewer.{ViewerState, datasets_for, people_for}
