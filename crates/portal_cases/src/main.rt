@@ -18,6 +18,7 @@ mod reports;
 mod rights;
 mod scripts;
 mod session;
+mod steps;
 
 use cases::{Buffer, Tally, print_counts};
 use count::{Kind, counts_text};

@@ -1,4 +1,5 @@
 //! Replies in the words of a file of calls.
+use crate::steps::push_answer;
 use cases::Buffer;
 use portal_base::json_value::Json;
 use portal_base::seq::Seq;
@@ -142,5 +143,6 @@ pub fn push_reply(alloc: Global, text: &mut Buffer, part: Option<&Json>, reply: 
         Reply::Accepted(value) => push_value(alloc, text, "accepted", part, value),
         Reply::Shown(value) => push_value(alloc, text, "shown", part, value),
         Reply::Refused(refusal) => push_refusal(text, refusal),
+        Reply::Harvest(answer) => push_answer(alloc, text, answer),
     }
 }

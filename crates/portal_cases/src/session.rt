@@ -1,6 +1,8 @@
 //! A portal, and the moments and numbers of the calls on it.
 use crate::opening::opened;
 use crate::people::caller_of;
+use crate::steps::step_of;
+use harvest_sources::Step;
 use portal_base::caller::Caller;
 use portal_base::counted::{CountNonces, ScriptClock};
 use portal_base::json_value::Json;
@@ -51,6 +53,12 @@ fn request_of(alloc: Global, line: Line<'_>) -> Option<Request> {
     let action = Action::named(line.action)?;
     let body = Json::read(alloc, line.body.as_bytes()).ok()?;
     Some(Request { action, body })
+}
+
+/// The step of a line, if it is one.
+fn step_of_line(alloc: Global, line: Line<'_>) -> Option<Step> {
+    let body = Json::read(alloc, line.body.as_bytes()).ok()?;
+    step_of(alloc, line.action, &body)
 }
 
 /// A portal, and what draws the moments and numbers of the calls on it.
@@ -107,9 +115,12 @@ impl Session {
         })
     }
 
-    /// The reply to the call of a line, if it is one of an action.
+    /// The reply to the event of a line, if it is a call of an action or a step of a harvest.
     pub fn work(&mut self, alloc: Global, line: Line<'_>) -> Option<Reply> {
-        let call = self.call_of(alloc, line)?;
-        Some(self.portal.act(&Event::Call(call)))
+        let event = match line.caller {
+            "harvest" => Event::Harvest(step_of_line(alloc, line)?),
+            _ => Event::Call(self.call_of(alloc, line)?),
+        };
+        Some(self.portal.act(&event))
     }
 }
