@@ -1,0 +1,9 @@
+mod BoundLemmas
+mod LoopLemmas
+mod MakingLemmas
+mod ReadLemmas
+mod RoundLemmas
+mod SourceLemmas
+mod StageLemmas
+mod WholeLemmas
+mod WorkLemmas

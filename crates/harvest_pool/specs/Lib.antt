@@ -1,0 +1,6 @@
+pub mod Answers
+pub mod Bounds
+pub mod Made
+pub mod RoundJson
+pub mod Rounds
+pub mod Working
