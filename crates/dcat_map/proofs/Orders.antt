@@ -29,6 +29,21 @@ same_text (x ∷ xs) (y ∷ ys) h =
     let rest : xs ≡ ys = same_text xs ys parts.1 in
     cc
 
+then_none : (r : Ordering) → ordering_then r Equal ≡ r
+then_none Less = refl
+then_none Equal = refl
+then_none Greater = refl
+
+-- Two IRIs are in the order of their texts.
+pub iris_by_text : (i j : List ℕ) → text_cmp i j ≡ term_cmp (Iri i) (Iri j)
+unfolding term_cmp
+iris_by_text i j = sym (then_none (text_cmp i j))
+
+-- Two blank nodes are in the order of their labels.
+pub blank_nodes_by_label : (i j : List ℕ) → text_cmp i j ≡ term_cmp (Blank i) (Blank j)
+unfolding term_cmp
+blank_nodes_by_label i j = sym (then_none (text_cmp i j))
+
 -- A literal with a language has the rank 1 or 2.
 tagged : (tag : List ℕ) → (0 < cond (is_english tag) 1 2) × (cond (is_english tag) 1 2 < 3)
 tagged tag =

@@ -13,9 +13,15 @@ use Rattle.dcat_map.specs.Vocabulary.{rdf_type, dcat_dataset_class}
 unfoldable pub graph_of : List Triple → List Triple
 graph_of triples = ascending_set triple_cmp triples
 
+abbrev pub has_subject : Term → Triple → Bool
+has_subject subject t = is_eq (term_cmp t.subject subject)
+
+abbrev pub has_predicate : List ℕ → Triple → Bool
+has_predicate predicate t = bytes_eq t.predicate predicate
+
 -- the triple has this subject and this predicate
 unfoldable pub is_about : Term → List ℕ → Triple → Bool
-is_about subject predicate t = is_eq (term_cmp t.subject subject) && bytes_eq t.predicate predicate
+is_about subject predicate t = has_subject subject t && has_predicate predicate t
 
 -- the triples with this subject and this predicate
 abbrev pub about : List Triple → Term → List ℕ → List Triple

@@ -3,7 +3,7 @@
 -- literals, and blank nodes after IRIs, each by their bytes.
 use Rattle.std.specs.Prelude.{ℕ, ◌==◌, if◌then◌else◌, Bool, true, false, ◌&&◌, ◌||◌, List, [], ◌∷◌, Some, None}
 use Rattle.std.specs.declared.cmp.Ordering.{Ordering}
-use Rattle.std.specs.Ordering.{nat_cmp, on, then_cmp, ordering_then}
+use Rattle.std.specs.Ordering.{nat_cmp, on, then_cmp}
 use Rattle.std.specs.Cmp.{IsTotalOrder, on_total, then_total, nat_cmp_total}
 use Rattle.std.specs.Cmp.Lexicographic.{slice_cmp, nat_list_cmp_total}
 use Rattle.std.specs.Str.{bytes_eq}
@@ -59,10 +59,6 @@ term_cmp =
 unfoldable pub triple_cmp : Triple → Triple → Ordering
 triple_cmp =
     then_cmp (on (λ t. t.subject) term_cmp) (then_cmp (on (λ t. t.predicate) text_cmp) (on (λ t. t.object) term_cmp))
-
--- how a triple compares to those with this subject and this predicate
-unfoldable pub key_cmp : Term → List ℕ → Triple → Ordering
-key_cmp subject predicate t = ordering_then (term_cmp t.subject subject) (text_cmp t.predicate predicate)
 
 pub term_cmp_total : IsTotalOrder term_cmp
 unfolding term_cmp

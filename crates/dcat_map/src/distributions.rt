@@ -11,6 +11,7 @@ ghost use Rattle.dcat_map.specs.Vocabulary.{dct_description, dct_format};
 
 use crate::graph::Graph;
 use crate::picks::{least_iri, least_named, picked};
+use crate::subject::Subject;
 use crate::vocabulary::{
     ACCESS_URL, DESCRIPTION, DISTRIBUTION, DOWNLOAD_URL, FORMAT, MEDIA_TYPE, MEDIA_TYPES,
     OLD_MEDIA_TYPES, TITLE,
@@ -75,22 +76,22 @@ pub(crate) fn or_empty<'a>(text: Option<&'a Text>) -> &'a str
 }
 
 // Where the distribution is found.
-fn url_of<'a>(graph: &Graph<'a>, node: &Term) -> &'a str
-    ensures { result.now ≡ or_other (least_named (about graph.now node.now dcat_download_url))
-        (least_named (about graph.now node.now dcat_access_url)) }
+fn url_of<'a>(node: &Subject<'_, 'a>) -> &'a str
+    ensures { result.now ≡ or_other (least_named (about node.now.0 node.now.1 dcat_download_url))
+        (least_named (about node.now.0 node.now.1 dcat_access_url)) }
 {
-    match least_named(graph.about(node, DOWNLOAD_URL)) {
+    match least_named(node.about(DOWNLOAD_URL)) {
         Some(url) => url.as_str(),
-        None => or_empty(least_named(graph.about(node, ACCESS_URL))),
+        None => or_empty(least_named(node.about(ACCESS_URL))),
     }
 }
 
 // Its format.
-fn format_of<'a>(graph: &Graph<'a>, node: &Term) -> &'a str
-    ensures { result.now ≡ or_last_part (picked (about graph.now node.now dct_format))
-        (or_empty (least_iri (about graph.now node.now dct_format))) }
+fn format_of<'a>(node: &Subject<'_, 'a>) -> &'a str
+    ensures { result.now ≡ or_last_part (picked (about node.now.0 node.now.1 dct_format))
+        (or_empty (least_iri (about node.now.0 node.now.1 dct_format))) }
 {
-    let formats = graph.about(node, FORMAT);
+    let formats = node.about(FORMAT);
     let format = picked(formats);
     if !format.is_empty() {
         return format;
@@ -99,23 +100,22 @@ fn format_of<'a>(graph: &Graph<'a>, node: &Term) -> &'a str
 }
 
 // Its media type.
-fn media_type_of<'a>(graph: &Graph<'a>, node: &Term) -> &'a str
-    ensures { result.now ≡ media_type (or_empty (least_named (about graph.now node.now dcat_media_type))) }
+fn media_type_of<'a>(node: &Subject<'_, 'a>) -> &'a str
+    ensures { result.now ≡ media_type (or_empty (least_named (about node.now.0 node.now.1 dcat_media_type))) }
 {
-    media_type(or_empty(least_named(graph.about(node, MEDIA_TYPE))))
+    media_type(or_empty(least_named(node.about(MEDIA_TYPE))))
 }
 
 /// What the graph says of the distribution.
 #[tactic(auto, unfolding(crate::specs::Distributions::distribution_in))]
 pub(crate) fn distribution_of(
     alloc: Global,
-    graph: &Graph<'_>,
-    node: &Term,
+    node: &Subject<'_, '_>,
 ) -> Result<Distribution, AllocError>
-    ensures { IfOk result (λ distribution. distribution ≡ distribution_in graph.now node.now) }
+    ensures { IfOk result (λ distribution. distribution ≡ distribution_in node.now.0 node.now.1) }
 {
-    let (name, description) = texts_of(alloc, graph, node)?;
-    let (url, format, mimetype) = file_of(alloc, graph, node)?;
+    let (name, description) = texts_of(alloc, node)?;
+    let (url, format, mimetype) = file_of(alloc, node)?;
     Ok(Distribution {
         url,
         name,
@@ -126,31 +126,27 @@ pub(crate) fn distribution_of(
 }
 
 // The title and the description.
-fn texts_of(alloc: Global, graph: &Graph<'_>, node: &Term) -> Result<(Text, Text), AllocError>
-    ensures name { IfOk result (λ texts. texts.0 ≡ picked (about graph.now node.now dct_title)) }
-    ensures description { IfOk result (λ texts. texts.1 ≡ picked (about graph.now node.now dct_description)) }
+fn texts_of(alloc: Global, node: &Subject<'_, '_>) -> Result<(Text, Text), AllocError>
+    ensures name { IfOk result (λ texts. texts.0 ≡ picked (about node.now.0 node.now.1 dct_title)) }
+    ensures description { IfOk result (λ texts. texts.1 ≡ picked (about node.now.0 node.now.1 dct_description)) }
 {
-    let name = Text::from_str(alloc, picked(graph.about(node, TITLE)))?;
-    let description = picked(graph.about(node, DESCRIPTION));
+    let name = Text::from_str(alloc, picked(node.about(TITLE)))?;
+    let description = picked(node.about(DESCRIPTION));
     Ok((name, Text::from_str(alloc, description)?))
 }
 
 // Where the file is found, its format and its media type.
-fn file_of(alloc: Global, graph: &Graph<'_>, node: &Term) -> Result<(Text, Text, Text), AllocError>
-    ensures url { IfOk result (λ file. file.0 ≡ or_other (least_named (about graph.now node.now dcat_download_url))
-        (least_named (about graph.now node.now dcat_access_url))) }
-    ensures format { IfOk result (λ file. file.1 ≡ or_last_part (picked (about graph.now node.now dct_format))
-        (or_empty (least_iri (about graph.now node.now dct_format)))) }
+fn file_of(alloc: Global, node: &Subject<'_, '_>) -> Result<(Text, Text, Text), AllocError>
+    ensures url { IfOk result (λ file. file.0 ≡ or_other (least_named (about node.now.0 node.now.1 dcat_download_url))
+        (least_named (about node.now.0 node.now.1 dcat_access_url))) }
+    ensures format { IfOk result (λ file. file.1 ≡ or_last_part (picked (about node.now.0 node.now.1 dct_format))
+        (or_empty (least_iri (about node.now.0 node.now.1 dct_format)))) }
     ensures mimetype { IfOk result (λ file.
-        file.2 ≡ media_type (or_empty (least_named (about graph.now node.now dcat_media_type)))) }
+        file.2 ≡ media_type (or_empty (least_named (about node.now.0 node.now.1 dcat_media_type)))) }
 {
-    let url = Text::from_str(alloc, url_of(graph, node))?;
-    let format = Text::from_str(alloc, format_of(graph, node))?;
-    Ok((
-        url,
-        format,
-        Text::from_str(alloc, media_type_of(graph, node))?,
-    ))
+    let url = Text::from_str(alloc, url_of(node))?;
+    let format = Text::from_str(alloc, format_of(node))?;
+    Ok((url, format, Text::from_str(alloc, media_type_of(node))?))
 }
 
 // A copy of the distribution.
@@ -176,7 +172,7 @@ fn known_or_described(
 {
     match graph.shared(node) {
         Some(distribution) => copy_of(alloc, distribution),
-        None => distribution_of(alloc, graph, node),
+        None => distribution_of(alloc, &Subject::of(graph, node)),
     }
 }
 
@@ -196,12 +192,12 @@ fn compare_distributions(first: &Distribution, second: &Distribution) -> Orderin
 #[tactic(auto, unfolding(crate::specs::Distributions::resources_in))]
 pub(crate) fn resources_of(
     alloc: Global,
-    graph: &Graph<'_>,
-    dataset: &Term,
+    dataset: &Subject<'_, '_>,
 ) -> Result<Seq<Distribution>, AllocError>
-    ensures { IfOk result (λ resources. resources ≡ resources_in graph.now dataset.now) }
+    ensures { IfOk result (λ resources. resources ≡ resources_in dataset.now.0 dataset.now.1) }
 {
-    let mut distributions = distributions_of(alloc, graph, graph.about(dataset, DISTRIBUTION))?;
+    let triples = dataset.about(DISTRIBUTION);
+    let mut distributions = distributions_of(alloc, dataset.graph(), triples)?;
     distributions.sort_unstable_by(compare_distributions);
     distributions.truncate(MOST_RESOURCES);
     Ok(Seq::from(distributions))

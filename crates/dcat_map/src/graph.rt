@@ -1,8 +1,8 @@
-//! A graph as the ascending list of its triples, in which triples are found by subject and predicate.
+//! A graph as the ascending list of its triples, in which those of a subject are next to each other.
 ghost use Rattle.std.specs.Prelude.{◌≡◌, filter, IfOk, IfSome};
-ghost use Rattle.dcat_map.specs.Graphs.{graph_of, is_about, is_typed, is_described, about};
+ghost use Rattle.dcat_map.specs.Graphs.{graph_of, has_subject, is_typed, is_described};
 ghost use Rattle.std.specs.List.Sorted.{IsStrictlySortedBy};
-ghost use Rattle.dcat_map.specs.Terms.{key_cmp, triple_cmp};
+ghost use Rattle.dcat_map.specs.Terms.{triple_cmp};
 ghost use Rattle.dcat_map.specs.Distributions.{distribution_in};
 ghost use Rattle.dcat_map.specs.Vocabulary.{dcat_dataset_class};
 
@@ -15,7 +15,6 @@ use ntriples::{Borrowed, Term, Triple};
 use portal_base::seq::Seq;
 use portal_base::text::Text;
 use std::alloc::{AllocError, Global};
-use std::cmp::Ordering;
 use std::marker::Model;
 
 /// The set of the triples of a list that is lent. A contract sees it as the ascending list of them, each once. What it
@@ -70,11 +69,17 @@ impl<'a> Graph<'a> {
         self.triples.as_slice()
     }
 
-    /// The triples with this subject and this predicate.
-    pub(crate) fn about(&self, subject: &Term, predicate: &str) -> &[Borrowed<'a, Triple>]
-        ensures { result.now ≡ about self.now subject.now predicate.now }
+    /// The triples with this subject, by two binary searches.
+    pub(crate) fn triples_of(&self, subject: &Term) -> &[Borrowed<'a, Triple>]
+        ensures part { result.now ≡ filter (has_subject subject.now) self.now }
+        ensures ascending { IsStrictlySortedBy triple_cmp self.now }
     {
-        part_about(self.triples.as_slice(), subject, predicate)
+        let triples = self.triples.as_slice();
+        let start = triples.partition_point(|t| compare_terms(&t.get().subject, subject).is_lt());
+        let (_, rest) = triples.split_at(start);
+        let end = rest.partition_point(|t| compare_terms(&t.get().subject, subject).is_le());
+        let (part, _) = rest.split_at(end);
+        part
     }
 
     /// What is known of a distribution that several datasets share.
@@ -110,28 +115,4 @@ fn borrow_all(alloc: Global, triples: &[Triple]) -> Result<Vec<Borrowed<'_, Trip
         borrowed.push(Borrowed::new(triple))?;
     }
     Ok(borrowed)
-}
-
-// The order of triples by subject and predicate alone.
-#[tactic(auto, unfolding(crate::specs::Terms::key_cmp))]
-fn compare_key(triple: &Triple, subject: &Term, predicate: &str) -> Ordering
-    ensures { result ≡ key_cmp subject.now predicate.now triple.now }
-{
-    compare_terms(&triple.subject, subject).then(triple.predicate.as_str().cmp(predicate))
-}
-
-// The triples with this subject and this predicate, of triples in ascending order.
-fn part_about<'s, 'a>(
-    triples: &'s [Borrowed<'a, Triple>],
-    subject: &Term,
-    predicate: &str,
-) -> &'s [Borrowed<'a, Triple>]
-    requires { IsStrictlySortedBy triple_cmp triples.now }
-    ensures { result.now ≡ about triples.now subject.now predicate.now }
-{
-    let start = triples.partition_point(|t| compare_key(t.get(), subject, predicate).is_lt());
-    let end = triples.partition_point(|t| !compare_key(t.get(), subject, predicate).is_gt());
-    let (_, rest) = triples.split_at(start);
-    let (part, _) = rest.split_at(end - start);
-    part
 }

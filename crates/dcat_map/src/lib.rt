@@ -10,6 +10,7 @@ mod picks;
 mod record;
 mod sets;
 mod shared;
+mod subject;
 mod tags;
 mod terms;
 mod vocabulary;

@@ -10,6 +10,7 @@ ghost use Rattle.dcat_map.specs.Vocabulary.{dcat_catalog};
 
 use crate::graph::{Graph, is_typed};
 use crate::sets::make_term_set;
+use crate::subject::about;
 use crate::vocabulary::{CATALOG_CLASS, DATASET};
 use ntriples::{Borrowed, Term, Triple};
 use portal_base::copy::TryClone;
@@ -122,7 +123,7 @@ fn push_links<'a>(
     ensures { OnOk result (links.new.items ≡ links.old.items ++ links_in graph.now (triple.now ∷ [])) }
 {
     if is_typed(triple, CATALOG_CLASS) {
-        push_objects(links, graph.about(&triple.subject, DATASET))?;
+        push_objects(links, about(graph, &triple.subject, DATASET))?;
     }
     Ok(())
 }

@@ -13,6 +13,7 @@ use crate::distributions::{or_empty, resources_of};
 use crate::graph::Graph;
 use crate::instants::latest;
 use crate::picks::{least_named, picked};
+use crate::subject::Subject;
 use crate::tags::tags_among;
 use crate::terms::is_iri;
 use crate::vocabulary::{DATASET_CLASS, DESCRIPTION, KEYWORD, LICENSE, MODIFIED, TITLE, TYPE};
@@ -74,22 +75,18 @@ pub fn describe_in(
         (fault ≡ RecordFault.OutOfMemory) ⊎ (description_in graph.now iri.now ≡ Err fault)) }
 {
     let dataset = Term::Iri(iri.try_clone(alloc)?);
-    describe_dataset(alloc, graph, &dataset)
+    describe_dataset(alloc, &Subject::of(graph, &dataset))
 }
 
-// What the graph says of the dataset that the term names.
-fn describe_dataset(
-    alloc: Global,
-    graph: &Graph<'_>,
-    dataset: &Term,
-) -> Result<HarvestRecord, RecordFault>
-    ensures record_is { (iri : List ℕ) → dataset.now ≡ Iri iri →
-        IfOk result (λ r. description_in graph.now iri ≡ Ok r) }
-    ensures fault { (iri : List ℕ) → dataset.now ≡ Iri iri →
-        IfErr result (λ fault. (fault ≡ RecordFault.OutOfMemory) ⊎ (description_in graph.now iri ≡ Err fault)) }
+// What the graph says of the dataset, which an IRI names.
+fn describe_dataset(alloc: Global, dataset: &Subject<'_, '_>) -> Result<HarvestRecord, RecordFault>
+    ensures record_is { (iri : List ℕ) → dataset.now.1 ≡ Iri iri →
+        IfOk result (λ r. description_in dataset.now.0 iri ≡ Ok r) }
+    ensures fault { (iri : List ℕ) → dataset.now.1 ≡ Iri iri → IfErr result (λ fault.
+        (fault ≡ RecordFault.OutOfMemory) ⊎ (description_in dataset.now.0 iri ≡ Err fault)) }
 {
-    if is_dataset(graph, dataset) {
-        titled(record_of(alloc, graph, dataset)?)
+    if is_dataset(dataset) {
+        titled(record_of(alloc, dataset)?)
     } else {
         Err(RecordFault::NotDescribed)
     }
@@ -106,48 +103,44 @@ fn titled(described: HarvestRecord) -> Result<HarvestRecord, RecordFault>
     }
 }
 
-// Whether the graph says that the term is a dataset.
-fn is_dataset(graph: &Graph<'_>, dataset: &Term) -> bool
-    ensures { result ≡ list_any (λ t. is_iri dcat_dataset_class t.object) (about graph.now dataset.now rdf_type) }
+// Whether the graph says that the subject is a dataset.
+fn is_dataset(subject: &Subject<'_, '_>) -> bool
+    ensures { result ≡ list_any (λ t. is_iri dcat_dataset_class t.object) (about subject.now.0 subject.now.1 rdf_type) }
 {
-    graph
-        .about(dataset, TYPE)
+    subject
+        .about(TYPE)
         .iter()
         .any(|triple| is_iri(&triple.get().object, DATASET_CLASS))
 }
 
 // What the graph says of the dataset.
 #[tactic(auto, unfolding(crate::specs::Records::record_in))]
-fn record_of(alloc: Global, graph: &Graph<'_>, dataset: &Term) -> Result<HarvestRecord, AllocError>
-    ensures { IfOk result (λ r. r ≡ record_in graph.now dataset.now) }
+fn record_of(alloc: Global, dataset: &Subject<'_, '_>) -> Result<HarvestRecord, AllocError>
+    ensures { IfOk result (λ r. r ≡ record_in dataset.now.0 dataset.now.1) }
 {
-    let tags = tags_among(alloc, graph.about(dataset, KEYWORD))?;
-    let resources = resources_of(alloc, graph, dataset)?;
-    let (title, notes, license_id) = texts_of(alloc, graph, dataset)?;
+    let tags = tags_among(alloc, dataset.about(KEYWORD))?;
+    let resources = resources_of(alloc, dataset)?;
+    let (title, notes, license_id) = texts_of(alloc, dataset)?;
     Ok(HarvestRecord {
         title,
         notes,
         tags,
-        modified: or_epoch(latest(graph.about(dataset, MODIFIED))),
+        modified: or_epoch(latest(dataset.about(MODIFIED))),
         license_id,
         resources,
     })
 }
 
 // The title, the description and the license.
-fn texts_of(
-    alloc: Global,
-    graph: &Graph<'_>,
-    dataset: &Term,
-) -> Result<(Text, Text, Text), AllocError>
-    ensures title { IfOk result (λ texts. texts.0 ≡ picked (about graph.now dataset.now dct_title)) }
-    ensures notes { IfOk result (λ texts. texts.1 ≡ picked (about graph.now dataset.now dct_description)) }
+fn texts_of(alloc: Global, dataset: &Subject<'_, '_>) -> Result<(Text, Text, Text), AllocError>
+    ensures title { IfOk result (λ texts. texts.0 ≡ picked (about dataset.now.0 dataset.now.1 dct_title)) }
+    ensures notes { IfOk result (λ texts. texts.1 ≡ picked (about dataset.now.0 dataset.now.1 dct_description)) }
     ensures license { IfOk result (λ texts.
-        texts.2 ≡ or_empty (least_named (about graph.now dataset.now dct_license))) }
+        texts.2 ≡ or_empty (least_named (about dataset.now.0 dataset.now.1 dct_license))) }
 {
-    let title = Text::from_str(alloc, picked(graph.about(dataset, TITLE)))?;
-    let notes = Text::from_str(alloc, picked(graph.about(dataset, DESCRIPTION)))?;
-    let license = or_empty(least_named(graph.about(dataset, LICENSE)));
+    let title = Text::from_str(alloc, picked(dataset.about(TITLE)))?;
+    let notes = Text::from_str(alloc, picked(dataset.about(DESCRIPTION)))?;
+    let license = or_empty(least_named(dataset.about(LICENSE)));
     Ok((title, notes, Text::from_str(alloc, license)?))
 }
 

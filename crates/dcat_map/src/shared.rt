@@ -6,6 +6,7 @@ ghost use Rattle.dcat_map.specs.Distributions.{distribution_in, AreDescribed};
 use crate::distributions::{distribution_of, is_iri_or_blank};
 use crate::graph::Graph;
 use crate::sets::make_term_set;
+use crate::subject::Subject;
 use crate::terms::compare_terms;
 use crate::vocabulary::DISTRIBUTION;
 use harvest_records::Distribution;
@@ -24,7 +25,7 @@ impl<'a> Shared<'a> {
         ensures { IfOk result (λ shared. shared.distribution ≡ distribution_in graph.now shared.node) }
     {
         Ok(Shared {
-            distribution: distribution_of(alloc, graph, node)?,
+            distribution: distribution_of(alloc, &Subject::of(graph, node))?,
             node: Borrowed::new(node),
         })
     }

@@ -68,9 +68,22 @@ fn datatype_of(term: &Term) -> &str
     }
 }
 
-/// The order of terms by which one of several literals is picked. It looks no further than where they first differ.
-#[tactic(auto, unfolding(crate::specs::Terms::term_cmp))]
+/// The order of terms by which one of several literals is picked. Two IRIs differ by their texts alone, and so do two blank
+/// nodes.
+#[tactic(auto, using(crate::proofs::Orders::iris_by_text, crate::proofs::Orders::blank_nodes_by_label))]
 pub(crate) fn compare_terms(first: &Term, second: &Term) -> Ordering
+    ensures { result ≡ term_cmp first.now second.now }
+{
+    match (first, second) {
+        (Term::Iri(first), Term::Iri(second)) => first.cmp(second),
+        (Term::Blank(first), Term::Blank(second)) => first.cmp(second),
+        _ => compare_parts(first, second),
+    }
+}
+
+// The order of terms by each of their parts. It looks no further than where they first differ.
+#[tactic(auto, unfolding(crate::specs::Terms::term_cmp))]
+fn compare_parts(first: &Term, second: &Term) -> Ordering
     ensures { result ≡ term_cmp first.now second.now }
 {
     let by_rank = rank_of(first).cmp(&rank_of(second));

@@ -16,10 +16,12 @@ returns c =
     let sorted : IsSortedBy (λ x y. is_lt (distribution_cmp x y)) after =
     c.sort_unstable_by.ensures.sorted (λ x y. is_lt (distribution_cmp x y)) (ranks_by distribution_cmp_total (λ x. x))
     (answers_always _ _ _ (λ f a r g called. search rules)) in
-    let all = distributions_in c.args.graph.now (about c.args.graph.now c.args.dataset.now dcat_distribution) in
+    let g = c.args.dataset.now.0 in
+    let all = distributions_in g (about g c.args.dataset.now.1 dcat_distribution) in
     let moved : IsPermutation all after =
     subst (λ xs. IsPermutation xs after)
-    (c.in_ok-distributions.ensures ∙ ap (distributions_in c.args.graph.now) c.about.ensures)
+    (c.in_ok-distributions.ensures ∙ ap (λ ts. distributions_in c.graph.result.now ts) c.about-triples.ensures
+    ∙ ap (λ h. distributions_in h (about g c.args.dataset.now.1 dcat_distribution)) c.graph.ensures)
     c.sort_unstable_by.ensures.permutation in
     c.from.ensures ∙ c.truncate.ensures.items
     ∙ ap (take 200) (in_order-sort distribution_cmp distribution_cmp_total same_distribution all after moved sorted)
