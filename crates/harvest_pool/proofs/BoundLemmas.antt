@@ -68,7 +68,7 @@ same-tail name change (s ∷ ss) apart =
     by false unlike rest = ap (λ l. s ∷ l) rest
 
 -- Only the changed source adds something else.
-sum-at : (f : SourceState → ℕ) (ss : List SourceState) (t : SourceState) (change : SourceState → SourceState)
+pub sum-at : (f : SourceState → ℕ) (ss : List SourceState) (t : SourceState) (change : SourceState → SourceState)
     → IsAscending source_cmp ss → IsIn t ss
     → sum_by f (with_source_at t.source.name change ss) + f t ≡ sum_by f ss + f (change t)
 sum-at f [] t change up m = absurd m
@@ -247,22 +247,28 @@ catalogues-few (c ∷ cs) st fit answered =
 abbrev waiting_one : ListedObject → ℕ
 waiting_one o = cond (is_waiting o) 1 0
 
--- The object of that IRI in a listing, with its progress put anew.
-progress-sum : (l : Listing) (o : ListedObject) (progress : Progress) → IsAscending object_cmp l.objects
-    → IsIn o l.objects
-    → waiting_in (with_progress o.iri progress l) + waiting_one o
-    ≡ waiting_in l + waiting_one (record { iri = o.iri; progress = progress })
-progress-sum l o progress up m =
+-- The object of that IRI in a listing, with its progress put anew: it alone adds something else to a sum over objects.
+pub object-sum : (f : ListedObject → ℕ) (l : Listing) (o : ListedObject) (progress : Progress)
+    → IsAscending object_cmp l.objects → IsIn o l.objects
+    → sum_by f (with_progress o.iri progress l).objects + f o
+    ≡ sum_by f l.objects + f (record { iri = o.iri; progress = progress })
+object-sum f l o progress up m =
     let at = Contains-IsIn o l.objects m in
     let new : ListedObject = record { iri = o.iri; progress = progress } in
     let put : set l.objects at.0 new ≡ upserted object_cmp new l.objects =
     set-upserted object_cmp object_cmp_total l.objects at.0 o new up at.1
     (ap (λ (x : ListedObject). object_cmp x new) at.2 ∙ same_bytes o.iri o.iri refl) in
-    let sum = sum_by-set waiting_one l.objects at.0 new o at.1 in
-    let moved : waiting_in (with_progress o.iri progress l) ≡ sum_by waiting_one (set l.objects at.0 new) =
-    ap (sum_by waiting_one) (sym put) in
-    let old : waiting_one (get_or l.objects at.0 o) ≡ waiting_one o = ap waiting_one at.2 in
+    let sum = sum_by-set f l.objects at.0 new o at.1 in
+    let moved : sum_by f (with_progress o.iri progress l).objects ≡ sum_by f (set l.objects at.0 new) =
+    ap (sum_by f) (sym put) in
+    let old : f (get_or l.objects at.0 o) ≡ f o = ap f at.2 in
     omega (arith, sum, moved, old)
+
+progress-sum : (l : Listing) (o : ListedObject) (progress : Progress) → IsAscending object_cmp l.objects
+    → IsIn o l.objects
+    → waiting_in (with_progress o.iri progress l) + waiting_one o
+    ≡ waiting_in l + waiting_one (record { iri = o.iri; progress = progress })
+progress-sum l o progress up m = object-sum waiting_one l o progress up m
 
 item-iri : (o : ListedObject) (item : Item) → waiting_item o ≡ Some item → o.iri ≡ item.iri
 item-iri o item e = by (waits_at o.progress) e

@@ -174,12 +174,12 @@ none-open s none = by (open_job s) refl
 abbrev told_by : Round → List (List ℕ)
 told_by r = map (λ (report : SourceReport). report.source) (reports_of_round r)
 
-in-left : {X : Type 0} (x : X) (xs ys : List X) → IsIn x xs → IsIn x (xs ++ ys)
+pub in-left : {X : Type 0} (x : X) (xs ys : List X) → IsIn x xs → IsIn x (xs ++ ys)
 in-left x [] ys m = absurd m
 in-left x (y ∷ xs) ys (inl same) = inl same
 in-left x (y ∷ xs) ys (inr m) = inr (in-left x xs ys m)
 
-in-right : {X : Type 0} (x : X) (xs ys : List X) → IsIn x ys → IsIn x (xs ++ ys)
+pub in-right : {X : Type 0} (x : X) (xs ys : List X) → IsIn x ys → IsIn x (xs ++ ys)
 in-right x [] ys m = m
 in-right x (y ∷ xs) ys m = inr (in-right x xs ys m)
 

@@ -183,30 +183,35 @@ round-ready told st fit = record {
 -- ---- a catalogue
 
 -- a new job that begins, and the entry for it
-record Begun (ss : List SourceState) (id : List ℕ) (entries : List SourceEntry) : Type 0 where
+pub record Begun (ss : List SourceState) (id url : List ℕ) (entries : List SourceEntry) : Type 0 where
   pub at : SourceState
   pub job : Job
+  pub found : find has_new ss ≡ Some at
+  pub location : url ≡ at.source.url
   pub there : IsIn at ss
   pub new : has_new at ≡ true
   pub opens : open_job at ≡ Some job
   pub named : id_of_job job ≡ id
   pub put : entries ≡ PutJob (in_state state.Running job) ∷ []
 
-begun-job : (ss : List SourceState) (id url : List ℕ)
+pub begun-job : (ss : List SourceState) (id url : List ℕ)
     → Gather id url ≡ (on_job Nothing begun (find has_new ss)).reply
-    → Begun ss id (on_job Nothing begun (find has_new ss)).entries
+    → Begun ss id url (on_job Nothing begun (find has_new ss)).entries
 begun-job ss id url e = by (find has_new ss) refl e
   where
     at_open : (t : SourceState) → find has_new ss ≡ Some t → (o : Option Job) → open_job t ≡ o
         → Gather id url ≡ (option_map_or (begun t) o (idle Nothing)).reply
-        → Begun ss id (option_map_or (begun t) o (idle Nothing)).entries
+        → Begun ss id url (option_map_or (begun t) o (idle Nothing)).entries
     at_open t is None opens e = absurd (cc)
     at_open t is (Some job) opens e =
         let there = IsIn-find has_new t ss is in
         let named : id ≡ id_of_job job = cc in
+        let location : url ≡ t.source.url = cc in
         record {
           at = t;
           job = job;
+          found = is;
+          location = location;
           there = there.0;
           new = there.1;
           opens = opens;
@@ -215,14 +220,14 @@ begun-job ss id url e = by (find has_new ss) refl e
         }
 
     by : (o : Option SourceState) → find has_new ss ≡ o → Gather id url ≡ (on_job Nothing begun o).reply
-        → Begun ss id (on_job Nothing begun o).entries
+        → Begun ss id url (on_job Nothing begun o).entries
     by None is e = absurd (cc)
     by (Some t) is e = at_open t is (open_job t) refl e
 
-abbrev begun_source : Job → SourceState → SourceState
+abbrev pub begun_source : Job → SourceState → SourceState
 begun_source job t = with_job (in_state state.Running job) t
 
-abbrev begun_among : Job → List SourceState → List SourceState
+abbrev pub begun_among : Job → List SourceState → List SourceState
 begun_among job ss = with_source_at job.source (with_job (in_state state.Running job)) ss
 
 -- A new job that begins, and is listed or broken.
@@ -342,7 +347,7 @@ catalogue-ready names told ids c st stage answered tells = record {
   owed = (by c.read answered.1.0).1;
 }
   where
-    b : Begun st.sources c.job (on_job Nothing begun (find has_new st.sources)).entries
+    b : Begun st.sources c.job c.url (on_job Nothing begun (find has_new st.sources)).entries
     b = begun-job st.sources c.job c.url answered.0
 
     same : (after_step Begin st).sources ≡ begun_among b.job st.sources
@@ -434,11 +439,11 @@ none-new names told ids last st stage answered stops = record {
 -- ---- an object
 
 -- the source has a waiting object
-abbrev waits : SourceState → Bool
+abbrev pub waits : SourceState → Bool
 waits s = is_some (waiting_of s)
 
 -- an object that is claimed, and the entry for it
-record ClaimedOne (ss : List SourceState) (id : List ℕ) (item : Item) (entries : List SourceEntry) : Type 0 where
+pub record ClaimedOne (ss : List SourceState) (id : List ℕ) (item : Item) (entries : List SourceEntry) : Type 0 where
   pub at : SourceState
   pub job : Job
   pub listing : Listing
@@ -446,50 +451,54 @@ record ClaimedOne (ss : List SourceState) (id : List ℕ) (item : Item) (entries
   pub opens : open_job at ≡ Some job
   pub named : id_of_job job ≡ id
   pub listed_so : at.listing ≡ Some listing
+  pub found : find waits ss ≡ Some at
+  pub waiting : first_waiting listing ≡ Some item
   pub put : entries
       ≡ PutListing at.source.name (Some (with_progress item.iri (Claimed item.found) listing)) ∷ []
 
-claimed-one : (ss : List SourceState) (id : List ℕ) (item : Item)
+pub claimed-one : (ss : List SourceState) (id : List ℕ) (item : Item)
     → Object id item ≡ (on_job Nothing claimed (find waits ss)).reply
     → ClaimedOne ss id item (on_job Nothing claimed (find waits ss)).entries
 claimed-one ss id item e = by (find waits ss) refl e
   where
-    at_item : (t : SourceState) → IsIn t ss → (job : Job) → open_job t ≡ Some job → (l : Listing)
-        → t.listing ≡ Some l → (o : Option Item)
+    at_item : (t : SourceState) → find waits ss ≡ Some t → (job : Job) → open_job t ≡ Some job → (l : Listing)
+        → t.listing ≡ Some l → (o : Option Item) → first_waiting l ≡ o
         → Object id item ≡ (option_map_or (claimed_in t job l) o (idle Nothing)).reply
         → ClaimedOne ss id item (option_map_or (claimed_in t job l) o (idle Nothing)).entries
-    at_item t m job opens l is None e = absurd (cc)
-    at_item t m job opens l is (Some other) e =
+    at_item t found job opens l is None first e = absurd (cc)
+    at_item t found job opens l is (Some other) first e =
         let named : id ≡ id_of_job job = cc in
         let same : item ≡ other = cc in
         record {
           at = t;
           job = job;
           listing = l;
-          there = m;
+          there = (IsIn-find waits t ss found).0;
           opens = opens;
           named = sym named;
           listed_so = is;
+          found = found;
+          waiting = first ∙ ap Some (sym same);
           put = ap (λ (i : Item). PutListing t.source.name (Some (with_progress i.iri (Claimed i.found) l)) ∷ [])
               (sym same);
         }
 
-    at_listing : (t : SourceState) → IsIn t ss → (job : Job) → open_job t ≡ Some job → (l : Option Listing)
-        → t.listing ≡ l → Object id item ≡ (claimed_from t job l).reply
+    at_listing : (t : SourceState) → find waits ss ≡ Some t → (job : Job) → open_job t ≡ Some job
+        → (l : Option Listing) → t.listing ≡ l → Object id item ≡ (claimed_from t job l).reply
         → ClaimedOne ss id item (claimed_from t job l).entries
-    at_listing t m job opens None is e = absurd (cc)
-    at_listing t m job opens (Some l) is e = at_item t m job opens l is (first_waiting l) e
+    at_listing t found job opens None is e = absurd (cc)
+    at_listing t found job opens (Some l) is e = at_item t found job opens l is (first_waiting l) refl e
 
-    at_open : (t : SourceState) → IsIn t ss → (o : Option Job) → open_job t ≡ o
+    at_open : (t : SourceState) → find waits ss ≡ Some t → (o : Option Job) → open_job t ≡ o
         → Object id item ≡ (option_map_or (claimed t) o (idle Nothing)).reply
         → ClaimedOne ss id item (option_map_or (claimed t) o (idle Nothing)).entries
-    at_open t m None opens e = absurd (cc)
-    at_open t m (Some job) opens e = at_listing t m job opens t.listing refl e
+    at_open t found None opens e = absurd (cc)
+    at_open t found (Some job) opens e = at_listing t found job opens t.listing refl e
 
     by : (o : Option SourceState) → find waits ss ≡ o → Object id item ≡ (on_job Nothing claimed o).reply
         → ClaimedOne ss id item (on_job Nothing claimed o).entries
     by None is e = absurd (cc)
-    by (Some t) is e = at_open t (IsIn-find waits t ss is).0 (open_job t) refl e
+    by (Some t) is e = at_open t is (open_job t) refl e
 
 abbrev claimed_source : Item → Listing → SourceState → SourceState
 claimed_source item l t = with_listing (Some (with_progress item.iri (Claimed item.found) l)) t
