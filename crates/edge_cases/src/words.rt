@@ -3,7 +3,8 @@ use cases::{Buffer, Case};
 use portal_base::caller::Caller;
 use portal_base::text::Text;
 use portal_words::{
-    Command, LoadOptions, PlayOptions, ReportKind, ReportOptions, ServeOptions, WordsFault,
+    Command, HarvestOptions, LoadOptions, PlayOptions, ReportKind, ReportOptions, ServeOptions,
+    WordsFault,
 };
 use std::alloc::{AllocError, Global};
 use std::io;
@@ -45,6 +46,16 @@ fn push_load(answer: &mut Buffer, options: &LoadOptions) {
     answer.push("]");
 }
 
+fn push_harvest(answer: &mut Buffer, options: &HarvestOptions) {
+    push_command(answer, "harvest", options.portal.as_ref());
+    answer.push(" as [");
+    answer.push(options.caller.as_str());
+    answer.push("] source [");
+    answer.push(options.source.as_str());
+    answer.push("] workers ");
+    answer.push_value(&options.workers);
+}
+
 fn push_serve(answer: &mut Buffer, options: &ServeOptions) {
     push_command(answer, "serve", options.portal.as_ref());
     answer.push(" links ");
@@ -75,6 +86,7 @@ pub fn command(alloc: Global, case: &Case, answer: &mut Buffer) -> io::Result<()
     match Command::read(alloc, words.as_slice()) {
         Ok(Command::Play(options)) => push_play(answer, &options),
         Ok(Command::Load(options)) => push_load(answer, &options),
+        Ok(Command::Harvest(options)) => push_harvest(answer, &options),
         Ok(Command::Serve(options)) => push_serve(answer, &options),
         Ok(Command::Report(options)) => push_report(answer, &options),
         Err(WordsFault::BadWords) => answer.push("bad words"),

@@ -1,7 +1,7 @@
 -- Worked examples, by computation.
 use Rattle.std.specs.Prelude.{◌≡◌, codes, [], ◌∷◌, Some, None}
 use Rattle.std.proofs.Common.{refl}
-use Rattle.portal_words.specs.declared.command.Command.TheVariants.{Play, Load, Serve, Report}
+use Rattle.portal_words.specs.declared.command.Command.TheVariants.{Play, Load, Harvest, Serve, Report}
 use Rattle.portal_words.specs.declared.command.ReportKind.TheVariants.{Tables}
 use Rattle.portal_base.specs.declared.caller.Caller.TheVariants.{Named}
 use Rattle.portal_words.specs.Commands.{command_of}
@@ -41,6 +41,18 @@ loads = refl
 
 loads_by_nobody : command_of (codes "load" ∷ codes "--schema=s" ∷ codes "--resource=air.1" ∷ []) ≡ None
 loads_by_nobody = refl
+
+-- two required options, and a number of workers up to 16
+harvests : command_of (codes "harvest" ∷ codes "--source=aa" ∷ codes "--as" ∷ codes "cyn" ∷ [])
+    ≡ Some (Harvest (record { portal = None; caller = codes "cyn"; source = codes "aa"; workers = 4 }))
+harvests = refl
+
+harvests_by_too_many : command_of (codes "harvest" ∷ codes "--source=aa" ∷ codes "--as=cyn" ∷ codes "--workers=17" ∷ [])
+    ≡ None
+harvests_by_too_many = refl
+
+harvests_no_source : command_of (codes "harvest" ∷ codes "--as=cyn" ∷ codes "--workers=1" ∷ []) ≡ None
+harvests_no_source = refl
 
 -- a report of a kind that is there, and one of another
 reports : command_of (codes "report" ∷ codes "--as" ∷ codes "ann" ∷ codes "--kind=tables" ∷ [])

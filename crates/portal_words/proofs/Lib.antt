@@ -1,6 +1,8 @@
 mod AllowedLemmas
 mod Examples
+mod HarvestLemmas
 mod LoadLemmas
+mod NameLemmas
 mod ReadLemmas
 mod RuleLemmas
 mod TurnLemmas

@@ -1,6 +1,6 @@
 -- The command that words name: the commands, and the options of each. A further command is a line of `command_with` and
 -- a definition like `play_with`. A further option is a line in the definition of its command.
-use Rattle.std.specs.Prelude.{ℕ, nat_le, nat_lt, Bool, not, ◌&&◌, if◌then◌else◌, List, [], ◌∷◌, length, codes}
+use Rattle.std.specs.Prelude.{ℕ, ◌≤◌, ⊤, nat_le, nat_lt, Bool, not, ◌&&◌, if◌then◌else◌, List, [], ◌∷◌, length, codes}
 use Rattle.std.specs.Prelude.{Option, Some, None, option_map, option_and_then}
 use Rattle.std.specs.Char.{is_ascii_digit}
 use Rattle.std.specs.Cmp.Lexicographic.{slice_cmp}
@@ -13,7 +13,7 @@ use Rattle.portal_base.specs.Ordered.{are_apart}
 use Rattle.portal_base.specs.declared.caller.Caller.{Caller}
 use Rattle.portal_base.specs.declared.caller.Caller.TheVariants.{Anonymous, Named}
 use Rattle.portal_words.specs.declared.command.Command.{Command}
-use Rattle.portal_words.specs.declared.command.Command.TheVariants.{Play, Load, Serve, Report}
+use Rattle.portal_words.specs.declared.command.Command.TheVariants.{Play, Load, Harvest, Serve, Report}
 use Rattle.portal_words.specs.declared.command.ReportKind.{ReportKind}
 use Rattle.portal_words.specs.declared.command.ReportKind.TheVariants.{Datasets, Tables}
 use Rattle.portal_words.specs.Grammar.{Setting, options_in}
@@ -118,6 +118,20 @@ load_with given =
     (required_text_of (codes "as") given)) (text_of (codes "portal") given)
     else None
 
+-- `--workers`, from 1 to 16, by default 4
+abbrev pub workers_for : Option (List ℕ) → Option ℕ
+workers_for value = number_for 1 16 4 value
+
+-- `harvest`: `--portal`, the required `--as` and `--source`, and `--workers`
+abbrev pub harvest_with : List Setting → Option Command
+harvest_with given =
+    if are_allowed (codes "portal" ∷ codes "as" ∷ codes "source" ∷ codes "workers" ∷ []) given
+    then option_and_then (λ workers. option_and_then (λ portal. option_and_then (λ caller. option_map
+    (λ source. Harvest (record { portal = portal; caller = caller; source = source; workers = workers }))
+    (required_text_of (codes "source") given)) (required_text_of (codes "as") given)) (text_of (codes "portal") given))
+    (workers_for (value_of (codes "workers") given))
+    else None
+
 -- the largest value of `--links`, which is also its default
 abbrev pub most_links : ℕ
 most_links = 1000000000
@@ -141,11 +155,20 @@ report_with given =
     (text_of (codes "as") given)) (kind_of (codes "kind") given)) (text_of (codes "portal") given)
     else None
 
+-- A command with a round of harvests has 1 to 16 workers for it.
+abbrev pub HasWorkers : Command → Type 0
+HasWorkers (Play options) = ⊤
+HasWorkers (Load options) = ⊤
+HasWorkers (Harvest options) = (1 ≤ options.workers) × (options.workers ≤ 16)
+HasWorkers (Serve options) = ⊤
+HasWorkers (Report options) = ⊤
+
 -- the command of this name with these options
 abbrev pub command_with : List ℕ → List Setting → Option Command
 command_with name given =
     if bytes_eq name (codes "play") then play_with given
     else if bytes_eq name (codes "load") then load_with given
+    else if bytes_eq name (codes "harvest") then harvest_with given
     else if bytes_eq name (codes "serve") then serve_with given
     else if bytes_eq name (codes "report") then report_with given
     else None

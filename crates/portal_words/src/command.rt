@@ -1,6 +1,8 @@
 //! Commands, read from words.
-ghost use Rattle.std.specs.Prelude.{◌≡◌, map, string_bytes, option_and_then, option_map, Some, None, IfOk, IsErrOf};
-ghost use Rattle.portal_words.specs.Commands.{caller_for, command_of, kind_for, load_with, play_with, report_with, serve_with};
+ghost use Rattle.std.specs.Prelude.{◌≡◌, ◌≤◌, map, string_bytes, option_and_then, option_map, Some, None, IfOk, IfSome};
+ghost use Rattle.std.specs.Prelude.{IsErrOf};
+ghost use Rattle.portal_words.specs.Commands.{HasWorkers, caller_for, command_of, harvest_with, kind_for, load_with, play_with};
+ghost use Rattle.portal_words.specs.Commands.{report_with, serve_with, workers_for};
 ghost use Rattle.portal_words.specs.Grammar.{options_in};
 
 use crate::options::options_in;
@@ -18,6 +20,8 @@ pub enum Command {
     Play(PlayOptions),
     /// Loads the CSV on input into a new table.
     Load(LoadOptions),
+    /// Makes a job of a harvest source, and runs a round of harvests.
+    Harvest(HarvestOptions),
     /// Serves links.
     Serve(ServeOptions),
     /// Prints a report.
@@ -42,6 +46,19 @@ pub struct LoadOptions {
     pub resource: Text,
     /// The location of the table's schema (Table Schema v1).
     pub schema: Text,
+}
+
+/// The options of `harvest`. The caller and the source are required.
+#[derive(Drop)]
+pub struct HarvestOptions {
+    /// The location of the portal file.
+    pub portal: Option<Text>,
+    /// The name of the user who calls, known or not.
+    pub caller: Text,
+    /// The name of the source.
+    pub source: Text,
+    /// The most workers of the round, from 1 to 16.
+    pub workers: u32,
 }
 
 /// The options of `serve`.
@@ -112,6 +129,8 @@ static OPTIONS_OF_PLAY: [&str; 1] = ["portal"];
 
 static OPTIONS_OF_LOAD: [&str; 4] = ["portal", "as", "resource", "schema"];
 
+static OPTIONS_OF_HARVEST: [&str; 4] = ["portal", "as", "source", "workers"];
+
 static OPTIONS_OF_SERVE: [&str; 2] = ["portal", "links"];
 
 static OPTIONS_OF_REPORT: [&str; 3] = ["portal", "kind", "as"];
@@ -119,12 +138,19 @@ static OPTIONS_OF_REPORT: [&str; 3] = ["portal", "kind", "as"];
 /// The largest value of `--links`, which is also its default.
 const MOST_LINKS: u64 = 1_000_000_000;
 
+/// The largest value of `--workers`.
+const MOST_WORKERS: u64 = 16;
+
+/// The workers of a round if `--workers` is absent.
+const DEFAULT_WORKERS: u64 = 4;
+
 /// The command `play` with the options in the words.
 fn play(alloc: Global, words: &[String]) -> Result<Command, WordsFault>
     ensures ok { IfOk result (λ command. option_and_then play_with (options_in (map string_bytes words.now))
         ≡ Some command) }
     ensures bad { IsErrOf result WordsFault.BadWords
         → option_and_then play_with (options_in (map string_bytes words.now)) ≡ None }
+    ensures workers { IfOk result HasWorkers }
 {
     let given = options_in(alloc, OPTIONS_OF_PLAY.as_slice(), words)?;
     let portal = text_of(alloc, given.get_str("portal"))?;
@@ -137,6 +163,7 @@ fn load(alloc: Global, words: &[String]) -> Result<Command, WordsFault>
         ≡ Some command) }
     ensures bad { IsErrOf result WordsFault.BadWords
         → option_and_then load_with (options_in (map string_bytes words.now)) ≡ None }
+    ensures workers { IfOk result HasWorkers }
 {
     let given = options_in(alloc, OPTIONS_OF_LOAD.as_slice(), words)?;
     let portal = text_of(alloc, given.get_str("portal"))?;
@@ -151,12 +178,47 @@ fn load(alloc: Global, words: &[String]) -> Result<Command, WordsFault>
     }))
 }
 
+/// The workers of a round, by the value of `--workers`.
+fn workers_of(value: Option<&str>) -> Option<u32>
+    ensures workers { result ≡ workers_for (option_map (λ v. v.now) value.entry) }
+    ensures within { IfSome result (λ workers. (1 ≤ workers) × (workers ≤ 16)) }
+{
+    match number_of(1, MOST_WORKERS, DEFAULT_WORKERS, value) {
+        Some(workers) => Some(workers as u32),
+        None => None,
+    }
+}
+
+/// The command `harvest` with the options in the words.
+fn harvest(alloc: Global, words: &[String]) -> Result<Command, WordsFault>
+    ensures ok { IfOk result (λ command. option_and_then harvest_with (options_in (map string_bytes words.now))
+        ≡ Some command) }
+    ensures bad { IsErrOf result WordsFault.BadWords
+        → option_and_then harvest_with (options_in (map string_bytes words.now)) ≡ None }
+    ensures workers { IfOk result HasWorkers }
+{
+    let given = options_in(alloc, OPTIONS_OF_HARVEST.as_slice(), words)?;
+    let Some(workers) = workers_of(given.get_str("workers")) else {
+        return Err(WordsFault::BadWords);
+    };
+    let portal = text_of(alloc, given.get_str("portal"))?;
+    let caller = required_text_of(alloc, given.get_str("as"))?;
+    let source = required_text_of(alloc, given.get_str("source"))?;
+    Ok(Command::Harvest(HarvestOptions {
+        portal,
+        caller,
+        source,
+        workers,
+    }))
+}
+
 /// The command `serve` with the options in the words.
 fn serve(alloc: Global, words: &[String]) -> Result<Command, WordsFault>
     ensures ok { IfOk result (λ command. option_and_then serve_with (options_in (map string_bytes words.now))
         ≡ Some command) }
     ensures bad { IsErrOf result WordsFault.BadWords
         → option_and_then serve_with (options_in (map string_bytes words.now)) ≡ None }
+    ensures workers { IfOk result HasWorkers }
 {
     let given = options_in(alloc, OPTIONS_OF_SERVE.as_slice(), words)?;
     let portal = text_of(alloc, given.get_str("portal"))?;
@@ -193,6 +255,7 @@ fn report(alloc: Global, words: &[String]) -> Result<Command, WordsFault>
         ≡ Some command) }
     ensures bad { IsErrOf result WordsFault.BadWords
         → option_and_then report_with (options_in (map string_bytes words.now)) ≡ None }
+    ensures workers { IfOk result HasWorkers }
 {
     let given = options_in(alloc, OPTIONS_OF_REPORT.as_slice(), words)?;
     let portal = text_of(alloc, given.get_str("portal"))?;
@@ -213,6 +276,7 @@ impl Command {
     pub fn read(alloc: Global, words: &[String]) -> Result<Command, WordsFault>
         ensures ok { IfOk result (λ command. command_of (map string_bytes words.now) ≡ Some command) }
         ensures bad { IsErrOf result WordsFault.BadWords → command_of (map string_bytes words.now) ≡ None }
+        ensures workers { IfOk result HasWorkers }
     {
         let Some((name, words)) = words.split_first() else {
             return Err(WordsFault::BadWords);
@@ -220,6 +284,7 @@ impl Command {
         match name.as_str() {
             "play" => play(alloc, words),
             "load" => load(alloc, words),
+            "harvest" => harvest(alloc, words),
             "serve" => serve(alloc, words),
             "report" => report(alloc, words),
             _ => Err(WordsFault::BadWords),

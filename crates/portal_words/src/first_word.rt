@@ -7,7 +7,10 @@ pub fn is_timed(words: &[String]) -> bool
     ensures { result ≡ is_timed (map string_bytes words.now) }
 {
     match words.first() {
-        Some(word) => word.as_str() == "load" || word.as_str() == "serve",
+        Some(word) => {
+            let word = word.as_str();
+            word == "load" || word == "harvest" || word == "serve"
+        }
         None => false,
     }
 }

@@ -7,5 +7,6 @@ mod options;
 mod values;
 
 pub use command::{
-    Command, LoadOptions, PlayOptions, ReportKind, ReportOptions, ServeOptions, WordsFault,
+    Command, HarvestOptions, LoadOptions, PlayOptions, ReportKind, ReportOptions, ServeOptions,
+    WordsFault,
 };

@@ -1,5 +1,5 @@
 //! The values of options.
-ghost use Rattle.std.specs.Prelude.{◌≡◌, ◌≤◌, ◌&&◌, ◌<◌, nat_lt, nat_le, length, option_map, Some, None, IfOk};
+ghost use Rattle.std.specs.Prelude.{◌≡◌, ◌≤◌, ◌&&◌, ◌<◌, nat_lt, nat_le, length, option_map, Some, None, IfOk, IfSome};
 ghost use Rattle.std.specs.Prelude.{IsErrOf};
 ghost use Rattle.portal_words.specs.Commands.{is_number, is_text, required_text_for, number_for, number_in};
 ghost use Rattle.portal_words.specs.Commands.{number_of_digits, text_for};
@@ -73,7 +73,8 @@ fn number_in(least: u64, most: u64, value: &str) -> Option<u64>
 
 /// The number of an option, from `least` to `most`, or the default if the option is absent.
 pub fn number_of(least: u64, most: u64, default: u64, value: Option<&str>) -> Option<u64>
-    ensures { result ≡ number_for least most default (option_map (λ v. v.now) value.entry) }
+    ensures number { result ≡ number_for least most default (option_map (λ v. v.now) value.entry) }
+    ensures within { least ≤ default → default ≤ most → IfSome result (λ number. (least ≤ number) × (number ≤ most)) }
 {
     match value {
         Some(value) => number_in(least, most, value),
