@@ -42,26 +42,26 @@ use Rattle.portal_calls.specs.Answer.{AcceptsOnly}
 use Rattle.portal_calls.specs.declared.answer.Answer.{Answer}
 use Rattle.portal_calls.specs.declared.answer.Answer.TheVariants.{Shown, Refused, Accepted}
 use Rattle.portal_calls.specs.declared.call.Call.{Call}
-use Rattle.portal_core.specs.Answer.{call_view_of, planned_answer}
-use Rattle.portal_core.specs.Changed.{AreUnused, changed, charged, is_in_use}
-use Rattle.portal_core.specs.Fit.{IsFit}
-use Rattle.portal_core.specs.Harvest.{harvest_of}
-use Rattle.portal_core.specs.Known.{known_call}
-use Rattle.portal_core.specs.Planned.{PlannedChange, People, Datasets, Tables, Sources, change_of, claims_of}
-use Rattle.portal_core.specs.Planned.{claims_of_sources}
-use Rattle.portal_core.specs.State.{State}
-use Rattle.portal_core.specs.Step.{call_step, outcome_of, outcome_unless_in_use}
-use Rattle.portal_core.specs.Valid.{IsValid}
-use Rattle.portal_core.specs.View.{view_of}
-use Rattle.portal_core.specs.declared.change.Claim.{Claim}
-use Rattle.portal_core.specs.declared.change.Claim.TheVariants.{SourceName}
-use Rattle.portal_core.proofs.Answering.{answer_fit}
-use Rattle.portal_core.proofs.ChangeEntries.{applied-planned}
-use Rattle.portal_core.proofs.Harvested.{edited-made, made-id_apart, of-source_harvested, sound-harvested, sound-in}
+use Rattle.portal_state.specs.Answer.{call_view_of, planned_answer}
+use Rattle.portal_state.specs.Changed.{AreUnused, changed, charged, is_in_use}
+use Rattle.portal_state.specs.Fit.{IsFit}
+use Rattle.portal_state.specs.Harvest.{harvest_of}
+use Rattle.portal_state.specs.Known.{known_call}
+use Rattle.portal_state.specs.Planned.{PlannedChange, People, Datasets, Tables, Sources, change_of, claims_of}
+use Rattle.portal_state.specs.Planned.{claims_of_sources}
+use Rattle.portal_state.specs.State.{State}
+use Rattle.portal_state.specs.Step.{call_step, outcome_of, outcome_unless_in_use}
+use Rattle.portal_state.specs.Valid.{IsValid}
+use Rattle.portal_state.specs.View.{view_of}
+use Rattle.portal_state.specs.declared.change.Claim.{Claim}
+use Rattle.portal_state.specs.declared.change.Claim.TheVariants.{SourceName}
+use Rattle.portal_state.proofs.Answering.{answer_fit}
+use Rattle.portal_state.proofs.ChangeEntries.{applied-planned}
+use Rattle.portal_state.proofs.Harvested.{edited-made, made-id_apart, of-source_harvested, sound-harvested, sound-in}
 use Rattle.portal_core.proofs.JobRuns.{runs-current}
-use Rattle.portal_core.proofs.Keeping.{first_unused, fit_in_valid}
-use Rattle.portal_core.proofs.SourceKeeping.{added-sources, named-in, removed-sources, replaced-sources}
-use Rattle.portal_core.proofs.SourceViews.{found-named}
+use Rattle.portal_state.proofs.Keeping.{first_unused, fit_in_valid}
+use Rattle.portal_state.proofs.SourceKeeping.{added-sources, named-in, removed-sources, replaced-sources}
+use Rattle.portal_state.proofs.SourceViews.{found-named}
 
 -- ---- what a call comes to
 

@@ -18,17 +18,17 @@ use Rattle.portal_calls.specs.declared.answer.Answer.TheVariants.{Shown, Refused
 use Rattle.portal_calls.specs.declared.call.Call.{Call}
 use Rattle.visibility.specs.View.{is_called}
 use Rattle.portal_core.proofs.Nobody.{nobody-refused}
-use Rattle.portal_core.proofs.Knowing.{known-call}
-use Rattle.portal_core.proofs.Settling.{refused-same}
-use Rattle.portal_core.specs.Change.{Change}
-use Rattle.portal_core.specs.Changed.{applied, charged, is_in_use}
-use Rattle.portal_core.specs.Entries.{Entry, PutOrg, DropOrg, PutRole, DropRole, PutDataset, EditDataset}
-use Rattle.portal_core.specs.Entries.{DropDataset, PutTable, DropTable, PutRow, DropRow, OfSources, changed_by, state_after}
-use Rattle.portal_core.specs.Known.{is_known, known_call}
-use Rattle.portal_core.specs.State.{State, accepted_bytes_of_user, quota_used_cmp, quota_used_cmp_total}
-use Rattle.portal_core.specs.Step.{answer_in, call_step, outcome_of, outcome_unless_in_use}
-use Rattle.portal_core.specs.declared.change.Claim.{Claim}
-use Rattle.portal_core.specs.declared.quota.QuotaUsed.{QuotaUsed}
+use Rattle.portal_state.proofs.Knowing.{known-call}
+use Rattle.portal_state.proofs.Settling.{refused-same}
+use Rattle.portal_state.specs.Change.{Change}
+use Rattle.portal_state.specs.Changed.{applied, charged, is_in_use}
+use Rattle.portal_state.specs.Entries.{Entry, PutOrg, DropOrg, PutRole, DropRole, PutDataset, EditDataset}
+use Rattle.portal_state.specs.Entries.{DropDataset, PutTable, DropTable, PutRow, DropRow, OfSources, changed_by, state_after}
+use Rattle.portal_state.specs.Known.{is_known, known_call}
+use Rattle.portal_state.specs.State.{State, accepted_bytes_of_user, quota_used_cmp, quota_used_cmp_total}
+use Rattle.portal_state.specs.Step.{answer_in, call_step, outcome_of, outcome_unless_in_use}
+use Rattle.portal_state.specs.declared.change.Claim.{Claim}
+use Rattle.portal_state.specs.declared.quota.QuotaUsed.{QuotaUsed}
 use Rattle.portal_events.specs.declared.event.Event.TheVariants.{Call as a_call}
 
 -- the order of an entry relative to a user's

@@ -9,9 +9,9 @@ use Rattle.visibility.specs.CallView.{CallView}
 use Rattle.datastore_answers.specs.TableAnswers.{map_answer}
 use Rattle.datastore_answers.specs.declared.resource_table.ResourceTable.{ResourceTable}
 use Rattle.harvest_sources.specs.Sources.{SourceState}
-use Rattle.portal_core.specs.Answer.{answer_on}
-use Rattle.portal_core.specs.Planned.{planned_of}
-use Rattle.portal_core.specs.declared.change.Plan.{Plan}
+use Rattle.portal_state.specs.Answer.{answer_on}
+use Rattle.portal_state.specs.Planned.{planned_of}
+use Rattle.portal_state.specs.declared.change.Plan.{Plan}
 
 -- The answer on what an action is about is that on the topic that was found.
 pub answer_on_same : {E : Type 0} (result : Result (Answer Plan) E) (view : CallView) (tables : List ResourceTable)

@@ -24,12 +24,12 @@ use Rattle.harvest_sources.specs.Jobs.{new_job}
 use Rattle.harvest_sources.specs.Sources.{SourceState}
 use Rattle.harvest_sources.specs.declared.change.SourceChange.TheVariants as source
 use Rattle.harvest_sources.specs.declared.job.Job.{Job}
-use Rattle.portal_core.specs.Planned.{People, Datasets, Sources, entries_of}
-use Rattle.portal_core.specs.Changed.{changed}
-use Rattle.portal_core.specs.State.{State}
-use Rattle.portal_core.specs.Entries.{DropDataset, DropOrg, DropRole, DropRow, DropTable, EditDataset, OfSources}
-use Rattle.portal_core.specs.Entries.{PutRow, PutTable, rows_at, state_after}
-use Rattle.portal_core.specs.EntriesOf.{entries_of_batch, head_with}
+use Rattle.portal_state.specs.Planned.{People, Datasets, Sources, entries_of}
+use Rattle.portal_state.specs.Changed.{changed}
+use Rattle.portal_state.specs.State.{State}
+use Rattle.portal_state.specs.Entries.{DropDataset, DropOrg, DropRole, DropRow, DropTable, EditDataset, OfSources}
+use Rattle.portal_state.specs.Entries.{PutRow, PutTable, rows_at, state_after}
+use Rattle.portal_state.specs.EntriesOf.{entries_of_batch, head_with}
 
 -- ---- a state
 

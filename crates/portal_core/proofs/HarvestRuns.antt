@@ -31,18 +31,18 @@ use Rattle.portal_calls.specs.declared.call.Call.{Call}
 use Rattle.portal_events.specs.declared.event.Event.{Event}
 use Rattle.portal_events.specs.declared.event.Event.TheVariants.{Call as a_call, Harvest as a_step}
 use Rattle.portal_hall.specs.History.{replay}
-use Rattle.portal_core.specs.Harvest.{harvest_change, harvest_of, state_after_step}
+use Rattle.portal_state.specs.Harvest.{harvest_change, harvest_of, state_after_step}
 use Rattle.portal_core.specs.HarvestHistory.{IsLastBegin, NoneRuns, accepts_step, after_begin, begun_in}
 use Rattle.portal_core.specs.HarvestHistory.{harvest_history, harvested_in, reading_since}
-use Rattle.portal_core.specs.State.{State}
-use Rattle.portal_core.specs.Step.{call_step, step_of}
-use Rattle.portal_core.specs.Valid.{IsSoundAmong, IsValid}
+use Rattle.portal_state.specs.State.{State}
+use Rattle.portal_state.specs.Step.{call_step, step_of}
+use Rattle.portal_state.specs.Valid.{IsSoundAmong, IsValid}
 use Rattle.portal_core.proofs.CallHarvests.{call-left, call-runs}
-use Rattle.portal_core.proofs.HarvestEntries.{harvest_of-after}
-use Rattle.portal_core.proofs.Harvested.{made-id_apart, made-name_apart, of-source_harvested, sound-harvested, sound-in}
+use Rattle.portal_state.proofs.HarvestEntries.{harvest_of-after}
+use Rattle.portal_state.proofs.Harvested.{made-id_apart, made-name_apart, of-source_harvested, sound-harvested, sound-in}
 use Rattle.portal_core.proofs.JobRuns.{RunsOf, begun-member, begun-source, break-runs, end-runs, found-open, gathers-begin}
 use Rattle.portal_core.proofs.JobRuns.{runs-has_running, step-back}
-use Rattle.portal_core.proofs.Settling.{replay-valid, step-valid}
+use Rattle.portal_state.proofs.Settling.{replay-valid, step-valid}
 
 -- ---- a valid state is fit
 

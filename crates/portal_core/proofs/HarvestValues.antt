@@ -32,12 +32,12 @@ use Rattle.harvest_stages.proofs.RestLemmas.{sources_rest}
 use Rattle.harvest_rows.specs.KeptHarvests.{AreKeptHarvests, kept_job_cmp, kept_job_cmp_total, kept_source_cmp}
 use Rattle.harvest_rows.specs.KeptHarvests.{rows_of_harvests}
 use Rattle.harvest_rows.specs.Rows.{IsKeptJob, IsKeptSource, job_row, job_rows, job_value, source_row, source_rows}
-use Rattle.portal_core.specs.State.{State}
-use Rattle.portal_core.specs.Typed.{IsTyped, IsTypedSource}
-use Rattle.portal_core.specs.Valid.{IsValid}
-use Rattle.portal_core.specs.Values.{harvests_of}
-use Rattle.portal_core.proofs.KeyLemmas.{same_number, same_source}
-use Rattle.portal_core.proofs.RowMembers.{IsInBoth, IsIn-flat_map, flat_map-IsIn, in_both-append, in_both-itself}
+use Rattle.portal_state.specs.State.{State}
+use Rattle.portal_state.specs.Typed.{IsTyped, IsTypedSource}
+use Rattle.portal_state.specs.Valid.{IsValid}
+use Rattle.portal_state.specs.Values.{harvests_of}
+use Rattle.portal_state.proofs.KeyLemmas.{same_number, same_source}
+use Rattle.portal_state.proofs.RowMembers.{IsInBoth, IsIn-flat_map, flat_map-IsIn, in_both-append, in_both-itself}
 
 -- ---- ids of jobs
 

@@ -30,14 +30,14 @@ use Rattle.harvest_answers.specs.View.{sees_source, sources_seen, without_listin
 use Rattle.harvest_sources.specs.Sources.{SourceState, source_cmp, source_cmp_total}
 use Rattle.visibility.specs.View.{is_called, user_seen, administers, is_role_seen, people_seen}
 use Rattle.visibility.specs.Visibility.{sees_in}
-use Rattle.portal_core.specs.Changed.{charged}
+use Rattle.portal_state.specs.Changed.{charged}
 use Rattle.portal_core.specs.Hidden.{IsHiddenBetween, IsHiddenChange, is_caller, is_kept}
-use Rattle.portal_core.specs.State.{State, accepted_bytes_of_user, quota_used_cmp, quota_used_cmp_total}
-use Rattle.portal_core.specs.Valid.{IsValid}
-use Rattle.portal_core.specs.View.{is_own_quota, is_table_seen, view_of}
-use Rattle.portal_core.specs.declared.quota.QuotaUsed.{QuotaUsed}
-use Rattle.portal_core.proofs.Changing.{HasSameRights, administers-rights, caller_role-own, is_role_seen-rights, is_sysadmin_in-users}
-use Rattle.portal_core.proofs.Changing.{same_state, sees_in-rights, stated}
+use Rattle.portal_state.specs.State.{State, accepted_bytes_of_user, quota_used_cmp, quota_used_cmp_total}
+use Rattle.portal_state.specs.Valid.{IsValid}
+use Rattle.portal_state.specs.View.{is_own_quota, is_table_seen, view_of}
+use Rattle.portal_state.specs.declared.quota.QuotaUsed.{QuotaUsed}
+use Rattle.portal_state.proofs.Changing.{HasSameRights, administers-rights, caller_role-own, is_role_seen-rights, is_sysadmin_in-users}
+use Rattle.portal_state.proofs.Changing.{same_state, sees_in-rights, stated}
 
 -- ---- lists
 

@@ -8,16 +8,16 @@ use Rattle.portal_core.specs.Hidden.{is_caller, is_call_of, IsHidden}
 use Rattle.portal_core.specs.History.{calls_of, AreOthersHidden, Exchange, exchange_of, exchanges_of, AreAlike}
 use Rattle.portal_core.specs.History.{has_no_name_in_use}
 use Rattle.portal_events.specs.Reply.{is_name_in_use}
-use Rattle.portal_core.specs.State.{State}
-use Rattle.portal_core.specs.Step.{call_step, step_of}
+use Rattle.portal_state.specs.State.{State}
+use Rattle.portal_state.specs.Step.{call_step, step_of}
 use Rattle.portal_hall.specs.History.{replay}
-use Rattle.portal_core.specs.Valid.{IsValid}
-use Rattle.portal_core.specs.View.{view_of}
+use Rattle.portal_state.specs.Valid.{IsValid}
+use Rattle.portal_state.specs.View.{view_of}
 use Rattle.portal_events.specs.declared.event.Event.{Event}
 use Rattle.portal_events.specs.declared.event.Event.TheVariants.{Call as a_call, Harvest as a_step}
 use Rattle.portal_core.proofs.Hiding.{view_of-hidden}
 use Rattle.portal_core.proofs.Isolating.{replies_alike, quiet_views_alike}
-use Rattle.portal_core.proofs.Settling.{refused-same, step-valid}
+use Rattle.portal_state.proofs.Settling.{refused-same, step-valid}
 
 -- ---- an event of somebody else
 

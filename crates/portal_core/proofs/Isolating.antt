@@ -31,27 +31,27 @@ use Rattle.visibility.proofs.ViewLemmas.{find-kept, called_by_name}
 use Rattle.datastore_answers.specs.TableAnswers.{map_answer}
 use Rattle.portal_events.specs.Reply.{is_name_in_use}
 use Rattle.portal_events.specs.declared.event.Event.TheVariants.{Call as a_call}
-use Rattle.portal_core.specs.Answer.{answer_to, call_view_of, planned_answer, quota_bytes, quota_if, quota_of}
-use Rattle.portal_core.specs.Change.{Change}
-use Rattle.portal_core.specs.Changed.{AreUnused, applied, changed, charged, with_planned}
-use Rattle.portal_core.specs.Fit.{IsFit}
-use Rattle.portal_core.specs.Known.{is_known, known_call}
-use Rattle.portal_core.specs.Planned.{PlannedChange, People, Datasets, Tables, Sources, change_of, claims_of}
-use Rattle.portal_core.specs.State.{State, accepted_bytes_of, accepted_bytes_of_user, quota_used_cmp}
-use Rattle.portal_core.specs.State.{quota_used_cmp_total}
-use Rattle.portal_core.specs.Step.{Outcome, answer_in, call_step, known_step, outcome_of}
-use Rattle.portal_core.specs.Valid.{IsValid}
-use Rattle.portal_core.specs.View.{is_own_quota, view_of}
-use Rattle.portal_core.specs.declared.quota.QuotaUsed.{QuotaUsed}
-use Rattle.portal_core.proofs.Answering.{answer_fit}
-use Rattle.portal_core.proofs.ChangeEntries.{applied-planned}
-use Rattle.portal_core.proofs.Changing.{IsOwn, IsOwnChange, IsOwnDatasets, changed-seen, own-sources, same_state}
-use Rattle.portal_core.proofs.Fitting.{fit_in_state}
-use Rattle.portal_core.proofs.Keeping.{harvested_open, no-tables}
-use Rattle.portal_core.proofs.Knowing.{calls-alike, known-alike, known-call, known-views_alike}
+use Rattle.portal_state.specs.Answer.{answer_to, call_view_of, planned_answer, quota_bytes, quota_if, quota_of}
+use Rattle.portal_state.specs.Change.{Change}
+use Rattle.portal_state.specs.Changed.{AreUnused, applied, changed, charged, with_planned}
+use Rattle.portal_state.specs.Fit.{IsFit}
+use Rattle.portal_state.specs.Known.{is_known, known_call}
+use Rattle.portal_state.specs.Planned.{PlannedChange, People, Datasets, Tables, Sources, change_of, claims_of}
+use Rattle.portal_state.specs.State.{State, accepted_bytes_of, accepted_bytes_of_user, quota_used_cmp}
+use Rattle.portal_state.specs.State.{quota_used_cmp_total}
+use Rattle.portal_state.specs.Step.{Outcome, answer_in, call_step, known_step, outcome_of}
+use Rattle.portal_state.specs.Valid.{IsValid}
+use Rattle.portal_state.specs.View.{is_own_quota, view_of}
+use Rattle.portal_state.specs.declared.quota.QuotaUsed.{QuotaUsed}
+use Rattle.portal_state.proofs.Answering.{answer_fit}
+use Rattle.portal_state.proofs.ChangeEntries.{applied-planned}
+use Rattle.portal_state.proofs.Changing.{IsOwn, IsOwnChange, IsOwnDatasets, changed-seen, own-sources, same_state}
+use Rattle.portal_state.proofs.Fitting.{fit_in_state}
+use Rattle.portal_state.proofs.Keeping.{harvested_open, no-tables}
+use Rattle.portal_state.proofs.Knowing.{calls-alike, known-alike, known-call, known-views_alike}
 use Rattle.portal_core.proofs.Nobody.{nobody-refused}
-use Rattle.portal_core.proofs.Settling.{accepted-unused, outcome_unused, quiet-unused, refused-same}
-use Rattle.portal_core.proofs.TableViewing.{own-id}
+use Rattle.portal_state.proofs.Settling.{accepted-unused, outcome_unused, quiet-unused, refused-same}
+use Rattle.portal_state.proofs.TableViewing.{own-id}
 
 -- ---- replies
 

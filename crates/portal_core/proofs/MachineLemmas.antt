@@ -7,9 +7,9 @@ use Rattle.portal_events.specs.declared.event.Refusal.TheVariants.{KeeperFault, 
 use Rattle.portal_events.specs.declared.event.Reply.{Reply}
 use Rattle.portal_events.specs.declared.event.Reply.TheVariants.{Accepted, Harvest, Shown, Refused}
 use Rattle.portal_hall.specs.History.{Accepts, Refuses}
-use Rattle.portal_core.specs.State.{State}
-use Rattle.portal_core.specs.Step.{step_of}
-use Rattle.portal_core.proofs.Settling.{accepted-change, refused-same}
+use Rattle.portal_state.specs.State.{State}
+use Rattle.portal_state.specs.Step.{step_of}
+use Rattle.portal_state.proofs.Settling.{accepted-change, refused-same}
 
 -- The step has this reply, so that it is accepted as the reply says.
 accepted_as : (state : State) (event : Event) (reply : Reply) → reply ≡ (step_of state event).reply

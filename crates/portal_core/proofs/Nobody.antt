@@ -23,15 +23,15 @@ use Rattle.portal_calls.specs.Answer.{AcceptsOnly}
 use Rattle.portal_calls.specs.declared.answer.Answer.{Answer}
 use Rattle.portal_calls.specs.declared.answer.Answer.TheVariants.{Shown, Refused, Accepted}
 use Rattle.portal_calls.specs.declared.call.Call.{Call}
-use Rattle.portal_core.specs.Answer.{call_view_of, planned_answer}
-use Rattle.portal_core.specs.Fit.{IsFit}
-use Rattle.portal_core.specs.Known.{is_known, known_call, known_caller}
-use Rattle.portal_core.specs.Planned.{PlannedChange, People, Datasets, Tables, Sources, change_of}
-use Rattle.portal_core.specs.State.{State}
-use Rattle.portal_core.specs.Step.{call_step, known_step, outcome_of}
-use Rattle.portal_core.specs.View.{view_of}
-use Rattle.portal_core.proofs.Answering.{answer_fit}
-use Rattle.portal_core.proofs.Knowing.{by_nobody, nobody_edits, unknown-call}
+use Rattle.portal_state.specs.Answer.{call_view_of, planned_answer}
+use Rattle.portal_state.specs.Fit.{IsFit}
+use Rattle.portal_state.specs.Known.{is_known, known_call, known_caller}
+use Rattle.portal_state.specs.Planned.{PlannedChange, People, Datasets, Tables, Sources, change_of}
+use Rattle.portal_state.specs.State.{State}
+use Rattle.portal_state.specs.Step.{call_step, known_step, outcome_of}
+use Rattle.portal_state.specs.View.{view_of}
+use Rattle.portal_state.proofs.Answering.{answer_fit}
+use Rattle.portal_state.proofs.Knowing.{by_nobody, nobody_edits, unknown-call}
 
 -- Nobody has the right to a change.
 unfit-people : (change : OrgChange) (call : Call) (view : State)

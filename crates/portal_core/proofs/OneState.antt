@@ -37,23 +37,23 @@ use Rattle.harvest_stages.specs.Restored.{restored}
 use Rattle.harvest_stages.proofs.PartLemmas.{IsPermutation-ascending, map-left}
 use Rattle.harvest_stages.proofs.RestLemmas.{all_rest, sources_rest}
 use Rattle.harvest_stages.proofs.RestoringLaws.{restored_again}
-use Rattle.portal_core.specs.PortalValue.{IsReopened, reopened}
-use Rattle.portal_core.specs.declared.opening.Opening.{Opening}
+use Rattle.portal_state.specs.PortalValue.{IsReopened, reopened}
+use Rattle.portal_state.specs.declared.opening.Opening.{Opening}
 use Rattle.portal_keeper.specs.declared.row.KeptRow.{KeptRow}
 use Rattle.portal_rows.specs.KeptValues.{kept_table_cmp, rows_of_values}
 use Rattle.portal_rows.specs.declared.kept_tables.KeptTable.{KeptTable}
 use Rattle.portal_rows.specs.declared.kept_values.KeptValues.{KeptValues}
 use Rattle.portal_rows.specs.declared.org_reading.OrgWithRoles.{OrgWithRoles}
 use Rattle.portal_rows.proofs.MemberLemmas.{same_made}
-use Rattle.portal_core.specs.KeptRows.{kept_rows, row_target}
-use Rattle.portal_core.specs.State.{State}
-use Rattle.portal_core.specs.Typed.{IsTyped}
-use Rattle.portal_core.specs.Valid.{HasHome, IsSoundAmong, IsValid}
-use Rattle.portal_core.specs.Values.{AreRowsOf, IsStateOf, harvests_of, kept_table, values_of, with_roles}
-use Rattle.portal_core.proofs.KeyLemmas.{same_address}
+use Rattle.portal_state.specs.KeptRows.{kept_rows, row_target}
+use Rattle.portal_state.specs.State.{State}
+use Rattle.portal_state.specs.Typed.{IsTyped}
+use Rattle.portal_state.specs.Valid.{HasHome, IsSoundAmong, IsValid}
+use Rattle.portal_state.specs.Values.{AreRowsOf, IsStateOf, harvests_of, kept_table, values_of, with_roles}
+use Rattle.portal_state.proofs.KeyLemmas.{same_address}
 use Rattle.portal_core.proofs.RowParts.{same-both}
 use Rattle.portal_core.proofs.SoundAmong.{among-numbered}
-use Rattle.portal_core.proofs.TableViewing.{any-is}
+use Rattle.portal_state.proofs.TableViewing.{any-is}
 use Rattle.portal_core.proofs.Values.{values-rows, rows_of_values-kept}
 
 -- ---- the values are the same

@@ -23,16 +23,16 @@ use Rattle.portal_rows.proofs.KindLemmas.{kinds-less}
 use Rattle.portal_rows.proofs.OrderLemmas.{org_rows-in_order}
 use Rattle.portal_rows.specs.OrgRows.{org_rows}
 use Rattle.portal_rows.specs.VersionRow.{version_row}
-use Rattle.portal_core.specs.KeptRows.{AreSized, dataset_row, kept_rows, listed_rows, table_rows}
-use Rattle.portal_core.specs.Opened.{opened}
-use Rattle.portal_core.specs.Parts.{IsConsistent, state_of}
-use Rattle.portal_core.specs.PortalValue.{AreKept, AreOfNoState, IsOpenedOver, IsReopened}
-use Rattle.portal_core.specs.State.{State}
-use Rattle.portal_core.specs.Values.{IsStateOf}
-use Rattle.portal_core.specs.declared.opening.Opening.{Opening}
-use Rattle.portal_core.specs.declared.parts.Parts.{Parts}
-use Rattle.portal_core.proofs.InOrder.{org-kind}
-use Rattle.portal_core.proofs.StoreLemmas.{shown_changed, shown_kept}
+use Rattle.portal_state.specs.KeptRows.{AreSized, dataset_row, kept_rows, listed_rows, table_rows}
+use Rattle.portal_state.specs.Opened.{opened}
+use Rattle.portal_state.specs.Parts.{IsConsistent, state_of}
+use Rattle.portal_state.specs.PortalValue.{AreKept, AreOfNoState, IsOpenedOver, IsReopened}
+use Rattle.portal_state.specs.State.{State}
+use Rattle.portal_state.specs.Values.{IsStateOf}
+use Rattle.portal_state.specs.declared.opening.Opening.{Opening}
+use Rattle.portal_state.specs.declared.parts.Parts.{Parts}
+use Rattle.portal_state.proofs.InOrder.{org-kind}
+use Rattle.portal_state.proofs.StoreLemmas.{shown_changed, shown_kept}
 use Rattle.portal_core.proofs.Values.{typed-sized}
 
 -- ---- an item after all others

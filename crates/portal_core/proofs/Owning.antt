@@ -49,20 +49,20 @@ use Rattle.organization_answers.specs.Owners.{owners_of}
 use Rattle.packages.proofs.FindLemmas.{IsIn-find}
 use Rattle.portal_calls.specs.declared.answer.Answer.TheVariants.{Accepted}
 use Rattle.portal_calls.specs.declared.call.Call.{Call}
-use Rattle.portal_core.specs.Answer.{answer_to, call_view_of}
-use Rattle.portal_core.specs.Change.{Change}
-use Rattle.portal_core.specs.Entries.{Entry, DropDataset, DropOrg, DropRow, DropTable, EditDataset, OfSources, PutRow}
-use Rattle.portal_core.specs.Entries.{PutTable}
-use Rattle.portal_core.specs.EntriesOf.{drop_of_dataset, drop_of_role, drops_of, drops_of_table, entries_of_batch, entries_of_datasets}
-use Rattle.portal_core.specs.EntriesOf.{entries_of_people, entries_of_sources, entries_of_tables, head_of, head_with, ids_of, is_gone}
-use Rattle.portal_core.specs.EntriesOf.{puts_of, roles_in, rows_written, tables_gone}
-use Rattle.portal_core.specs.Fit.{IsFit}
+use Rattle.portal_state.specs.Answer.{answer_to, call_view_of}
+use Rattle.portal_state.specs.Change.{Change}
+use Rattle.portal_state.specs.Entries.{Entry, DropDataset, DropOrg, DropRow, DropTable, EditDataset, OfSources, PutRow}
+use Rattle.portal_state.specs.Entries.{PutTable}
+use Rattle.portal_state.specs.EntriesOf.{drop_of_dataset, drop_of_role, drops_of, drops_of_table, entries_of_batch, entries_of_datasets}
+use Rattle.portal_state.specs.EntriesOf.{entries_of_people, entries_of_sources, entries_of_tables, head_of, head_with, ids_of, is_gone}
+use Rattle.portal_state.specs.EntriesOf.{puts_of, roles_in, rows_written, tables_gone}
+use Rattle.portal_state.specs.Fit.{IsFit}
 use Rattle.portal_core.specs.Own.{IsOwnDataset, IsOwnEntry, IsOwnSource}
-use Rattle.portal_core.specs.Planned.{PlannedChange, People, Datasets, Tables, Sources, entries_of}
-use Rattle.portal_core.specs.State.{State}
-use Rattle.portal_core.proofs.Answering.{accepted_fit}
-use Rattle.portal_core.proofs.Settling.{accepted-planned}
-use Rattle.portal_core.proofs.TableViewing.{both}
+use Rattle.portal_state.specs.Planned.{PlannedChange, People, Datasets, Tables, Sources, entries_of}
+use Rattle.portal_state.specs.State.{State}
+use Rattle.portal_state.proofs.Answering.{accepted_fit}
+use Rattle.portal_state.proofs.Settling.{accepted-planned}
+use Rattle.portal_state.proofs.TableViewing.{both}
 
 -- all of these entries are the caller's own
 abbrev AreOwn : Caller → State → List Entry → Type 0

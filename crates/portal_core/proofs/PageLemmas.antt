@@ -4,8 +4,8 @@ use Rattle.table_schema.specs.Field.{FieldValue}
 use Rattle.datastore_table.specs.declared.row.Row.{Row}
 use Rattle.datastore_query.specs.Column.{projected}
 use Rattle.datastore_query.specs.Query.{QueryValue, listing, page_rows}
-use Rattle.portal_core.specs.Page.{page_with}
-use Rattle.portal_core.specs.Queries.{page_of}
+use Rattle.portal_state.specs.Page.{page_with}
+use Rattle.portal_state.specs.Queries.{page_of}
 
 -- The page with the rows that a query lends is the query's page.
 pub page_is : (fields : List FieldValue) (rows page : List Row) (total : ℕ) (query : QueryValue)

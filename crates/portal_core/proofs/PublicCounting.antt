@@ -21,9 +21,9 @@ use Rattle.facets.specs.Counts.{has_text}
 use Rattle.facets.specs.Facts.{texts_at}
 use Rattle.facets.specs.declared.field.FacetField.TheVariants.{Organization}
 use Rattle.organization_answers.specs.Dictionary.{AreCountsOf}
-use Rattle.portal_core.specs.State.{State}
-use Rattle.portal_core.specs.Valid.{IsValid}
-use Rattle.portal_core.proofs.Harvested.{sound-org}
+use Rattle.portal_state.specs.State.{State}
+use Rattle.portal_state.specs.Valid.{IsValid}
+use Rattle.portal_state.proofs.Harvested.{sound-org}
 
 -- what the counters of datasets give for a name that isn't empty
 abbrev pub CountsPublic : Type 0

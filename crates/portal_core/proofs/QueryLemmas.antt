@@ -12,7 +12,7 @@ use Rattle.visibility.specs.Lookup.{resource_at}
 use Rattle.datastore_answers.specs.Tables.{table_at, tables_seen}
 use Rattle.datastore_answers.specs.declared.resource_table.ResourceTable.{ResourceTable}
 use Rattle.datastore_answers.proofs.ViewLemmas.{beside-seen, resource-seen}
-use Rattle.portal_core.specs.Queries.{find_rows_of_resource, rows_at_resource, rows_in_table}
+use Rattle.portal_state.specs.Queries.{find_rows_of_resource, rows_at_resource, rows_in_table}
 
 -- ---- rows that filters find
 

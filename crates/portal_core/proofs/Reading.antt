@@ -24,15 +24,15 @@ use Rattle.org_roles.specs.declared.change.OrgChange.{OrgChange}
 use Rattle.organization_answers.proofs.Fitting as organization
 use Rattle.visibility.specs.CallView.{CallView}
 use Rattle.portal_events.specs.declared.event.Event.TheVariants.{Call as a_call}
-use Rattle.portal_core.proofs.Answering.{found_only, search_only}
-use Rattle.portal_core.specs.Search.{search_outcome}
-use Rattle.portal_core.proofs.Settling.{refused-same}
-use Rattle.portal_core.specs.Answer.{answer_on, call_view_of, of_people, of_datasets, of_sources, of_tables, planned_answer}
-use Rattle.portal_core.specs.Known.{known_call}
-use Rattle.portal_core.specs.Planned.{PlannedChange, change_of}
-use Rattle.portal_core.specs.State.{State}
-use Rattle.portal_core.specs.Step.{call_step, outcome_of}
-use Rattle.portal_core.specs.View.{view_of}
+use Rattle.portal_state.proofs.Answering.{found_only, search_only}
+use Rattle.portal_state.specs.Search.{search_outcome}
+use Rattle.portal_state.proofs.Settling.{refused-same}
+use Rattle.portal_state.specs.Answer.{answer_on, call_view_of, of_people, of_datasets, of_sources, of_tables, planned_answer}
+use Rattle.portal_state.specs.Known.{known_call}
+use Rattle.portal_state.specs.Planned.{PlannedChange, change_of}
+use Rattle.portal_state.specs.State.{State}
+use Rattle.portal_state.specs.Step.{call_step, outcome_of}
+use Rattle.portal_state.specs.View.{view_of}
 
 of_people-nothing : (answer : Answer OrgChange) → AcceptsNothing answer → AcceptsNothing (of_people answer)
 of_people-nothing (Shown json) none = tt

@@ -6,12 +6,12 @@ use Rattle.portal_calls.specs.declared.answer.Answer.{Answer}
 use Rattle.portal_calls.specs.declared.answer.Answer.TheVariants.{Accepted, Refused, Shown}
 use Rattle.portal_calls.specs.declared.call.Call.{Call}
 use Rattle.portal_events.specs.Reply.{is_of_call}
-use Rattle.portal_core.specs.Change.{Change}
-use Rattle.portal_core.specs.Changed.{is_in_use}
-use Rattle.portal_core.specs.Known.{known_call}
-use Rattle.portal_core.specs.State.{State}
-use Rattle.portal_core.specs.Step.{answer_in, call_step, outcome_of, outcome_unless_in_use}
-use Rattle.portal_core.specs.declared.change.Claim.{Claim}
+use Rattle.portal_state.specs.Change.{Change}
+use Rattle.portal_state.specs.Changed.{is_in_use}
+use Rattle.portal_state.specs.Known.{known_call}
+use Rattle.portal_state.specs.State.{State}
+use Rattle.portal_state.specs.Step.{answer_in, call_step, outcome_of, outcome_unless_in_use}
+use Rattle.portal_state.specs.declared.change.Claim.{Claim}
 
 of-claims : (claim : Option Claim) (call : Call) (json : Json) (change : Change) (state : State)
     → is_of_call (outcome_unless_in_use claim call json change state).reply ≡ true

@@ -20,8 +20,8 @@ use Rattle.packages.specs.Shelf.{ShelfState, datasets_of}
 use Rattle.packages.specs.declared.package.Package.{Package}
 use Rattle.packages.proofs.RestoreLemmas.{valid-unique}
 use Rattle.portal_core.specs.Restored.{AreShelvable}
-use Rattle.portal_core.specs.Valid.{IsSoundAmong}
-use Rattle.portal_core.proofs.Shelving.{name_is_no_id}
+use Rattle.portal_state.specs.Valid.{IsSoundAmong}
+use Rattle.portal_state.proofs.Shelving.{name_is_no_id}
 use Rattle.portal_core.proofs.SoundAmong.{among-numbered}
 
 -- A dataset whose name is an id is the one of that id: no made dataset has such a name, and a harvested one has its own name

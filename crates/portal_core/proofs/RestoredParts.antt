@@ -31,14 +31,14 @@ use Rattle.portal_rows.specs.KeptValues.{AreKeptValues}
 use Rattle.portal_rows.specs.OrgRows.{IsOrgWithRoles}
 use Rattle.portal_rows.specs.declared.kept_values.KeptValues.{KeptValues}
 use Rattle.portal_rows.specs.declared.org_reading.OrgWithRoles.{OrgWithRoles}
-use Rattle.portal_core.specs.Indexes.{IsIndexed}
-use Rattle.portal_core.specs.Parts.{IsConsistent, state_of}
+use Rattle.portal_state.specs.Indexes.{IsIndexed}
+use Rattle.portal_state.specs.Parts.{IsConsistent, state_of}
 use Rattle.portal_core.specs.Restored.{AreHarvestsOf, ArePeopleOf, AreShelvable, AreTablesOf}
-use Rattle.portal_core.specs.State.{State, quota_used_cmp}
-use Rattle.portal_core.specs.Typed.{IsTyped}
-use Rattle.portal_core.specs.Valid.{HasHome, IsSoundAmong, IsValid}
-use Rattle.portal_core.specs.Values.{harvests_of, values_of, with_roles}
-use Rattle.portal_core.specs.declared.parts.Parts.{Parts}
+use Rattle.portal_state.specs.State.{State, quota_used_cmp}
+use Rattle.portal_state.specs.Typed.{IsTyped}
+use Rattle.portal_state.specs.Valid.{HasHome, IsSoundAmong, IsValid}
+use Rattle.portal_state.specs.Values.{harvests_of, values_of, with_roles}
+use Rattle.portal_state.specs.declared.parts.Parts.{Parts}
 use Rattle.portal_core.proofs.RestoredSources.{typed-at_rest}
 use Rattle.portal_core.proofs.SoundAmong.{same-among}
 

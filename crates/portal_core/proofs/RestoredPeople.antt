@@ -30,7 +30,7 @@ use Rattle.portal_rows.specs.OrgRows.{IsOrgWithRoles, memberships_in}
 use Rattle.portal_rows.specs.declared.org_reading.OrgWithRoles.{OrgWithRoles}
 use Rattle.portal_rows.proofs.MemberLemmas.{IsAscending-append, ascending-made, flat_map-IsIn}
 use Rattle.portal_core.specs.Restored.{ArePeopleOf}
-use Rattle.portal_core.specs.Values.{with_roles}
+use Rattle.portal_state.specs.Values.{with_roles}
 
 -- the organizations, and the roles in all of them
 abbrev pub orgs_of : List OrgWithRoles → List Org

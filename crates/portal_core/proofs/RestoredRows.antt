@@ -15,12 +15,12 @@ use Rattle.portal_keeper.specs.Rows.{kind_number}
 use Rattle.portal_keeper.specs.declared.row.KeptRow.{KeptRow}
 use Rattle.portal_rows.specs.KeptValues.{IsKeptOf, rows_of_values}
 use Rattle.portal_rows.specs.declared.kept_values.KeptValues.{KeptValues}
-use Rattle.portal_core.specs.Parts.{IsConsistent, state_of}
-use Rattle.portal_core.specs.State.{State}
-use Rattle.portal_core.specs.Typed.{IsTyped}
-use Rattle.portal_core.specs.Valid.{IsValid}
-use Rattle.portal_core.specs.Values.{AreRowsOf, IsStateOf, harvests_of, values_of}
-use Rattle.portal_core.specs.declared.parts.Parts.{Parts}
+use Rattle.portal_state.specs.Parts.{IsConsistent, state_of}
+use Rattle.portal_state.specs.State.{State}
+use Rattle.portal_state.specs.Typed.{IsTyped}
+use Rattle.portal_state.specs.Valid.{IsValid}
+use Rattle.portal_state.specs.Values.{AreRowsOf, IsStateOf, harvests_of, values_of}
+use Rattle.portal_state.specs.declared.parts.Parts.{Parts}
 use Rattle.portal_core.proofs.RowParts.{AreCut, cut-parts, parts-rows}
 use Rattle.portal_core.proofs.Values.{rows_of_values-kept, values-rows}
 

@@ -24,9 +24,9 @@ use Rattle.harvest_stages.proofs.PartLemmas.{IsPermutation-ascending, left-IsIn}
 use Rattle.harvest_stages.proofs.RestLemmas.{all_rest}
 use Rattle.harvest_stages.proofs.RestoringLaws.{made_jobs, made_order, made_rests, made_sound, restored_again}
 use Rattle.portal_core.specs.Restored.{AreHarvestsOf}
-use Rattle.portal_core.specs.Typed.{IsTypedSource}
+use Rattle.portal_state.specs.Typed.{IsTypedSource}
 use Rattle.portal_core.proofs.HarvestValues.{all_jobs-apart}
-use Rattle.portal_core.proofs.RowMembers.{IsIn-flat_map}
+use Rattle.portal_state.proofs.RowMembers.{IsIn-flat_map}
 
 -- each source belongs to an organization that exists
 abbrev pub HaveOwners : PeopleLists → List HarvestSource → Type 0

@@ -17,11 +17,11 @@ use Rattle.packages.specs.declared.package.Package.{Package}
 use Rattle.portal_rows.specs.KeptValues.{IsKeptTable}
 use Rattle.portal_rows.specs.declared.kept_tables.KeptTable.{KeptTable}
 use Rattle.table_schema.specs.Field.{SchemaValue}
-use Rattle.portal_core.specs.KeptRows.{row_target}
+use Rattle.portal_state.specs.KeptRows.{row_target}
 use Rattle.portal_core.specs.Restored.{IsAddressOf, IsTableOf, target_of}
-use Rattle.portal_core.specs.Valid.{HasHome}
-use Rattle.portal_core.specs.Values.{kept_table}
-use Rattle.portal_core.proofs.KeyLemmas.{same_address}
+use Rattle.portal_state.specs.Valid.{HasHome}
+use Rattle.portal_state.specs.Values.{kept_table}
+use Rattle.portal_state.proofs.KeyLemmas.{same_address}
 use Rattle.portal_core.proofs.RestoredTargets.{home-numbered, same-targets, targets-back, targets-other, targets-range}
 
 -- ---- one table

@@ -32,11 +32,11 @@ use Rattle.portal_rows.specs.KeptValues.{IsKeptTable, kept_table_cmp, kept_table
 use Rattle.portal_rows.specs.declared.kept_tables.KeptTable.{KeptTable}
 use Rattle.portal_rows.proofs.MemberLemmas.{made-ascending}
 use Rattle.table_schema.specs.Written.{IsDescribed}
-use Rattle.portal_core.specs.KeptRows.{resource_id}
+use Rattle.portal_state.specs.KeptRows.{resource_id}
 use Rattle.portal_core.specs.Restored.{AreTablesOf, IsTableOf}
-use Rattle.portal_core.specs.Valid.{HasHome}
-use Rattle.portal_core.specs.Values.{kept_table}
-use Rattle.portal_core.proofs.KeyLemmas.{same_address}
+use Rattle.portal_state.specs.Valid.{HasHome}
+use Rattle.portal_state.specs.Values.{kept_table}
+use Rattle.portal_state.proofs.KeyLemmas.{same_address}
 use Rattle.portal_core.proofs.RestoredTable.{one-table, zip-back, zip-of, zip-on}
 use Rattle.portal_core.proofs.RestoredTargets.{targets-numbered}
 

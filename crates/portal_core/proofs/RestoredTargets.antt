@@ -23,9 +23,9 @@ use Rattle.packages.specs.declared.package.Package.{Package}
 use Rattle.packages.specs.declared.package.Resource.{Resource}
 use Rattle.packages.proofs.FindLemmas.{IsIn-find, map-IsIn}
 use Rattle.table_schema.specs.declared.foreign.Foreign.{Foreign}
-use Rattle.portal_core.specs.KeptRows.{row_target}
+use Rattle.portal_state.specs.KeptRows.{row_target}
 use Rattle.portal_core.specs.Restored.{target_of}
-use Rattle.portal_core.specs.Valid.{HasHome}
+use Rattle.portal_state.specs.Valid.{HasHome}
 
 -- ---- one target
 

@@ -17,7 +17,7 @@ use Rattle.org_roles.specs.declared.entry.Org.{Org}
 use Rattle.org_roles.specs.declared.role.Role.TheVariants.{Admin}
 use Rattle.packages.specs.Package.{fresh_package}
 use Rattle.packages.specs.declared.package.Package.{Package}
-use Rattle.portal_core.specs.State.{State}
+use Rattle.portal_state.specs.State.{State}
 use Rattle.portal_keeper.specs.Changed.{rows_after}
 use Rattle.portal_keeper.specs.Rows.{body_at, kind_number}
 use Rattle.portal_keeper.specs.declared.change.Change.{Change}
@@ -27,9 +27,9 @@ use Rattle.portal_keeper.specs.declared.row.RowKind.TheVariants as kind
 use Rattle.portal_rows.specs.OrgRows.{org_row}
 use Rattle.portal_rows.specs.TableRows.{cells_row, twenty_digits}
 use Rattle.portal_rows.specs.VersionRow.{version_row}
-use Rattle.portal_core.specs.Entries.{Entry, DropOrg, DropRole, DropRow, DropTable, OfSources, PutRow, rows_at, state_after}
-use Rattle.portal_core.specs.KeptRows.{kept_rows, row_targets}
-use Rattle.portal_core.specs.RowChanges.{effective_changes, row_changes}
+use Rattle.portal_state.specs.Entries.{Entry, DropOrg, DropRole, DropRow, DropTable, OfSources, PutRow, rows_at, state_after}
+use Rattle.portal_state.specs.KeptRows.{kept_rows, row_targets}
+use Rattle.portal_state.specs.RowChanges.{effective_changes, row_changes}
 
 -- ---- a state
 

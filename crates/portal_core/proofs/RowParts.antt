@@ -19,7 +19,7 @@ use Rattle.portal_rows.proofs.KindLemmas.{AreAfter, AreUpTo, after-kind, after_b
 use Rattle.portal_rows.proofs.KindLemmas.{up_to-kind}
 use Rattle.portal_rows.proofs.MemberLemmas.{IsAscending-append, flat_map-IsIn, in_either}
 use Rattle.portal_rows.proofs.SameLemmas.{same_values}
-use Rattle.portal_core.specs.Values.{AreRowsOf}
+use Rattle.portal_state.specs.Values.{AreRowsOf}
 
 -- ---- the kinds of the rows
 

@@ -12,7 +12,7 @@ use Rattle.visibility.specs.TableSummary.{TableSummary}
 use Rattle.dataset_answers.specs.Dictionary.{package_dictionary}
 use Rattle.facets.specs.SearchFacets.{search_facets}
 use Rattle.facets.specs.declared.request.FacetRequest.{FacetRequest}
-use Rattle.portal_core.specs.Search.{found_dictionary}
+use Rattle.portal_state.specs.Search.{found_dictionary}
 use Rattle.std.specs.List.{All, Contains}
 use Rattle.portal_base.specs.Ordered.{ascending}
 use Rattle.portal_base.proofs.Filtered.{IsIn-filter}

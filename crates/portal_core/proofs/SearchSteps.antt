@@ -9,12 +9,12 @@ use Rattle.portal_calls.specs.declared.answer.Answer.TheVariants.{Shown}
 use Rattle.portal_calls.specs.declared.answer.Denial.{Denial}
 use Rattle.portal_calls.specs.declared.call.Call.{Call}
 use Rattle.portal_calls.specs.declared.call.Request.{Request}
-use Rattle.portal_core.specs.Change.{Change}
-use Rattle.portal_core.specs.Planned.{PlannedChange, change_of}
-use Rattle.portal_core.specs.Search.{reply_if_found, search_outcome, search_reply}
-use Rattle.portal_core.specs.State.{State}
-use Rattle.portal_core.specs.Step.{known_step, outcome_of}
-use Rattle.portal_core.specs.View.{view_of}
+use Rattle.portal_state.specs.Change.{Change}
+use Rattle.portal_state.specs.Planned.{PlannedChange, change_of}
+use Rattle.portal_state.specs.Search.{reply_if_found, search_outcome, search_reply}
+use Rattle.portal_state.specs.State.{State}
+use Rattle.portal_state.specs.Step.{known_step, outcome_of}
+use Rattle.portal_state.specs.View.{view_of}
 
 shown_reply : (found : Result Json Denial) (f : PlannedChange → Change) (call : Call) (state : State)
     → (outcome_of (map_answer f (answer_if_found found Shown)) call state).reply ≡ reply_if_found found

@@ -18,8 +18,8 @@ use Rattle.harvest_sources.specs.declared.source.HarvestSource.{HarvestSource}
 use Rattle.harvest_stages.specs.AtRest.{bare_sources}
 use Rattle.visibility.specs.Visibility.{is_harvested}
 use Rattle.portal_core.specs.Restored.{IsHarvestOf}
-use Rattle.portal_core.specs.Valid.{IsHarvestedFrom, IsSoundAmong}
-use Rattle.portal_core.proofs.Harvested.{harvested-bare, sound-harvested, sound-made}
+use Rattle.portal_state.specs.Valid.{IsHarvestedFrom, IsSoundAmong}
+use Rattle.portal_state.proofs.Harvested.{harvested-bare, sound-harvested, sound-made}
 
 -- Each has numbered resources.
 pub among-numbered : (people : PeopleLists) (sources : List SourceState) (d : Package) → IsSoundAmong people sources d

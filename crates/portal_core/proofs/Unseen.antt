@@ -41,23 +41,23 @@ use Rattle.portal_calls.specs.declared.call.Call.{Call}
 use Rattle.portal_events.specs.declared.event.Event.TheVariants.{Call as a_call, Harvest as a_step}
 use Rattle.visibility.specs.View.{administers, is_called, is_role_seen}
 use Rattle.visibility.specs.Visibility.{sees_in}
-use Rattle.portal_core.specs.Change.{Change}
-use Rattle.portal_core.specs.Changed.{applied, charged, is_in_use}
-use Rattle.portal_core.specs.Entries.{Entry, PutOrg, DropOrg, PutRole, DropRole, PutDataset, EditDataset}
-use Rattle.portal_core.specs.Entries.{DropDataset, PutTable, DropTable, PutRow, DropRow, OfSources, changed_by, rows_at}
-use Rattle.portal_core.specs.Entries.{state_after, table_of, with_row, without_row}
-use Rattle.portal_core.specs.Harvest.{harvest_entries}
+use Rattle.portal_state.specs.Change.{Change}
+use Rattle.portal_state.specs.Changed.{applied, charged, is_in_use}
+use Rattle.portal_state.specs.Entries.{Entry, PutOrg, DropOrg, PutRole, DropRole, PutDataset, EditDataset}
+use Rattle.portal_state.specs.Entries.{DropDataset, PutTable, DropTable, PutRow, DropRow, OfSources, changed_by, rows_at}
+use Rattle.portal_state.specs.Entries.{state_after, table_of, with_row, without_row}
+use Rattle.portal_state.specs.Harvest.{harvest_entries}
 use Rattle.portal_core.specs.Hidden.{AreUnseen, IsEntryUnseen, IsHidden, IsHiddenBetween, IsHiddenChange, IsIdUnseen}
 use Rattle.portal_core.specs.Hidden.{IsRoleUnseen, is_caller, is_kept, source_of_entry}
-use Rattle.portal_core.specs.Known.{is_known, known_call}
-use Rattle.portal_core.specs.State.{State}
-use Rattle.portal_core.specs.Step.{answer_in, outcome_of, outcome_unless_in_use}
-use Rattle.portal_core.specs.View.{is_own_quota, is_table_seen}
-use Rattle.portal_core.specs.declared.change.Claim.{Claim}
+use Rattle.portal_state.specs.Known.{is_known, known_call}
+use Rattle.portal_state.specs.State.{State}
+use Rattle.portal_state.specs.Step.{answer_in, outcome_of, outcome_unless_in_use}
+use Rattle.portal_state.specs.View.{is_own_quota, is_table_seen}
+use Rattle.portal_state.specs.declared.change.Claim.{Claim}
 use Rattle.portal_core.proofs.Charging.{state_after-quota}
 use Rattle.portal_core.proofs.Hiding.{charged-between, hidden-none, unchanged-hidden}
-use Rattle.portal_core.proofs.KeyedSources.{name-of_put}
-use Rattle.portal_core.proofs.TableViewing.{any-is}
+use Rattle.portal_state.proofs.KeyedSources.{name-of_put}
+use Rattle.portal_state.proofs.TableViewing.{any-is}
 
 -- ---- what no entry names
 

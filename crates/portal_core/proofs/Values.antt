@@ -40,16 +40,16 @@ use Rattle.portal_rows.specs.VersionRow.{version_row}
 use Rattle.portal_rows.specs.declared.kept_tables.KeptTable.{KeptTable}
 use Rattle.portal_rows.proofs.MemberLemmas.{ascending-made}
 use Rattle.portal_rows.proofs.OrderLemmas.{memberships_in-own}
-use Rattle.portal_core.specs.KeptRows.{IsSized, dataset_row, kept_rows, listed_rows, resource_id, row_target, row_targets, table_rows}
-use Rattle.portal_core.specs.State.{State}
-use Rattle.portal_core.specs.Typed.{IsTyped, IsTypedSource}
-use Rattle.portal_core.specs.Valid.{IsValid}
-use Rattle.portal_core.specs.Values.{AreRowsOf, harvests_of, kept_table, values_of, with_roles}
+use Rattle.portal_state.specs.KeptRows.{IsSized, dataset_row, kept_rows, listed_rows, resource_id, row_target, row_targets, table_rows}
+use Rattle.portal_state.specs.State.{State}
+use Rattle.portal_state.specs.Typed.{IsTyped, IsTypedSource}
+use Rattle.portal_state.specs.Valid.{IsValid}
+use Rattle.portal_state.specs.Values.{AreRowsOf, harvests_of, kept_table, values_of, with_roles}
 use Rattle.portal_core.proofs.HarvestValues.{harvest_rows-both, harvests-kept}
-use Rattle.portal_core.proofs.InOrder.{kept_rows-in_order, within-id}
-use Rattle.portal_core.proofs.KeyLemmas.{same_address}
-use Rattle.portal_core.proofs.RowMembers.{IsInBoth, IsIn-flat_map, flat_map-IsIn, in_both-append, in_both-cons}
-use Rattle.portal_core.proofs.RowMembers.{in_both-itself, in_both-then}
+use Rattle.portal_state.proofs.InOrder.{kept_rows-in_order, within-id}
+use Rattle.portal_state.proofs.KeyLemmas.{same_address}
+use Rattle.portal_state.proofs.RowMembers.{IsInBoth, IsIn-flat_map, flat_map-IsIn, in_both-append, in_both-cons}
+use Rattle.portal_state.proofs.RowMembers.{in_both-itself, in_both-then}
 use Rattle.portal_core.proofs.RowParts.{both-in_order}
 
 -- ---- organizations

@@ -5,8 +5,8 @@ use Rattle.datastore_answers.specs.Tables.{is_table_among}
 use Rattle.harvest_answers.proofs.ViewLemmas.{sources_seen_twice}
 use Rattle.visibility.specs.View.{datasets_seen}
 use Rattle.visibility.proofs.ViewLemmas.{filter_twice, people_seen_twice, datasets_seen_twice}
-use Rattle.portal_core.specs.State.{State}
-use Rattle.portal_core.specs.View.{view_of, is_own_quota}
+use Rattle.portal_state.specs.State.{State}
+use Rattle.portal_state.specs.View.{view_of, is_own_quota}
 
 pub view_of-twice : (caller : Caller) (state : State) → view_of caller (view_of caller state) ≡ view_of caller state
 view_of-twice caller state =

@@ -12,9 +12,9 @@ use Rattle.packages.specs.declared.package.Package.{Package}
 use Rattle.portal_events.specs.declared.event.Event.{Event}
 use Rattle.portal_events.specs.declared.event.Event.TheVariants.{Call as a_call, Harvest as a_step}
 use Rattle.portal_hall.specs.History.{replay}
-use Rattle.portal_core.specs.Harvest.{harvest_change, harvest_of, state_after_step}
-use Rattle.portal_core.specs.State.{State}
-use Rattle.portal_core.specs.Step.{step_of}
+use Rattle.portal_state.specs.Harvest.{harvest_change, harvest_of, state_after_step}
+use Rattle.portal_state.specs.State.{State}
+use Rattle.portal_state.specs.Step.{step_of}
 
 -- the event as a harvest sees it: a call is no step of a harvest
 abbrev pub harvest_event : Event → HarvestEvent

@@ -11,11 +11,11 @@ use Rattle.org_roles.specs.PeopleLists.{PeopleLists}
 use Rattle.packages.specs.declared.package.Package.{Package}
 use Rattle.visibility.specs.View.{administers, is_called, is_role_seen}
 use Rattle.visibility.specs.Visibility.{sees_in}
-use Rattle.portal_core.specs.Entries.{Entry, PutOrg, DropOrg, PutRole, DropRole, PutDataset, EditDataset}
-use Rattle.portal_core.specs.Entries.{DropDataset, PutTable, DropTable, PutRow, DropRow, OfSources, state_after}
-use Rattle.portal_core.specs.State.{State}
-use Rattle.portal_core.specs.Step.{step_of}
-use Rattle.portal_core.specs.View.{is_own_quota, is_table_seen}
+use Rattle.portal_state.specs.Entries.{Entry, PutOrg, DropOrg, PutRole, DropRole, PutDataset, EditDataset}
+use Rattle.portal_state.specs.Entries.{DropDataset, PutTable, DropTable, PutRow, DropRow, OfSources, state_after}
+use Rattle.portal_state.specs.State.{State}
+use Rattle.portal_state.specs.Step.{step_of}
+use Rattle.portal_state.specs.View.{is_own_quota, is_table_seen}
 use Rattle.portal_events.specs.declared.event.Event.{Event}
 use Rattle.portal_events.specs.declared.event.Event.TheVariants.{Call as a_call, Harvest as a_step}
 

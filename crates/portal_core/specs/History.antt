@@ -4,9 +4,9 @@ use Rattle.std.specs.List.{list_all}
 use Rattle.portal_base.specs.declared.caller.Caller.{Caller}
 use Rattle.portal_core.specs.Hidden.{is_call_of, IsHidden}
 use Rattle.portal_events.specs.Reply.{is_name_in_use}
-use Rattle.portal_core.specs.State.{State}
-use Rattle.portal_core.specs.Step.{Outcome, step_of}
-use Rattle.portal_core.specs.View.{view_of}
+use Rattle.portal_state.specs.State.{State}
+use Rattle.portal_state.specs.Step.{Outcome, step_of}
+use Rattle.portal_state.specs.View.{view_of}
 use Rattle.portal_events.specs.declared.event.Event.{Event}
 use Rattle.portal_events.specs.declared.event.Reply.{Reply}
 

@@ -8,9 +8,9 @@ use Rattle.packages.specs.declared.package.Package.{Package}
 use Rattle.portal_base.specs.declared.caller.Caller.{Caller}
 use Rattle.visibility.specs.View.{administers}
 use Rattle.visibility.specs.Visibility.{may_edit_in}
-use Rattle.portal_core.specs.Entries.{Entry, PutOrg, DropOrg, PutRole, DropRole, PutDataset, EditDataset}
-use Rattle.portal_core.specs.Entries.{DropDataset, PutTable, DropTable, PutRow, DropRow, OfSources}
-use Rattle.portal_core.specs.State.{State}
+use Rattle.portal_state.specs.Entries.{Entry, PutOrg, DropOrg, PutRole, DropRole, PutDataset, EditDataset}
+use Rattle.portal_state.specs.Entries.{DropDataset, PutTable, DropTable, PutRow, DropRow, OfSources}
+use Rattle.portal_state.specs.State.{State}
 
 -- a dataset of that id is in the view, and the caller may edit it
 pub record IsOwnDataset (caller : Caller) (view : State) (sought : List ℕ) : Type 0 where

@@ -24,10 +24,10 @@ use Rattle.datastore_answers.specs.declared.resource_table.ResourceTable.{Resour
 use Rattle.datastore_table.specs.Meets.{IsTable}
 use Rattle.visibility.specs.TableSummary.{is_among}
 use Rattle.visibility.specs.Visibility.{is_harvested, is_public}
-use Rattle.portal_core.specs.KeptRows.{AreSized, resource_id}
-use Rattle.portal_core.specs.Typed.{IsTypedSource}
-use Rattle.portal_core.specs.Valid.{HasHome, IsSoundAmong}
-use Rattle.portal_core.specs.Values.{kept_table, with_roles}
+use Rattle.portal_state.specs.KeptRows.{AreSized, resource_id}
+use Rattle.portal_state.specs.Typed.{IsTypedSource}
+use Rattle.portal_state.specs.Valid.{HasHome, IsSoundAmong}
+use Rattle.portal_state.specs.Values.{kept_table, with_roles}
 
 -- ---- people
 

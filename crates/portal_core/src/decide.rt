@@ -21,19 +21,15 @@ ghost use Rattle.datastore_answers.specs.Changed.{TableChange};
 ghost use Rattle.datastore_answers.specs.Plan as table;
 ghost use Rattle.datastore_answers.specs.Plan.{change_of as table_change};
 ghost use Rattle.datastore_answers.specs.Tables.{Stored, tables_of, tables_seen};
-ghost use Rattle.portal_core.specs.Answer.{planned_answer, answer_on, quota_of, of_people, of_datasets, of_tables, of_sources};
-ghost use Rattle.portal_core.specs.Planned.{planned_of};
-ghost use Rattle.portal_core.specs.Parts.{IsConsistent, IsPlanned, IsPlannedOn, state_of};
-ghost use Rattle.portal_core.specs.Indexes.{IsIndexed};
-ghost use Rattle.portal_core.specs.Search.{search_outcome};
-ghost use Rattle.portal_core.specs.View.{view_of};
+ghost use Rattle.portal_state.specs.Answer.{planned_answer, answer_on, quota_of, of_people, of_datasets, of_tables, of_sources};
+ghost use Rattle.portal_state.specs.Planned.{planned_of};
+ghost use Rattle.portal_state.specs.Parts.{IsConsistent, IsPlanned, IsPlannedOn, state_of};
+ghost use Rattle.portal_state.specs.Indexes.{IsIndexed};
+ghost use Rattle.portal_state.specs.Search.{search_outcome};
+ghost use Rattle.portal_state.specs.View.{view_of};
 ghost use Rattle.visibility.specs.CallView.{context_view};
 
-use crate::change::Plan;
-use crate::indexes::Indexes;
-use crate::parts::Parts;
 use crate::queries;
-use crate::quota::QUOTA;
 use crate::search::search;
 use dataset_answers::answers as datasets;
 use dataset_answers::change::DatasetChange;
@@ -54,6 +50,10 @@ use portal_calls::answer::{Answer, Denial, Kind, Quota};
 use portal_calls::call::Call;
 use portal_calls::stop::Stop;
 use portal_calls::topic::Topic;
+use portal_state::change::Plan;
+use portal_state::indexes::Indexes;
+use portal_state::parts::Parts;
+use portal_state::quota::QUOTA;
 use std::alloc::{AllocError, Global};
 use std::marker::Brand;
 use std::sync::ledger::{Blank, Ledger};
@@ -100,7 +100,7 @@ fn quota_of(parts: &Parts, call: &Call) -> Quota
 }
 
 /// The answer to a call, by the crate that answers its action.
-#[tactic(auto, using(crate::proofs::TableViewing::held_there))]
+#[tactic(auto, using(portal_state::proofs::TableViewing::held_there))]
 fn answer(
     alloc: Global,
     context: &CallContext<'_>,

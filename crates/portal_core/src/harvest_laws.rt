@@ -16,12 +16,12 @@ ghost use Rattle.harvest_sources.specs.declared.step.StepReply.TheVariants.{Ende
 ghost use Rattle.portal_calls.specs.declared.call.Call.{Call};
 ghost use Rattle.portal_events.specs.declared.event.Event.{Event};
 ghost use Rattle.portal_hall.specs.History.{replay};
-ghost use Rattle.portal_core.specs.Harvest.{harvest_change, state_after_step};
+ghost use Rattle.portal_state.specs.Harvest.{harvest_change, state_after_step};
 ghost use Rattle.portal_core.specs.HarvestHistory.{IsLastBegin, NoneRuns, accepts_step, after_begin, harvested_in};
 ghost use Rattle.portal_core.specs.HarvestHistory.{reading_since};
-ghost use Rattle.portal_core.specs.State.{State};
-ghost use Rattle.portal_core.specs.Step.{call_step, step_of};
-ghost use Rattle.portal_core.specs.Valid.{IsValid};
+ghost use Rattle.portal_state.specs.State.{State};
+ghost use Rattle.portal_state.specs.Step.{call_step, step_of};
+ghost use Rattle.portal_state.specs.Valid.{IsValid};
 
 /// Each job that ends or breaks in a history, before which no job runs, has begun in it: there is a last place where it
 /// begins.

@@ -8,8 +8,8 @@ impl<K: Keeper> Machine for Portal<K> {
     ghost use Rattle.std.specs.Prelude.{◌≡◌};
     ghost use Rattle.portal_events.specs.declared.event.Refusal.TheVariants.{KeeperFault, OutOfMemory};
     ghost use Rattle.portal_events.specs.declared.event.Reply.TheVariants.{Refused};
-    ghost use Rattle.portal_core.specs.State.{State};
-    ghost use Rattle.portal_core.specs.Step.{step_of};
+    ghost use Rattle.portal_state.specs.State.{State};
+    ghost use Rattle.portal_state.specs.Step.{step_of};
 
     type Event = Event;
 

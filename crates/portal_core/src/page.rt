@@ -3,10 +3,9 @@ ghost use Rattle.std.specs.Prelude.{◌≡◌, All, IfOk, map, pos};
 ghost use Rattle.table_schema.specs.Printed.{IsValue};
 ghost use Rattle.row_records.specs.Records.{member_at, record_of};
 ghost use Rattle.datastore_query.specs.Column.{projected};
-ghost use Rattle.portal_core.specs.Page.{column_dictionary, column_type, page_dictionary, page_members, page_with};
-ghost use Rattle.portal_core.specs.Queries.{page_of};
+ghost use Rattle.portal_state.specs.Page.{column_dictionary, column_type, page_dictionary, page_members, page_with};
+ghost use Rattle.portal_state.specs.Queries.{page_of};
 
-use crate::search_body::Search;
 use datastore_answers::dictionary::type_name;
 use datastore_query::{FieldNames, LentPage, LentRow, Query};
 use datastore_table::Table;
@@ -15,6 +14,7 @@ use portal_base::dictionary::Value;
 use portal_base::json_value::Json;
 use portal_base::seq::Seq;
 use portal_base::text::Text;
+use portal_state::search_body::Search;
 use row_records::{Column, columns_of};
 use std::alloc::{AllocError, Global};
 

@@ -4,21 +4,17 @@
 //! keeper changes the rows of the store, and then a commit makes the change: it takes no memory and can't fail.
 ghost use Rattle.std.specs.Prelude.{◌≡◌, ◌≢◌, ◌≤◌, List, IsTrue, IfErr, IfOk, IfSome, OnOk, OnErr, IsErrOf};
 ghost use Rattle.portal_base.specs.Outside.{Rose};
-ghost use Rattle.portal_core.specs.Fit.{IsFit};
-ghost use Rattle.portal_core.specs.Parts.{state_of, IsPlanned};
-ghost use Rattle.portal_core.specs.Planned.{planned_of};
-ghost use Rattle.portal_core.specs.PortalValue.{AreKept};
-ghost use Rattle.portal_core.specs.Step.{known_step, planned_outcome};
-ghost use Rattle.portal_core.specs.View.{view_of};
+ghost use Rattle.portal_state.specs.Fit.{IsFit};
+ghost use Rattle.portal_state.specs.Parts.{state_of, IsPlanned};
+ghost use Rattle.portal_state.specs.Planned.{planned_of};
+ghost use Rattle.portal_state.specs.PortalValue.{AreKept};
+ghost use Rattle.portal_state.specs.Step.{known_step, planned_outcome};
+ghost use Rattle.portal_state.specs.View.{view_of};
 
 mod reading;
 
-use crate::act_fault::ActFault;
-use crate::change::Plan;
 use crate::decide::decide;
-use crate::opening::opened_parts;
-pub use crate::opening::{OpenFault, Opening, Role0};
-use crate::parts::Parts;
+use crate::opened::opened_parts;
 use harvest_sources::Step;
 use portal_base::caller::Caller;
 use portal_base::copy::TryClone;
@@ -28,6 +24,10 @@ use portal_calls::answer::Answer;
 use portal_calls::call::{Call, Request};
 use portal_events::{Event, Refusal, Reply, refusal_of};
 use portal_keeper::keeper::Keeper;
+use portal_state::act_fault::ActFault;
+use portal_state::change::Plan;
+pub use portal_state::opening::{OpenFault, Opening, Role0};
+use portal_state::parts::Parts;
 use std::alloc::{AllocError, Global};
 use std::marker::Model;
 
@@ -41,8 +41,8 @@ pub struct Portal<K: Keeper> {
 }
 
 impl<K: Keeper> Model for Portal<K> {
-    ghost use Rattle.portal_core.specs.Parts.{state_of};
-    ghost use Rattle.portal_core.specs.PortalValue.{AreKept, PortalValue};
+    ghost use Rattle.portal_state.specs.Parts.{state_of};
+    ghost use Rattle.portal_state.specs.PortalValue.{AreKept, PortalValue};
 
     ghost Value = { PortalValue K };
 
@@ -54,12 +54,12 @@ impl<K: Keeper> Model for Portal<K> {
 impl<K: Keeper> Portal<K> {
     ghost use Rattle.portal_keeper.specs.Keeping.{Shows};
     ghost use Rattle.portal_keeper.specs.declared.row.KeptRow.{KeptRow};
-    ghost use Rattle.portal_core.specs.KeptRows.{kept_rows};
-    ghost use Rattle.portal_core.specs.Known.{is_known};
-    ghost use Rattle.portal_core.specs.Opened.{is_opening};
-    ghost use Rattle.portal_core.specs.PortalValue.{AreOfNoState, IsOpenedOver};
-    ghost use Rattle.portal_core.specs.Step.{step_of, call_step, harvest_step};
-    ghost use Rattle.portal_core.specs.Valid.{IsValid};
+    ghost use Rattle.portal_state.specs.KeptRows.{kept_rows};
+    ghost use Rattle.portal_state.specs.Known.{is_known};
+    ghost use Rattle.portal_state.specs.Opened.{is_opening};
+    ghost use Rattle.portal_state.specs.PortalValue.{AreOfNoState, IsOpenedOver};
+    ghost use Rattle.portal_state.specs.Step.{step_of, call_step, harvest_step};
+    ghost use Rattle.portal_state.specs.Valid.{IsValid};
 
     /// Opens a portal over a keeper. If the keeper has no rows, the portal has the users, organizations and roles of the
     /// opening, and no dataset, and the keeper gets its rows. Else the portal has the state whose rows they are, with the
@@ -95,7 +95,7 @@ impl<K: Keeper> Portal<K> {
     /// Makes the step of one event. The reply and the state after it are the step's. Where memory runs out, the reply
     /// is `OutOfMemory`, and where the keeper fails, it is `KeeperFault`; then nothing changes. The keeper is called for an
     /// accepted change alone, before the change is made.
-    #[tactic(auto, using(crate::proofs::Settling::step_there, crate::proofs::Settling::step_kept))]
+    #[tactic(auto, using(portal_state::proofs::Settling::step_there, portal_state::proofs::Settling::step_kept))]
     pub fn act(&mut self, event: &Event) -> Reply
         ensures reply { result ≢ Reply.Refused Refusal.KeeperFault → result ≢ Reply.Refused Refusal.OutOfMemory
             → result ≡ (step_of self.old.state event.now).reply }
@@ -203,7 +203,7 @@ fn by_nobody(alloc: Global, call: &Call) -> Result<Call, AllocError>
 }
 
 /// Makes the step of a call whose caller is known: decides it, and makes the change of an accepted one.
-#[tactic(auto, using(crate::proofs::Answering::accepted_fit, crate::proofs::StoreLemmas::decided_kept))]
+#[tactic(auto, using(portal_state::proofs::Answering::accepted_fit, portal_state::proofs::StoreLemmas::decided_kept))]
 fn act_on_parts<K: Keeper>(
     alloc: Global,
     parts: &mut Parts,
@@ -226,7 +226,7 @@ fn act_on_parts<K: Keeper>(
 }
 
 /// Makes an accepted change, where nothing that it claims is in use, else refuses it.
-#[tactic(auto, using(crate::proofs::Settling::outcome_unused))]
+#[tactic(auto, using(portal_state::proofs::Settling::outcome_unused))]
 fn apply_if_unused<K: Keeper>(
     alloc: Global,
     parts: &mut Parts,

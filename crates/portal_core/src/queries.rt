@@ -11,12 +11,11 @@ ghost use Rattle.datastore_answers.specs.Answers.{answer_to_datastore_delete_row
 ghost use Rattle.datastore_answers.specs.TableAnswers.{TableAcceptsOnly, map_table_answer, tables_beside};
 ghost use Rattle.datastore_answers.specs.Plan.{IsPlanned, PlansAnswer, PlansTableAnswer, change_of};
 ghost use Rattle.datastore_answers.specs.Tables.{table_at, tables_of, tables_seen};
-ghost use Rattle.portal_core.specs.Queries.{answer_to_datastore_delete, answer_to_datastore_search, answer_to_query};
-ghost use Rattle.portal_core.specs.Queries.{filters_alone};
-ghost use Rattle.portal_core.specs.Queries.{find_rows_of_resource, find_rows, query_for, rows_in_table, search_answer};
+ghost use Rattle.portal_state.specs.Queries.{answer_to_datastore_delete, answer_to_datastore_search, answer_to_query};
+ghost use Rattle.portal_state.specs.Queries.{filters_alone};
+ghost use Rattle.portal_state.specs.Queries.{find_rows_of_resource, find_rows, query_for, rows_in_table, search_answer};
 
 use crate::page::query_page;
-use crate::search_body::search_in;
 use datastore_answers::answer::{TableAnswer, table_answer_or_refusal};
 use datastore_answers::answers::{datastore_delete, datastore_delete_rows};
 use datastore_answers::lookup::id_of;
@@ -34,6 +33,7 @@ use portal_base::text::Text;
 use portal_calls::answer::{Answer, Denial};
 use portal_calls::stop::{Stop, validate};
 use portal_calls::topic::QueryAction;
+use portal_state::search_body::search_in;
 use std::alloc::{AllocError, Global};
 use visibility::context::CallContext;
 use visibility::lookup::resource_at;

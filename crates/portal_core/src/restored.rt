@@ -11,14 +11,12 @@ ghost use Rattle.portal_keeper.specs.Rows.{kind_number};
 ghost use Rattle.portal_keeper.specs.declared.row.RowKind.TheVariants.{Row};
 ghost use Rattle.portal_rows.specs.KeptValues.{AreKeptValues};
 ghost use Rattle.portal_rows.specs.declared.kept_values.KeptValues.{KeptValues};
-ghost use Rattle.portal_core.specs.Parts.{IsConsistent, state_of};
-ghost use Rattle.portal_core.specs.State.{State};
-ghost use Rattle.portal_core.specs.Typed.{IsTyped};
-ghost use Rattle.portal_core.specs.Valid.{IsValid};
-ghost use Rattle.portal_core.specs.Values.{AreRowsOf, IsStateOf, harvests_of, values_of};
+ghost use Rattle.portal_state.specs.Parts.{IsConsistent, state_of};
+ghost use Rattle.portal_state.specs.State.{State};
+ghost use Rattle.portal_state.specs.Typed.{IsTyped};
+ghost use Rattle.portal_state.specs.Valid.{IsValid};
+ghost use Rattle.portal_state.specs.Values.{AreRowsOf, IsStateOf, harvests_of, values_of};
 
-use crate::parts::Parts;
-use crate::quota::QuotaLedger;
 use crate::restored_datasets::indexed_shelf_of_values;
 use crate::restored_people::people_of_values;
 use crate::restored_sources::sources_of_values;
@@ -28,6 +26,8 @@ use org_roles::entry::User;
 use portal_base::seq::Seq;
 use portal_keeper::row::{KeptRow, RowKind};
 use portal_rows::kept_values::{KeptValues, read_rows as read_values};
+use portal_state::parts::Parts;
+use portal_state::quota::QuotaLedger;
 use std::alloc::{AllocError, Global};
 
 /// The parts of the state at rest that has these values, with these users and nothing charged to a quota. The result is

@@ -5,17 +5,17 @@ ghost use Rattle.harvest_stages.specs.Stages.{sources_in};
 ghost use Rattle.packages.specs.Order.{dataset_cmp};
 ghost use Rattle.packages.specs.Shelf.{IsValidShelf, datasets_of};
 ghost use Rattle.portal_base.specs.Ordered.{IsAscending};
-ghost use Rattle.portal_core.specs.Indexes.{IsIndexed};
+ghost use Rattle.portal_state.specs.Indexes.{IsIndexed};
 ghost use Rattle.portal_core.specs.Restored.{AreShelvable};
-ghost use Rattle.portal_core.specs.Valid.{IsSoundAmong};
+ghost use Rattle.portal_state.specs.Valid.{IsSoundAmong};
 
-use crate::indexes::Indexes;
 use crate::restored_harvested::is_sound_among;
 use harvest_stages::Stages;
 use org_roles::people::People;
 use packages::package::Package;
 use packages::shelf::Shelf;
 use portal_base::seq::Seq;
+use portal_state::indexes::Indexes;
 use std::alloc::{AllocError, Global};
 
 /// The shelf with these datasets, and its indexes. The result is `None` exactly if one of them may not exist among these

@@ -8,7 +8,7 @@ ghost use Rattle.harvest_stages.specs.Stages.{sources_in};
 ghost use Rattle.portal_base.specs.Ordered.{IsAscending};
 ghost use Rattle.visibility.specs.Visibility.{is_public};
 ghost use Rattle.portal_core.specs.Restored.{IsHarvestOf};
-ghost use Rattle.portal_core.specs.Valid.{IsHarvestedFrom, IsSoundAmong};
+ghost use Rattle.portal_state.specs.Valid.{IsHarvestedFrom, IsSoundAmong};
 
 use dataset_answers::sound::{are_numbered, ascends, is_sound};
 use harvest_records::name_of;

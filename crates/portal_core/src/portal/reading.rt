@@ -7,9 +7,9 @@ ghost use Rattle.portal_calls.specs.Stop.{Finds};
 ghost use Rattle.portal_calls.specs.declared.action.Action.TheVariants.{PackageSearch};
 ghost use Rattle.portal_calls.specs.declared.answer.Denial.{Denial};
 ghost use Rattle.portal_calls.specs.declared.call.Call as calls;
-ghost use Rattle.portal_core.specs.Search.{reply_if_found, search_reply};
-ghost use Rattle.portal_core.specs.Step.{call_step};
-ghost use Rattle.portal_core.specs.View.{view_of};
+ghost use Rattle.portal_state.specs.Search.{reply_if_found, search_reply};
+ghost use Rattle.portal_state.specs.Step.{call_step};
+ghost use Rattle.portal_state.specs.View.{view_of};
 
 use super::Portal;
 use crate::search::search;

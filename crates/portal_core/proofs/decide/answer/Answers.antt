@@ -13,14 +13,14 @@ use Rattle.harvest_sources.specs.Sources.{SourceState}
 use Rattle.harvest_stages.specs.Stages.{sources_in}
 use Rattle.organization_answers.specs.Answers as organization
 use Rattle.organization_answers.specs.Owners.{owners_of, owners_seen}
-use Rattle.portal_core.specs.Answer.{of_datasets, of_people, of_sources}
-use Rattle.portal_core.specs.Planned.{planned_of}
-use Rattle.portal_core.specs.Search.{search_outcome}
+use Rattle.portal_state.specs.Answer.{of_datasets, of_people, of_sources}
+use Rattle.portal_state.specs.Planned.{planned_of}
+use Rattle.portal_state.specs.Search.{search_outcome}
 use Rattle.portal_calls.specs.Answer.{answer_if_found}
 use Rattle.portal_calls.specs.declared.answer.Answer.TheVariants.{Shown}
 use Rattle.portal_core.proofs.Deciding.{answer_on_same}
-use Rattle.portal_core.proofs.SourceKeeping.{owners-there}
-use Rattle.portal_core.proofs.TableViewing.{held_there}
+use Rattle.portal_state.proofs.SourceKeeping.{owners-there}
+use Rattle.portal_state.proofs.TableViewing.{held_there}
 use Rattle.portal_core.proofs.decide.answer.Goals as goal
 
 pub returns-in-Organizations-clause-answer : goal.returns-in-Organizations-clause-answer

@@ -5,10 +5,10 @@ use Rattle.facets.specs.declared.field.FacetField.TheVariants.{Organization}
 use Rattle.organization_answers.specs.Dictionary.{AreCountsOf}
 use Rattle.visibility.specs.Viewer.{ViewerState, datasets_for}
 use Rattle.visibility.specs.declared.class.Class.TheVariants.{Public}
-use Rattle.portal_core.proofs.Keeping.{harvested_open}
+use Rattle.portal_state.proofs.Keeping.{harvested_open}
 use Rattle.portal_core.proofs.PublicCounting.{counts_seen}
 use Rattle.portal_core.proofs.decide.decide.Goals as goal
-use Rattle.portal_core.specs.Parts.{state_of}
+use Rattle.portal_state.specs.Parts.{state_of}
 
 pub new-requires : goal.new-requires
 new-requires c = harvested_open (state_of c.args.parts.now) c.requires.valid

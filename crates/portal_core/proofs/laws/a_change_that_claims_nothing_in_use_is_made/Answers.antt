@@ -1,5 +1,5 @@
 -- By what the answer is.
-use Rattle.portal_core.proofs.Settling.{unused-applied}
+use Rattle.portal_state.proofs.Settling.{unused-applied}
 use Rattle.portal_core.proofs.laws.a_change_that_claims_nothing_in_use_is_made.Goals as goal
 
 pub returns : goal.returns

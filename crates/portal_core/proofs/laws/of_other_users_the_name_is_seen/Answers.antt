@@ -1,5 +1,5 @@
 -- By the view's lists of users and of roles.
-use Rattle.portal_core.proofs.Disclosing.{names-same, flag-hidden, role-administered}
+use Rattle.portal_state.proofs.Disclosing.{names-same, flag-hidden, role-administered}
 use Rattle.portal_core.proofs.laws.of_other_users_the_name_is_seen.Goals as goal
 
 pub returns-clause-names : goal.returns-clause-names

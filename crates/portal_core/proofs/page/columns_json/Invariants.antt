@@ -1,5 +1,5 @@
 use Rattle.std.proofs.Common.{◌≡◌, map, take}
-use Rattle.portal_core.specs.Page.{column_dictionary}
+use Rattle.portal_state.specs.Page.{column_dictionary}
 use Rattle.portal_core.proofs.page.columns_json.Given as goal
 
 abbrev pub invariant-loop-name : goal.invariant-loop-name

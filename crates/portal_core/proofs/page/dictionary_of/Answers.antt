@@ -2,8 +2,8 @@ use Rattle.std.proofs.Common.{◌≡◌, ℕ, pos, List, [], ◌∷◌, refl, sy
 use Rattle.std.specs.Prelude.{IfOk, codes}
 use Rattle.portal_base.specs.declared.json_value.Json.{Json}
 use Rattle.portal_base.specs.declared.json_value.Json as json
-use Rattle.portal_core.specs.Page.{page_members, total_member}
-use Rattle.portal_core.specs.declared.search_body.Search.{Search}
+use Rattle.portal_state.specs.Page.{page_members, total_member}
+use Rattle.portal_state.specs.declared.search_body.Search.{Search}
 use Rattle.portal_core.proofs.page.dictionary_of.Goals as goal
 
 -- a dictionary of values that were made before

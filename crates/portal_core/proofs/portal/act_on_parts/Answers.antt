@@ -1,15 +1,15 @@
 -- What is accepted is fit to be made.
 use Rattle.std.proofs.Common.{sym, ap, ◌∙◌, subst}
 use Rattle.datastore_answers.specs.TableAnswers.{map_answer}
-use Rattle.portal_core.proofs.Answering.{accepted_fit}
-use Rattle.portal_core.proofs.StoreLemmas.{decided_kept}
+use Rattle.portal_state.proofs.Answering.{accepted_fit}
+use Rattle.portal_state.proofs.StoreLemmas.{decided_kept}
 use Rattle.portal_core.proofs.portal.act_on_parts.Goals as goal
-use Rattle.portal_core.specs.Planned.{planned_of}
-use Rattle.portal_core.specs.Fit.{IsFit}
+use Rattle.portal_state.specs.Planned.{planned_of}
+use Rattle.portal_state.specs.Fit.{IsFit}
 use Rattle.portal_calls.specs.Answer.{AcceptsOnly}
-use Rattle.portal_core.specs.Parts.{IsPlanned, state_of}
-use Rattle.portal_core.specs.State.{State}
-use Rattle.portal_core.specs.View.{view_of}
+use Rattle.portal_state.specs.Parts.{IsPlanned, state_of}
+use Rattle.portal_state.specs.State.{State}
+use Rattle.portal_state.specs.View.{view_of}
 
 pub decide-requires : goal.decide-requires
 decide-requires g c = c.requires.consistent

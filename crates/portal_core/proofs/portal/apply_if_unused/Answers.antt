@@ -1,10 +1,10 @@
 -- The change that is made is the one of the step.
 use Rattle.std.proofs.Common.{◌∙◌, ap, sym}
-use Rattle.portal_core.proofs.Settling.{planned-unused}
+use Rattle.portal_state.proofs.Settling.{planned-unused}
 use Rattle.portal_core.proofs.portal.apply_if_unused.Goals as goal
-use Rattle.portal_core.specs.Parts.{state_of}
-use Rattle.portal_core.specs.Planned.{planned_of}
-use Rattle.portal_core.specs.Step.{Outcome}
+use Rattle.portal_state.specs.Parts.{state_of}
+use Rattle.portal_state.specs.Planned.{planned_of}
+use Rattle.portal_state.specs.Step.{Outcome}
 
 pub returns-clause-state : goal.returns-clause-state
 returns-clause-state g c =

@@ -1,7 +1,7 @@
 use Rattle.visibility.specs.CallView.{context_view}
 use Rattle.datastore_answers.specs.Tables.{tables_of, tables_seen}
 use Rattle.datastore_answers.proofs.FitLemmas.{reading_plans}
-use Rattle.portal_core.proofs.Answering.{search_only}
+use Rattle.portal_state.proofs.Answering.{search_only}
 use Rattle.portal_core.proofs.queries.answer_to_query.Goals as goal
 
 pub returns-in-DatastoreSearch-clause-ready : goal.returns-in-DatastoreSearch-clause-ready

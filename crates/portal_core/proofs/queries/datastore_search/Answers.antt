@@ -7,7 +7,7 @@ use Rattle.datastore_answers.specs.TableAnswers.{map_answer}
 use Rattle.datastore_answers.specs.Plan.{change_of}
 use Rattle.datastore_answers.specs.Tables.{without_room, tables_of}
 use Rattle.datastore_answers.proofs.AnswerLemmas.{on-none, on-there, stopped-there}
-use Rattle.portal_core.specs.Queries.{search_answer, search_answer_for_table}
+use Rattle.portal_state.specs.Queries.{search_answer, search_answer_for_table}
 use Rattle.portal_core.proofs.queries.datastore_search.Goals as goal
 
 pub returns-in_ok-answer-in-Some : goal.returns-in_ok-answer-in-Some

@@ -1,5 +1,5 @@
 use Rattle.harvest_stages.specs.Stages.{sources_in}
-use Rattle.portal_core.specs.Valid.{IsSoundAmong}
+use Rattle.portal_state.specs.Valid.{IsSoundAmong}
 use Rattle.portal_core.proofs.Passed.{before-next}
 use Rattle.portal_core.proofs.restored_datasets.are_sound.Goals as goal
 

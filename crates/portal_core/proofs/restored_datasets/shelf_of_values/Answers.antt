@@ -1,6 +1,6 @@
 use Rattle.std.proofs.Common.{All, subst, sym, true≢false, ◌∙◌}
 use Rattle.harvest_stages.specs.Stages.{sources_in}
-use Rattle.portal_core.specs.Valid.{IsSoundAmong}
+use Rattle.portal_state.specs.Valid.{IsSoundAmong}
 use Rattle.portal_core.proofs.RestoredDatasets.{restored-datasets, restored-shelvable, unrestored-shelf}
 use Rattle.portal_core.proofs.restored_datasets.shelf_of_values.Goals as goal
 

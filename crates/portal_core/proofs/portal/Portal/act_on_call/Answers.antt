@@ -2,9 +2,9 @@
 use Rattle.std.proofs.Common.{◌≡◌, ◌∙◌, subst, sym}
 use Rattle.std.specs.Prelude.{IfOk, OnOk}
 use Rattle.portal_calls.specs.declared.call.Call.{Call}
-use Rattle.portal_core.proofs.Knowing.{known-call, unknown-call}
+use Rattle.portal_state.proofs.Knowing.{known-call, unknown-call}
 use Rattle.portal_core.proofs.portal.Portal.act_on_call.Goals as goal
-use Rattle.portal_core.specs.Step.{known_step}
+use Rattle.portal_state.specs.Step.{known_step}
 
 pub returns-then-is_known-clause-reply : goal.returns-then-is_known-clause-reply
 returns-then-is_known-clause-reply g c =

@@ -4,11 +4,11 @@ use Rattle.portal_base.specs.declared.caller.Caller.{Caller}
 use Rattle.portal_base.specs.declared.caller.Caller.TheVariants.{Anonymous}
 use Rattle.portal_calls.specs.declared.call.Call.{Call}
 use Rattle.portal_events.specs.declared.event.Reply.{Reply}
-use Rattle.portal_core.specs.Known.{is_known}
-use Rattle.portal_core.specs.Search.{search_reply}
-use Rattle.portal_core.specs.Step.{known_step}
-use Rattle.portal_core.specs.View.{view_of}
-use Rattle.portal_core.proofs.Knowing.{known-call, unknown-call}
+use Rattle.portal_state.specs.Known.{is_known}
+use Rattle.portal_state.specs.Search.{search_reply}
+use Rattle.portal_state.specs.Step.{known_step}
+use Rattle.portal_state.specs.View.{view_of}
+use Rattle.portal_state.proofs.Knowing.{known-call, unknown-call}
 use Rattle.portal_core.proofs.SearchSteps.{search_step}
 use Rattle.portal_core.proofs.portal.Portal.search.Goals as goal
 

@@ -7,8 +7,8 @@ use Rattle.portal_events.specs.declared.event.Reply.{Reply}
 use Rattle.visibility.specs.TableSummary.{TableSummary, summaries_seen}
 use Rattle.visibility.specs.View.{datasets_seen, people_seen}
 use Rattle.visibility.specs.Viewer.{ViewerState, datasets_for, people_for}
-use Rattle.portal_core.specs.Search.{reply_if_found, search_outcome}
-use Rattle.portal_core.proofs.TableViewing.{held_there}
+use Rattle.portal_state.specs.Search.{reply_if_found, search_outcome}
+use Rattle.portal_state.proofs.TableViewing.{held_there}
 use Rattle.portal_core.proofs.portal.Portal.search_for.Goals as goal
 
 pub returns : goal.returns
