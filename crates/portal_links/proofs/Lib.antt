@@ -1,0 +1,4 @@
+mod Acting
+pub mod Passing
+mod Receiving
+pub mod Writing
