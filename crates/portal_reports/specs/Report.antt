@@ -1,6 +1,6 @@
 -- The reports on a portal, as functions of a view of its state.
 use Rattle.std.specs.Prelude.{ℕ, List}
-use Rattle.portal_core.specs.State.{State}
+use Rattle.portal_state.specs.State.{State}
 use Rattle.portal_reports.specs.Datasets.{datasets_text}
 use Rattle.portal_reports.specs.Tables.{tables_text}
 use Rattle.portal_words.specs.declared.command.ReportKind.{ReportKind}

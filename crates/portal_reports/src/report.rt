@@ -1,7 +1,7 @@
 //! The reports on a portal.
 ghost use Rattle.std.specs.Prelude.{◌≡◌, IfOk, string_bytes};
-ghost use Rattle.portal_core.specs.Known.{is_known, known_caller};
-ghost use Rattle.portal_core.specs.View.{view_of};
+ghost use Rattle.portal_state.specs.Known.{is_known, known_caller};
+ghost use Rattle.portal_state.specs.View.{view_of};
 ghost use Rattle.portal_reports.specs.Report.{report_text};
 
 use crate::datasets::datasets_text;

@@ -1,22 +1,20 @@
 -- Links that a desk served after others.
-use Rattle.std.proofs.Common.{◌≡◌, ℕ, zero, suc, ◌+◌, ◌≤◌, List, [], ◌∷◌, ◌++◌, length, Bool, true, false}
-use Rattle.std.proofs.Common.{Result, Option, Some, None, Ok, Err}
-use Rattle.std.proofs.Common.{map, refl, sym, ap, subst, ◌∙◌, append_assoc, append-nil, length-append, arith}
+use Rattle.std.proofs.Common.{◌≡◌, ℕ, suc, ◌+◌, ◌≤◌, List, [], ◌∷◌, ◌++◌, length, Bool, true, false}
+use Rattle.std.proofs.Common.{Result, Option, Ok, Err}
+use Rattle.std.proofs.Common.{refl, sym, ap, subst, ◌∙◌, length-append, arith}
 use Rattle.std.proofs.Common.{inl, inr}
-use Rattle.std.specs.Prelude.{option_map, IsTrue, OnOk}
-use Rattle.std.proofs.lemmas.List.{map-append}
+use Rattle.std.specs.Prelude.{IsTrue, OnOk}
 use Rattle.portal_base.specs.Counted.{next_count}
 use Rattle.portal_base.specs.Outside.{GivesOne, Rose}
 use Rattle.portal_base.specs.declared.outside.Failed.{Failed}
-use Rattle.portal_core.specs.State.{State}
-use Rattle.portal_serve.proofs.Working.{DrawsAll-none, DrawsAll-more}
-use Rattle.portal_serve.specs.Desk.{Visit, DeskTrace, ServesAll, ServesLinks, ServesNext, ServesDesk, GivesAll}
-use Rattle.portal_serve.specs.Desk.{TakesAll}
-use Rattle.portal_serve.specs.Desk.{counted}
-use Rattle.portal_serve.specs.Run.{DrawsAll}
-use Rattle.portal_serve.specs.Served.{LinkTrace, Serves}
-use Rattle.portal_serve.specs.Tokens.{Digests}
-use Rattle.portal_serve.specs.declared.serve.Served.{Served}
+use Rattle.portal_links.proofs.Passing.{gives_one, passes_more, passes_none, passes_one, passes_within}
+use Rattle.portal_links.specs.Desk.{DeskTrace, DrawsAll, GivesAll, TakesAll, Visit}
+use Rattle.portal_links.specs.Tokens.{Digests}
+use Rattle.portal_links.specs.Written.{LinkTrace}
+use Rattle.portal_links.specs.declared.written.Served.{Served}
+use Rattle.portal_state.specs.State.{State}
+use Rattle.portal_serve.specs.Desk.{ServesAll, ServesLinks, ServesNext, ServesDesk}
+use Rattle.portal_serve.specs.Served.{Serves}
 
 serves_all_more : {Peer : Type 0} (trace : Peer → LinkTrace) (digests : Digests) (state middle after : State)
     (visits more : List (Visit Peer))
@@ -26,33 +24,6 @@ serves_all_more trace digests state middle after [] more first second =
     subst (λ s. ServesAll trace digests s more after) first second
 serves_all_more trace digests state middle after (v ∷ visits) more first second =
     (first.0, first.1, first.2, serves_all_more trace digests first.0 middle after visits more first.3 second)
-
-gives_none : {X : Type 0} (o : Option (List X)) → GivesAll o [] o
-gives_none None = refl
-gives_none (Some xs) = (xs, refl, refl)
-
-gives_more : {X : Type 0} (a b c : Option (List X)) (xs ys : List X) → GivesAll a xs b → GivesAll b ys c
-    → GivesAll a (xs ++ ys) c
-gives_more None b c xs ys first second = subst (λ o. GivesAll o ys c) first second
-gives_more (Some all) b c xs ys first second =
-    let rest = subst (λ o. GivesAll o ys c) first.1 second in
-    (rest.0, rest.1, first.2 ∙ ap (λ r. xs ++ r) rest.2 ∙ sym (append_assoc xs ys rest.0))
-
-takes_none : {X : Type 0} (o : Option (List X)) → TakesAll o [] o
-takes_none None = refl
-takes_none (Some xs) = ap (λ l. Some l) (sym (append-nil xs))
-
-takes_more : {X : Type 0} (a b c : Option (List X)) (xs ys : List X) → TakesAll a xs b → TakesAll b ys c
-    → TakesAll a (xs ++ ys) c
-takes_more None b c xs ys first second = second ∙ ap (option_map (λ all. all ++ ys)) first
-takes_more (Some all) b c xs ys first second =
-    second ∙ ap (option_map (λ l. l ++ ys)) first ∙ ap (λ l. Some l) (append_assoc all xs ys)
-
-counted_more : (m n count : ℕ) → counted (m + n) count ≡ counted n (counted m count)
-counted_more zero n count = let none : 0 + n ≡ n = omega arith in ap (λ k. counted k count) none
-counted_more (suc m) n count =
-    let one : suc m + n ≡ suc (m + n) = omega arith in
-    ap (λ k. counted k count) one ∙ counted_more m n (next_count count)
 
 -- what served links, and their count
 abbrev pub Counted : {Peer : Type 0} → (Peer → LinkTrace) → Digests → State → ℕ → DeskTrace Peer → DeskTrace Peer
@@ -68,20 +39,10 @@ serves_none trace digests state limit old new to_come taken_back count moments n
   record {
     visits = [];
     serves = refl;
-    few = omega arith;
-    came = subst (λ o. GivesAll old.to_come [] o) (sym to_come) (gives_none old.to_come);
-    back = taken_back ∙ takes_none old.taken_back;
-    count = count;
-    clock = subst (λ o. DrawsAll old.moments [] o) (sym moments) (DrawsAll-none old.moments);
-    numbers = subst (λ o. DrawsAll old.nonces [] o) (sym nonces) (DrawsAll-none old.nonces);
+    passes = passes_none limit old new to_come taken_back count moments nonces;
   },
   refl,
 )
-
-pub gives_one : {X : Type 0} (old new : Option (List X)) (x : X) → GivesOne old x new → GivesAll old (x ∷ []) new
-gives_one None new x gave = gave
-gives_one (Some all) None x gave = absurd gave
-gives_one (Some all) (Some rest) x gave = (rest, refl, gave)
 
 -- one link was served
 pub serves_one : {Peer : Type 0} (trace : Peer → LinkTrace) (digests : Digests) (state after : State) (end : Served)
@@ -94,12 +55,7 @@ serves_one trace digests state after end old new v serves came back count clock 
   record {
     visits = v ∷ [];
     serves = (after, end, serves, refl);
-    few = omega arith;
-    came = came;
-    back = back;
-    count = count;
-    clock = clock;
-    numbers = numbers;
+    passes = passes_one old new v came back count clock numbers;
   },
   refl,
 )
@@ -109,28 +65,14 @@ pub serves_more : {Peer : Type 0} (trace : Peer → LinkTrace) (digests : Digest
     (first second limit m n : ℕ) (a b c : DeskTrace Peer)
     → m + n ≤ limit → Counted trace digests state first a b middle m → Counted trace digests middle second b c after n
     → Counted trace digests state limit a c after (m + n)
-serves_more {Peer} trace digests state middle after first second limit m n a b c both xs ys =
+serves_more trace digests state middle after first second limit m n a b c both xs ys =
     let x = xs.0 in
     let y = ys.0 in
     let total : length (x.visits ++ y.visits) ≡ length x.visits + length y.visits = length-append x.visits y.visits in (
       record {
         visits = x.visits ++ y.visits;
         serves = serves_all_more trace digests state middle after x.visits y.visits x.serves y.serves;
-        few = omega (arith, total, both, xs.1, ys.1);
-        came = subst (λ l. GivesAll a.to_come l c.to_come) (sym (map-append (λ v. v.link) x.visits y.visits))
-            (gives_more a.to_come b.to_come c.to_come (map (λ v. v.link) x.visits) (map (λ v. v.link) y.visits) x.came
-            y.came);
-        back = subst (λ l. TakesAll a.taken_back l c.taken_back) (sym (map-append (λ v. v.back) x.visits y.visits))
-            (takes_more a.taken_back b.taken_back c.taken_back (map (λ v. v.back) x.visits)
-            (map (λ v. v.back) y.visits) x.back y.back);
-        count = y.count ∙ ap (counted (length y.visits)) x.count
-            ∙ sym (ap (λ k. counted k a.count) total ∙ counted_more (length x.visits) (length y.visits) a.count);
-        clock = subst (λ l. DrawsAll a.moments l c.moments) (sym (map-append (λ v. v.moment) x.visits y.visits))
-            (DrawsAll-more a.moments b.moments c.moments (map (λ v. v.moment) x.visits)
-            (map (λ v. v.moment) y.visits) x.clock y.clock);
-        numbers = subst (λ l. DrawsAll a.nonces l c.nonces) (sym (map-append (λ v. v.nonce) x.visits y.visits))
-            (DrawsAll-more a.nonces b.nonces c.nonces (map (λ v. v.nonce) x.visits) (map (λ v. v.nonce) y.visits)
-            x.numbers y.numbers);
+        passes = passes_more first second limit x.visits y.visits a b c (omega (arith, both, xs.1, ys.1)) x.passes y.passes;
       },
       omega (arith, total, xs.1, ys.1),
     )
@@ -144,12 +86,7 @@ serves_within trace digests state after first limit m a b within xs =
       record {
         visits = x.visits;
         serves = x.serves;
-        few = omega (arith, within, xs.1);
-        came = x.came;
-        back = x.back;
-        count = x.count;
-        clock = x.clock;
-        numbers = x.numbers;
+        passes = passes_within first limit x.visits a b (omega (arith, within, xs.1)) x.passes;
       },
       xs.1,
     )
@@ -212,7 +149,7 @@ pub desk_ends : {Peer : Type 0} (trace : Peer → LinkTrace) (digests : Digests)
     → ServesNext trace digests state b c after result
     → ServesDesk trace digests first limit a c after (Ok tt)
 desk_ends trace digests first state after limit m a b c result none more quiet so_far next =
-    let within : m + length next.served.visits ≤ limit = omega (arith, more, next.served.few) in
+    let within : m + length next.served.visits ≤ limit = omega (arith, more, next.served.passes.few) in
     record {
       served = (serves_more trace digests first state after m 1 limit m (length next.served.visits) a b c within so_far
           (next.served, refl)).0;
@@ -227,7 +164,7 @@ pub desk_fails : {Peer : Type 0} (trace : Peer → LinkTrace) (digests : Digests
     → Counted trace digests first m a b state m
     → ServesNext trace digests state b c after (Err fault) → ServesDesk trace digests first limit a c after (Err fault)
 desk_fails trace digests first state after limit m a b c fault more quiet so_far next =
-    let within : m + length next.served.visits ≤ limit = omega (arith, more, next.served.few) in
+    let within : m + length next.served.visits ≤ limit = omega (arith, more, next.served.passes.few) in
     record {
       served = (serves_more trace digests first state after m 1 limit m (length next.served.visits) a b c within so_far
           (next.served, refl)).0;

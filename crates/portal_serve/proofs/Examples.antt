@@ -2,7 +2,7 @@
 use Rattle.std.proofs.Common.{◌≡◌, [], ◌∷◌, refl}
 use Rattle.std.specs.Prelude.{codes}
 use Rattle.portal_base.specs.declared.caller.Caller.TheVariants.{Anonymous, Named}
-use Rattle.portal_core.specs.Known.{known_caller}
+use Rattle.portal_state.specs.Known.{known_caller}
 use Rattle.portal_serve.specs.Script.{script_lines}
 use Rattle.portal_serve.specs.Defaults.{default_state}
 

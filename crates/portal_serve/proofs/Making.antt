@@ -1,12 +1,15 @@
 -- Calls on devices: one that was begun, and the line that asks for one.
 use Rattle.std.proofs.Common.{◌≡◌, ◌⊎◌, ℕ, ℤ, List, [], ◌∷◌, Some, Ok, subst, sym, ◌∙◌, inl, inr, take, length, refl}
 use Rattle.portal_base.specs.Outside.{TakesPrefix}
-use Rattle.portal_core.specs.State.{State}
+use Rattle.portal_state.specs.State.{State}
 use Rattle.portal_serve.proofs.Working.{begins_take, call_written, takes_no_prefix, processes_call, processes_lines}
 use Rattle.portal_serve.specs.Calls.{BeginsCall, MakesCall}
 use Rattle.portal_serve.specs.Played.{StopsLines, ProcessesLines}
-use Rattle.portal_serve.specs.Run.{Begins, DrawsAll, StageTrace}
-use Rattle.portal_serve.specs.Script.{ScriptCall, call_of_line}
+use Rattle.portal_links.specs.Desk.{DrawsAll}
+use Rattle.portal_serve.specs.Run.{Begins, StageTrace}
+use Rattle.portal_serve.proofs.Fetching.{fetched_none}
+use Rattle.portal_serve.specs.Rounds.{PoolTrace}
+use Rattle.portal_serve.specs.Script.{ScriptCall, Call, parsed_line}
 use Rattle.portal_serve.specs.Transcript.{outcome_of_call, reply_line}
 
 -- ---- a call that was begun
@@ -47,13 +50,14 @@ begins_call_unwritten state after call size m n old new left clock numbers same 
 -- ---- the line that asks for a call
 
 -- the call of a line was made
-pub processes_made : (state after : State) (line : List ℕ) (call : ScriptCall) (status : ℕ) (old new : StageTrace)
-    → call_of_line line ≡ Ok call → MakesCall state call (length line) status after old new
-    → ProcessesLines state (line ∷ []) after old new
-processes_made state after line call status old new is made =
+pub processes_made : {F : Type 0} (state after : State) (line : List ℕ) (call : ScriptCall) (status : ℕ)
+    (old new : StageTrace) (pool : PoolTrace F)
+    → parsed_line line ≡ Ok (Call call) → MakesCall state call (length line) status after old new
+    → ProcessesLines state (line ∷ []) after old new pool pool
+processes_made state after line call status old new pool is made =
     processes_lines state after (line ∷ []) (made.moment ∷ []) (made.nonce ∷ [])
-    (reply_line (Some call.action) (outcome_of_call state call (length line) made.moment made.nonce).reply) old new
-    (call_written state after line call made.moment made.nonce _ is refl made.leaves) made.clock made.numbers
+    (reply_line (Some call.action) (outcome_of_call state call (length line) made.moment made.nonce).reply) old new pool
+    (call_written pool.held state after line call made.moment made.nonce _ is refl made.leaves) made.clock made.numbers
     made.output
 
 -- the state is as before, or the one that a call leaves
@@ -63,14 +67,15 @@ left_by_call state after left last is (inl kept) = inl kept
 left_by_call state after left last is (inr made) = inr (made ∙ sym is)
 
 -- the call of a line was begun
-pub stops_begun : (state after : State) (line : List ℕ) (call : ScriptCall) (old new : StageTrace)
-    → call_of_line line ≡ Ok call → BeginsCall state call (length line) after old new
-    → StopsLines state (line ∷ []) after old new
-stops_begun state after line call old new is begun =
+pub stops_begun : {F : Type 0} (state after : State) (line : List ℕ) (call : ScriptCall) (old new : StageTrace)
+    (pool : PoolTrace F)
+    → parsed_line line ≡ Ok (Call call) → BeginsCall state call (length line) after old new
+    → StopsLines state (line ∷ []) after old new pool pool
+stops_begun state after line call old new pool is begun =
     let m = begun.moment in
     let n = begun.nonce in
     let text = reply_line (Some call.action) (outcome_of_call state call (length line) m n).reply in
-    let w = processes_call state line call m n is in
+    let w = processes_call pool.held state line call m n is in
     inr (record {
       passed = record {
         written = take begun.output.0 text;
@@ -80,8 +85,9 @@ stops_begun state after line call old new is begun =
         clock = begun.clock;
         numbers = begun.numbers;
       };
-      moments_drawn = w.moments_drawn;
-      nonces_drawn = w.nonces_drawn;
+      fetched = fetched_none pool;
+      are_drawn = w.are_drawn;
+      allowed = w.allowed;
       begins = subst (λ t. Begins (take begun.output.0 text) t) (sym w.output) (begins_take begun.output.0 text);
       leaves = left_by_call state after _ _ w.leaves begun.leaves;
     })

@@ -5,9 +5,10 @@ use Rattle.std.specs.List.{concat, list_all}
 use Rattle.action_api.specs.Reply.{reply_status}
 use Rattle.portal_base.specs.Json.{json_text}
 use Rattle.portal_base.specs.Outside.{Takes, TakesPrefix}
-use Rattle.portal_core.specs.State.{State}
+use Rattle.portal_state.specs.State.{State}
 use Rattle.portal_serve.specs.RequestOutcome.{RequestOutcome}
-use Rattle.portal_serve.specs.Run.{Begins, StageTrace, DrawsAll}
+use Rattle.portal_links.specs.Desk.{DrawsAll}
+use Rattle.portal_serve.specs.Run.{Begins, StageTrace}
 use Rattle.portal_serve.specs.Script.{ScriptCall}
 use Rattle.portal_serve.specs.Transcript.{outcome_of_call, reply_line}
 

@@ -5,9 +5,9 @@ use Rattle.org_roles.specs.declared.entry.Org.{Org}
 use Rattle.org_roles.specs.declared.entry.Membership.{Membership}
 use Rattle.org_roles.specs.declared.role.Role.{Role}
 use Rattle.org_roles.specs.declared.role.Role.TheVariants.{Member, Editor, Admin}
-use Rattle.portal_core.specs.State.{State}
-use Rattle.portal_core.specs.declared.opening.Opening.{Opening}
-use Rattle.portal_serve.specs.Tokens.{Digests, digest_of}
+use Rattle.portal_state.specs.State.{State}
+use Rattle.portal_state.specs.declared.opening.Opening.{Opening}
+use Rattle.portal_links.specs.Tokens.{Digests, digest_of}
 
 abbrev pub a_user : List ℕ → Bool → User
 a_user name sysadmin = record { name = name; sysadmin = sysadmin }

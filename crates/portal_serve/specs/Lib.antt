@@ -1,13 +1,14 @@
 pub mod Calls
 pub mod Desk
+pub mod Followed
 pub mod Played
 pub mod RequestOutcome
 pub mod Run
+pub mod Rounds
 pub mod Script
 pub mod Values
 pub mod Served
 pub mod Stage
 pub mod Defaults
 pub mod Stopped
-pub mod Tokens
 pub mod Transcript

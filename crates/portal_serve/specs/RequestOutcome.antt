@@ -2,21 +2,16 @@
 use Rattle.std.specs.Prelude.{ℕ, ℤ, Result, Ok, Err}
 use Rattle.action_api.specs.declared.early.Early.{Early}
 use Rattle.portal_base.specs.declared.caller.Caller.{Caller}
-use Rattle.portal_calls.specs.declared.call.Call.{Call}
 use Rattle.portal_calls.specs.declared.call.Request.{Request}
-use Rattle.portal_core.specs.State.{State}
-use Rattle.portal_core.specs.Step.{Outcome, call_step}
+use Rattle.portal_links.specs.Asked.{call_of}
+use Rattle.portal_state.specs.State.{State}
+use Rattle.portal_state.specs.Step.{Outcome, call_step}
 use Rattle.portal_events.specs.declared.event.Reply.{Reply}
 
 -- the reply, or the early fault, and the state after it
 pub record RequestOutcome : Type 0 where
   pub reply : Result Reply Early
   pub state : State
-
--- the call of a request, with its size and the moment and nonce that were drawn for it
-abbrev pub call_of : Caller → Request → ℕ → ℤ → ℕ → Call
-call_of caller request size moment nonce =
-    record { caller = caller; request = request; size = size; moment = moment; nonce = record { 0 = nonce } }
 
 abbrev pub outcome_of_step : Outcome → RequestOutcome
 outcome_of_step outcome = record { reply = Ok outcome.reply; state = outcome.core }

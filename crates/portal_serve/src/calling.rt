@@ -6,22 +6,13 @@ ghost use Rattle.portal_serve.specs.RequestOutcome.{outcome_of_request};
 
 use action_api::early::Early;
 use portal_base::caller::Caller;
-use portal_base::moment::Moment;
-use portal_base::nonce::Nonce;
 use portal_calls::call::{Call, Request};
 use portal_core::laws::a_call_gets_a_reply_of_calls;
 use portal_core::portal::Portal;
 use portal_events::{Event, Refusal, Reply};
 use portal_keeper::keeper::Keeper;
+use portal_links::asked::Drawn;
 use std::alloc::AllocError;
-
-/// The size of a call in bytes, and the moment and the nonce that were drawn for it.
-#[derive(Drop)]
-pub struct Drawn {
-    pub size: u64,
-    pub moment: Moment,
-    pub nonce: Nonce,
-}
 
 /// Why a call has no reply of the portal's step. Nothing has changed.
 #[derive(Clone, Copy, Debug, PartialEq, Eq)]

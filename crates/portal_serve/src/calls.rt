@@ -7,7 +7,7 @@ ghost use Rattle.portal_serve.specs.Values.{script_call};
 ghost use Rattle.portal_serve.specs.Stage.{AreSameLoans, trace_of};
 ghost use Rattle.portal_serve.specs.Transcript.{outcome_of_call, reply_line};
 
-use crate::calling::{Drawn, NoReply, reply_to_request};
+use crate::calling::{NoReply, reply_to_request};
 use crate::line::render_line;
 use crate::script::ScriptCall;
 use crate::stage::Stage;
@@ -21,6 +21,7 @@ use portal_base::seq::Seq;
 use portal_core::portal::Portal;
 use portal_events::Reply;
 use portal_keeper::keeper::Keeper;
+use portal_links::asked::Drawn;
 use std::alloc::{AllocError, Global};
 
 /// Why a call's line isn't complete.

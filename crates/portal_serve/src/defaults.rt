@@ -1,12 +1,11 @@
 //! The default portal, with which a run begins where no portal file is named: five users with their tokens, and one
 //! organization.
 ghost use Rattle.std.specs.Prelude.{◌≡◌, [], ◌∷◌, ◌++◌, codes, pos, IfOk};
+ghost use Rattle.portal_links.specs.Tokens.{digest_of};
 ghost use Rattle.portal_serve.specs.Defaults.{a_user, city_role, default_users, default_org, default_roles};
 ghost use Rattle.portal_serve.specs.Defaults.{default_opening, default_state};
 ghost use Rattle.portal_serve.specs.Defaults.{default_digests};
-ghost use Rattle.portal_serve.specs.Tokens.{digest_of};
 
-use crate::tokens::{Tokens, digest_of};
 use org_roles::entry::{Membership, Org, User};
 use org_roles::role::Role;
 use portal_base::moment::Moment;
@@ -14,6 +13,7 @@ use portal_base::seq::Seq;
 use portal_base::text::Text;
 use portal_core::portal::{Opening, Portal};
 use portal_keeper::memory::MemoryKeeper;
+use portal_links::tokens::{Tokens, digest_of};
 use std::alloc::{AllocError, Global};
 
 fn user(alloc: Global, name: &str, sysadmin: bool) -> Result<User, AllocError>

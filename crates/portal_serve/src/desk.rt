@@ -1,13 +1,14 @@
 //! Serving a desk: one link after another. Each goes back to the listener before the next is accepted.
 ghost use Rattle.std.specs.Prelude.{◌≡◌, ◌≤◌, false};
-ghost use Rattle.portal_serve.specs.Desk.{desk_trace, ServesDesk, ServesNext};
-ghost use Rattle.portal_serve.specs.Served.{link_trace};
+ghost use Rattle.portal_links.specs.Desk.{desk_trace};
+ghost use Rattle.portal_links.specs.Written.{link_trace};
+ghost use Rattle.portal_serve.specs.Desk.{ServesDesk, ServesNext};
 
 use crate::serve::serve_link;
-use crate::tokens::Tokens;
 use portal_base::outside::{Clock, Desk, Failed, Listener, Nonces};
 use portal_core::portal::Portal;
 use portal_keeper::keeper::Keeper;
+use portal_links::tokens::Tokens;
 use std::alloc::Global;
 
 /// Serves the next link, and returns whether there was one.

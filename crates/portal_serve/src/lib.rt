@@ -8,7 +8,7 @@ pub mod desk;
 pub mod laws;
 mod line;
 pub mod play;
+pub mod round;
 pub mod script;
 pub mod serve;
 pub mod stage;
-pub mod tokens;

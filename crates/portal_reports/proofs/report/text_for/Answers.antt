@@ -1,7 +1,7 @@
 use Rattle.std.proofs.Common.{◌≡◌, IfOk, string_bytes, subst}
 use Rattle.visibility.specs.Viewer.{ViewerState, datasets_for}
 use Rattle.datastore_answers.specs.Tables.{tables_of, tables_seen}
-use Rattle.portal_core.specs.View.{view_of}
+use Rattle.portal_state.specs.View.{view_of}
 use Rattle.portal_reports.specs.Datasets.{datasets_text}
 use Rattle.portal_reports.specs.Tables.{tables_text}
 use Rattle.portal_reports.proofs.report.text_for.Goals as goal

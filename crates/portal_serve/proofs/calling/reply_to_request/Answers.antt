@@ -2,8 +2,8 @@
 use Rattle.std.proofs.Common.{IsTrue, rules, subst, sym}
 use Rattle.portal_events.specs.Reply.{is_of_call}
 use Rattle.portal_events.specs.declared.event.Reply.{Reply}
-use Rattle.portal_serve.proofs.Working.{reply_made, state_made}
-use Rattle.portal_serve.specs.RequestOutcome.{call_of}
+use Rattle.portal_serve.proofs.Outcomes.{reply_made, state_made}
+use Rattle.portal_links.specs.Asked.{call_of}
 use Rattle.portal_serve.proofs.calling.reply_to_request.Goals as goal
 
 pub returns-in_default-clause-reply : goal.returns-in_default-clause-reply

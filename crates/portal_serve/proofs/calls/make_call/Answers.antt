@@ -2,7 +2,8 @@
 use Rattle.std.proofs.Common.{◌∙◌, ap, inr}
 use Rattle.portal_serve.proofs.Making.{begins_call, begins_call_unwritten}
 use Rattle.portal_serve.proofs.Staging.{prefix_from}
-use Rattle.portal_serve.proofs.Working.{on_err_always, DrawsAll-one, DrawsAll-once}
+use Rattle.portal_links.proofs.Passing.{DrawsAll-once, DrawsAll-one}
+use Rattle.portal_serve.proofs.Working.{on_err_always}
 use Rattle.portal_serve.specs.Values.{script_call}
 use Rattle.portal_serve.proofs.calls.make_call.Goals as goal
 

@@ -1,7 +1,8 @@
 -- The status, the line and the state are those of the call, also where there is no memory for its line.
 use Rattle.std.proofs.Common.{ap, inr, ◌∙◌}
 use Rattle.action_api.specs.Reply.{reply_status}
-use Rattle.portal_serve.proofs.Working.{line_written, on_err_always, outcome_as}
+use Rattle.portal_serve.proofs.Outcomes.{line_written, outcome_as}
+use Rattle.portal_serve.proofs.Working.{on_err_always}
 use Rattle.portal_serve.specs.RequestOutcome.{RequestOutcome}
 use Rattle.portal_serve.specs.Values.{script_call}
 use Rattle.portal_serve.proofs.calls.process_call.Goals as goal

@@ -1,5 +1,5 @@
 -- The reply and the state are those of the line's call.
-use Rattle.portal_serve.proofs.Working.{outcome_in, left_in}
+use Rattle.portal_serve.proofs.Outcomes.{outcome_in, left_in}
 use Rattle.portal_serve.proofs.calls.reply_to_call.Goals as goal
 
 pub returns-clause-reply : goal.returns-clause-reply

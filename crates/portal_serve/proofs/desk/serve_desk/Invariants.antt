@@ -1,7 +1,7 @@
 use Rattle.std.proofs.Common.{◌≡◌, ◌≤◌, false}
 use Rattle.portal_serve.proofs.Desking.{Counted}
-use Rattle.portal_serve.specs.Desk.{desk_trace}
-use Rattle.portal_serve.specs.Served.{link_trace}
+use Rattle.portal_links.specs.Desk.{desk_trace}
+use Rattle.portal_links.specs.Written.{link_trace}
 use Rattle.portal_serve.proofs.desk.serve_desk.Given as goal
 
 -- each turn so far served a link and had no fault, and none is out
