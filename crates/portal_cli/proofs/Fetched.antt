@@ -1,9 +1,9 @@
 -- A load fetches two files, so the fetcher has one trace over both.
 use Rattle.std.proofs.Common.{◌≡◌, ◌≢◌, ◌≤◌, ℕ, List, Option, Some, None, Result, Ok, Err, subst, sym, inl, inr}
-use Rattle.std.proofs.Common.{arith}
+use Rattle.std.proofs.Common.{◌∙◌, length, get_or, slice_set, arith}
 use Rattle.portal_base.specs.Outside.{Holdings, Rose}
 use Rattle.portal_base.specs.declared.caller.Caller.TheVariants.{Named}
-use Rattle.portal_core.specs.State.{State}
+use Rattle.portal_state.specs.State.{State}
 use Rattle.portal_serve.specs.Run.{DeviceTrace}
 use Rattle.portal_words.specs.declared.command.LoadOptions.{LoadOptions}
 use Rattle.portal_load.specs.Stop.{status_for_load}
@@ -11,7 +11,10 @@ use Rattle.portal_load.specs.declared.stop.LoadStop.{LoadStop}
 use Rattle.portal_load.specs.declared.stop.LoadStop.TheVariants as stop
 use Rattle.portal_load.specs.Load.{LoadTask, LoadsWith, load_task}
 use Rattle.portal_load.specs.SchemaFile.{LoadsBy, LoadsFrom}
-use Rattle.portal_core.specs.declared.opening.Opening.{Opening}
+use Rattle.portal_state.specs.declared.opening.Opening.{Opening}
+use Rattle.portal_serve.specs.Rounds.{faults_of_first, held_by_first}
+use Rattle.portal_start.proofs.FirstFetcher.{faults_first, faults_same, faults_set, held_first, held_same}
+use Rattle.portal_start.specs.Fetchers.{UsesFirst, first_fetch}
 use Rattle.portal_start.specs.OverStore.{BeginsOver, FailsToOpen, StoreTrace, WorksOver}
 use Rattle.portal_start.specs.Start.{Beginning, Begins, FailsToBegin}
 use Rattle.portal_status.specs.Fetch.{FailsToFetch, FetchTrace, fetch_trace}
@@ -77,6 +80,35 @@ loads_begun held now first before after options beginning store old new status s
       (λ state left. LoadsFrom (fetch_trace h before after) options state left old new status) (new ≡ old)) same loads),
 )
 
+-- what a run of `load` did
+abbrev pub LoadsBegun : FetchTrace → LoadOptions → StoreTrace → DeviceTrace → DeviceTrace → Status → Type 0
+LoadsBegun trace options store old new status =
+    BeginsOver trace options.portal store status
+    (λ beginning state after. LoadsFrom trace options state after old new status) (new ≡ old)
+
+-- The same for the first of the run's fetchers, which fetched both files.
+pub loads_first : {F : Type 0} (held : F → Holdings) (faults : F → ℕ) (fetchers begun : List F) (before after : F)
+    (options : LoadOptions) (beginning : Beginning) (store : StoreTrace) (old new : DeviceTrace) (status : Status)
+    → 1 ≤ length fetchers → UsesFirst held faults options.portal fetchers begun → before ≡ get_or begun 0 before
+    → Begins (first_fetch held faults fetchers begun) options.portal beginning
+    → WorksOver beginning.opening store status
+    (λ state left. LoadsFrom (fetch_trace (held before) (faults before) (faults after)) options state left old new status)
+    (new ≡ old)
+    → LoadsBegun (first_fetch held faults fetchers (slice_set begun 0 after)) options store old new status
+loads_first held faults fetchers begun before after options beginning store old new status some uses same begins loads =
+    subst (λ n. LoadsBegun (fetch_trace (held_by_first held fetchers) (faults_of_first faults fetchers) n) options store
+    old new status) (faults_set held faults begun after more)
+    (loads_begun (held_by_first held fetchers) (held before) (faults_of_first faults fetchers) (faults before)
+    (faults after) options beginning store old new status
+    (held_first held faults begun before more same ∙ held_same held faults fetchers begun some uses.same)
+    (subst (λ n. faults_of_first faults fetchers ≤ n) (sym (faults_first held faults begun before more same))
+    (faults_same held faults fetchers begun some uses.same))
+    (begins_on (held_by_first held fetchers) (faults_of_first faults fetchers) (faults_of_first faults begun)
+    (faults before) options.portal beginning begins) loads)
+  where
+    more : 1 ≤ length begun
+    more = omega (arith, some, uses.same.count)
+
 -- ---- the statuses of a run that loads
 
 -- A status that is neither that of words which name no command nor that of a listener.
@@ -119,12 +151,6 @@ opening_is : (store : StoreTrace) (status : Status) → FailsToOpen store status
 opening_is store status (inl memory, stays) = (λ is. absurd (cc), λ is. absurd (cc))
 opening_is store status (inr (inl (failed, rose)), stays) = (λ is. absurd (cc), λ is. absurd (cc))
 opening_is store status (inr (inr (rows, none)), stays) = (λ is. absurd (cc), λ is. absurd (cc))
-
--- what a run of `load` did
-abbrev LoadsBegun : FetchTrace → LoadOptions → StoreTrace → DeviceTrace → DeviceTrace → Status → Type 0
-LoadsBegun trace options store old new status =
-    BeginsOver trace options.portal store status
-    (λ beginning state after. LoadsFrom trace options state after old new status) (new ≡ old)
 
 load_is : (trace : FetchTrace) (options : LoadOptions) (store : StoreTrace) (old new : DeviceTrace) (status : Status)
     → LoadsBegun trace options store old new status → IsOfLoad status

@@ -1,2 +1,3 @@
 mod Around
 mod Fetched
+mod Statuses

@@ -1,10 +1,10 @@
 //! The portal's program: `portal play` plays the script on standard input and writes its transcript to standard output,
-//! `portal load` loads the CSV on standard input, `portal serve` serves HTTP on this machine, and `portal report` writes a
-//! report to standard output. On every status but 0 it writes a line on standard error. What the portal keeps is in the file
-//! that `PORTAL_STORE` names, or in memory.
+//! `portal load` loads the CSV on standard input, `portal harvest` harvests a source, `portal serve` serves HTTP on
+//! this machine, and `portal report` writes a report to standard output. On every status but 0 it writes a line on
+//! standard error. What the portal keeps is in the file that `PORTAL_STORE` names, or in memory.
 #![tactic(auto)]
 
-ghost use Rattle.std.specs.Prelude.{◌≡◌, ◌≢◌, [], ◌∷◌, false, map, string_bytes, All, Ok};
+ghost use Rattle.std.specs.Prelude.{◌≡◌, ◌≢◌, [], ◌∷◌, false, length, map, string_bytes, All, Ok};
 ghost use Rattle.std.specs.Prelude.{IfOk, IfErr, OnErr};
 ghost use Rattle.portal_words.specs.Commands.{command_of};
 ghost use Rattle.portal_cli.specs.Words.{ReportsWords};
@@ -12,9 +12,13 @@ ghost use Rattle.portal_status.specs.Status.{status_line, TakesOrFails};
 
 pub mod run;
 
+use harvest_pool::{RoundFault, RoundReport};
+use harvest_sources::{JobState, SourceReport};
 use portal_base::counted::{CountNonces, ScriptClock};
 use portal_base::outside::{Clock, Desk, Listener, Nonces, Sink};
+use portal_base::seq::Seq;
 use portal_base::std_adapters::{StdSink, StdSource};
+use portal_base::text::Text;
 pub use portal_devices::clock::HostClock;
 use portal_devices::environment::{is_real_time, listener, random_seed, words};
 pub use portal_devices::files::HostFetcher;
@@ -52,8 +56,81 @@ fn announce_reading(rt: &HostRuntime) {
     }
 }
 
-/// Runs the words over the host's devices and the store that the environment names, with this clock and these numbers for
-/// scripts, and this desk for links.
+/// The source that the words ask to harvest, if somebody waits for it at a terminal.
+fn watched_source(rt: &HostRuntime, words: &[String]) -> Option<Text> {
+    if !rt.stderr().is_terminal() {
+        return None;
+    }
+    match Command::read(rt.alloc(), words) {
+        Ok(Command::Harvest(options)) => Some(options.source),
+        _ => None,
+    }
+}
+
+/// Tells whoever waits at a terminal which source is harvested. A terminal that takes no line doesn't matter.
+fn announce_harvest(rt: &HostRuntime, watched: &Option<Text>) {
+    if let Some(source) = watched {
+        let source = source.as_str();
+        let _unsaid = eprintln!(rt; "portal: harvesting {source}").is_err();
+    }
+}
+
+/// Tells how many of the datasets that a source lists were read.
+fn tell_source(rt: &HostRuntime, report: &SourceReport) {
+    let source = report.source.as_str();
+    let told = match &report.state {
+        JobState::Broken(_cause) => eprintln!(rt; "portal: {source}: broken"),
+        _ => {
+            let read = report
+                .added
+                .saturating_add(report.updated)
+                .saturating_add(report.unchanged);
+            let listed = read.saturating_add(report.bad.len() as u64);
+            eprintln!(rt; "portal: {source}: {read} of {listed} datasets read")
+        }
+    };
+    let _unsaid = told.is_err();
+}
+
+/// Tells whoever waits at a terminal for a harvest how much of each source was read.
+fn tell_rounds(
+    rt: &HostRuntime,
+    watched: &Option<Text>,
+    rounds: &Seq<Result<RoundReport, RoundFault>>,
+) {
+    if watched.is_none() {
+        return;
+    }
+    for round in rounds.as_slice() {
+        if let Ok(report) = round {
+            for source in report.sources.as_slice() {
+                tell_source(rt, source);
+            }
+        }
+    }
+}
+
+/// The fetchers of a run.
+fn eight_fetchers(rt: &HostRuntime) -> Result<Vec<HostFetcher<&HostRuntime>>, AllocError>
+    ensures { IfOk result (λ fetchers. length fetchers.items ≡ 8) }
+{
+    Ok(Vec::from_array(
+        rt.alloc(),
+        [
+            HostFetcher::new(rt),
+            HostFetcher::new(rt),
+            HostFetcher::new(rt),
+            HostFetcher::new(rt),
+            HostFetcher::new(rt),
+            HostFetcher::new(rt),
+            HostFetcher::new(rt),
+            HostFetcher::new(rt),
+        ],
+    )?)
+}
+
+/// Runs the words over the host's devices and the store that the environment names, with this clock and these numbers
+/// for scripts, and this desk for links.
 fn run_over<E: Sink, C: Clock + Drop, N: Nonces + Drop>(
     rt: &HostRuntime,
     words: &[String],
@@ -77,7 +154,9 @@ fn run_over<E: Sink, C: Clock + Drop, N: Nonces + Drop>(
     let Ok(mut desks) = one_desk(alloc, desk) else {
         return report(faults, Status::OutOfMemory);
     };
-    let Ok(mut fetchers) = Vec::from_array(alloc, [HostFetcher::new(rt)]) else {
+    let watched = watched_source(rt, words);
+    announce_harvest(rt, &watched);
+    let Ok(mut fetchers) = eight_fetchers(rt) else {
         return report(faults, Status::OutOfMemory);
     };
     let ended = run(
@@ -92,6 +171,7 @@ fn run_over<E: Sink, C: Clock + Drop, N: Nonces + Drop>(
         clock,
         nonces,
     );
+    tell_rounds(rt, &watched, &ended.rounds);
     ended.status
 }
 

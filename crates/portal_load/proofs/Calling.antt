@@ -7,7 +7,7 @@ use Rattle.std.proofs.lemmas.Bool.{ne_eqb}
 use Rattle.std.proofs.lemmas.List.{map-append, take-append-drop}
 use Rattle.std.proofs.lemmas.List.Folds.{concat-append, list_all-append}
 use Rattle.action_api.specs.Reply.{reply_status}
-use Rattle.portal_core.specs.State.{State}
+use Rattle.portal_state.specs.State.{State}
 use Rattle.portal_serve.specs.Calls.{Exchange, MakesCalls, MakesAllCalls, MakesCallsToRefusal, StopsCalls}
 use Rattle.portal_serve.specs.Calls.{are_granted, body_size, exchange, exchanges, is_granted, lines_of, state_after_calls}
 use Rattle.portal_serve.specs.Run.{Begins}

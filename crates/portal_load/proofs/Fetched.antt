@@ -2,7 +2,7 @@
 use Rattle.std.proofs.Common.{◌≡◌, ◌≤◌, ℕ, List, length, subst, inr}
 use Rattle.portal_base.specs.Outside.{HoldsAt}
 use Rattle.portal_base.specs.declared.caller.Caller.TheVariants.{Named}
-use Rattle.portal_core.specs.State.{State}
+use Rattle.portal_state.specs.State.{State}
 use Rattle.portal_serve.specs.Run.{DeviceTrace}
 use Rattle.portal_words.specs.declared.command.LoadOptions.{LoadOptions}
 use Rattle.portal_load.specs.Load.{LoadsWith, ReportsSchema, load_task}

@@ -8,7 +8,7 @@ use Rattle.portal_base.proofs.OutsideLemmas.{Gives-none, Gives-append}
 use Rattle.portal_base.specs.Json.{json_text}
 use Rattle.portal_base.specs.declared.caller.Caller.{Caller}
 use Rattle.portal_base.specs.declared.json_value.Json.{Json}
-use Rattle.portal_core.specs.State.{State}
+use Rattle.portal_state.specs.State.{State}
 use Rattle.portal_serve.specs.Calls.{MakesCall, BeginsCall}
 use Rattle.portal_serve.specs.Run.{StageTrace}
 use Rattle.portal_serve.specs.Script.{ScriptCall}

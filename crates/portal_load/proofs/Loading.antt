@@ -9,7 +9,7 @@ use Rattle.portal_base.specs.Json.{json_reading}
 use Rattle.portal_base.specs.Outside.{Gives, IsAtEnd}
 use Rattle.portal_base.specs.declared.caller.Caller.{Caller}
 use Rattle.portal_base.specs.declared.json_value.Json.{Json}
-use Rattle.portal_core.specs.State.{State}
+use Rattle.portal_state.specs.State.{State}
 use Rattle.portal_serve.specs.Calls.{MakesAllCalls, MakesCallsToRefusal, StopsCalls}
 use Rattle.portal_serve.specs.Run.{DeviceTrace, GaveTooMuch, StageTrace, Passed, device_trace, input_limit, with_input}
 use Rattle.portal_serve.specs.Script.{ScriptCall}

@@ -3,12 +3,12 @@ use Rattle.std.proofs.Common.{◌≡◌, ◌≢◌, ◌≤◌, ℕ, ℤ, List, [
 use Rattle.std.proofs.Common.{sym, subst, ◌∙◌}
 use Rattle.std.proofs.Common.{◌+◌, arith, length-append}
 use Rattle.portal_base.proofs.OutsideLemmas.{Takes-none, Takes-append}
-use Rattle.portal_core.specs.State.{State}
+use Rattle.portal_state.specs.State.{State}
 use Rattle.portal_load.proofs.Calling.{makes_all_append, makes_all_one, makes_none, refused_drawn, refuses_append}
 use Rattle.portal_load.proofs.Calling.{refuses_one, refuses_within}
 use Rattle.portal_load.proofs.Calling.{stops_after, stops_append, stops_none, stops_one, stops_within}
 use Rattle.portal_load.specs.Progress.{MakesOn, PassesOutlet, RefusesOn, StopsOn}
-use Rattle.portal_serve.proofs.Working.{DrawsAll-none, DrawsAll-more}
+use Rattle.portal_links.proofs.Passing.{DrawsAll-more, DrawsAll-none}
 use Rattle.portal_serve.specs.Calls.{MakesCall, BeginsCall, MakesAllCalls, MakesCallsToRefusal, StopsCalls, body_size}
 use Rattle.portal_serve.specs.Run.{StageTrace}
 use Rattle.portal_serve.specs.Script.{ScriptCall}

@@ -6,7 +6,7 @@ use Rattle.portal_base.specs.declared.caller.Caller.{Caller}
 use Rattle.portal_base.specs.declared.json_value.Json.{Json}
 use Rattle.portal_base.specs.declared.json_value.Json as json
 use Rattle.portal_base.specs.declared.json_value.JsonFault.{JsonFault}
-use Rattle.portal_core.specs.State.{State}
+use Rattle.portal_state.specs.State.{State}
 use Rattle.portal_serve.specs.Calls.{MakesAllCalls, MakesCallsToRefusal, StopsCalls}
 use Rattle.portal_serve.specs.Run.{DeviceTrace, Passed, input_limit}
 use Rattle.portal_serve.specs.Script.{ScriptCall}

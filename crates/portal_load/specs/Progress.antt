@@ -2,9 +2,10 @@
 use Rattle.std.specs.Prelude.{◌≡◌, ◌⊎◌, ℕ, ℤ, List, [], ◌∷◌, ◌++◌, map, Option, Some, Result, Ok, Err, codes}
 use Rattle.portal_base.specs.Outside.{Takes}
 use Rattle.portal_base.specs.declared.json_value.Json.{Json}
-use Rattle.portal_core.specs.State.{State}
+use Rattle.portal_state.specs.State.{State}
+use Rattle.portal_links.specs.Desk.{DrawsAll}
 use Rattle.portal_serve.specs.Calls.{MakesAllCalls, MakesCallsToRefusal, StopsCalls}
-use Rattle.portal_serve.specs.Run.{StageTrace, DrawsAll}
+use Rattle.portal_serve.specs.Run.{StageTrace}
 use Rattle.portal_serve.specs.Script.{ScriptCall}
 use Rattle.row_inserts.specs.Inserts.{Pieces, faulty}
 use Rattle.typed_csv.specs.Messages.{load_fault_text}

@@ -1,7 +1,7 @@
 -- What a load by a schema file did.
 use Rattle.std.specs.Prelude.{◌≡◌, ◌⊎◌, ℕ, List}
 use Rattle.portal_base.specs.declared.caller.Caller.TheVariants.{Named}
-use Rattle.portal_core.specs.State.{State}
+use Rattle.portal_state.specs.State.{State}
 use Rattle.portal_load.specs.Load.{LoadsWith, ReportsSchema, load_task}
 use Rattle.portal_status.specs.Fetch.{FailsToFetch, FetchTrace, HoldsFile}
 use Rattle.portal_status.specs.declared.status.Status.{Status}

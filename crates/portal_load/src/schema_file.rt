@@ -30,6 +30,7 @@ pub fn load_csv<S: Source, O: Sink, P: Keeper, F: Fetcher, C: Clock, N: Nonces>(
         portal.old.state portal.new.state
         (device_trace (S.to_come input.old) (O.taken output.old) (C.given clock.old) (N.given nonces.old))
         (device_trace (S.to_come input.new) (O.taken output.new) (C.given clock.new) (N.given nonces.new)) result }
+    ensures held { F.held fetcher.new ≡ F.held fetcher.old }
     ensures counts { F.faults fetcher.old ≤ F.faults fetcher.new }
     ensures read_fault { result ≡ Status.ReadFault → Rose (S.faults input.old) (S.faults input.new) }
     ensures write_fault { result ≡ Status.WriteFault → Rose (O.faults output.old) (O.faults output.new) }

@@ -1,38 +1,43 @@
 -- How a command ends, by what its parts did.
-use Rattle.std.proofs.Common.{◌≡◌, ◌≢◌, ◌<◌, ℕ, List, ◌++◌, length, Some, None, Result, Ok, Err, OnErr, Option, inl, inr, arith}
+use Rattle.std.proofs.Common.{◌≡◌, ◌≢◌, ℕ, List, length, Some, None, Result, Ok, Err, OnErr, Option, inl, inr, arith}
 use Rattle.std.proofs.Common.{refl, sym, ap, subst, ◌∙◌}
 use Rattle.std.specs.Prelude.{◌↔◌, IfSome, codes}
 use Rattle.portal_base.specs.Outside.{Rose}
 use Rattle.portal_base.specs.declared.outside.Failed.{Failed}
-use Rattle.portal_core.specs.State.{State}
-use Rattle.portal_start.specs.Commands.{Plays, WritesWith, status_for, status_for_desk}
-use Rattle.portal_core.specs.PortalValue.{AreOfNoState}
-use Rattle.portal_core.specs.declared.opening.OpenFault.{OpenFault}
-use Rattle.portal_core.specs.declared.opening.OpenFault.TheVariants as opening
+use Rattle.portal_state.specs.State.{State}
+use Rattle.harvest_pool.specs.declared.report.RoundReport.{RoundReport}
+use Rattle.portal_start.specs.Commands.{ListsReports, Plays, RoundAnswers, WritesWith, status_for, status_for_desk}
+use Rattle.portal_start.specs.Commands.{status_unlisted}
+use Rattle.portal_state.specs.PortalValue.{AreOfNoState}
+use Rattle.portal_state.specs.declared.opening.OpenFault.{OpenFault}
+use Rattle.portal_state.specs.declared.opening.OpenFault.TheVariants as opening
 use Rattle.portal_keeper.specs.Keeping.{Shows}
 use Rattle.portal_keeper.specs.declared.row.KeptRow.{KeptRow}
 use Rattle.portal_start.specs.OverStore.{FailsToOpen, IsCauseOfNone, StoreTrace, status_for_opening}
 use Rattle.portal_status.specs.declared.status.Status.{Status}
 use Rattle.portal_status.specs.declared.status.Status.TheVariants as status
-use Rattle.portal_serve.specs.Run.{DeviceTrace, GaveTooMuch, PlaysAll, PlaysPart, PlaysRead, input_limit}
+use Rattle.portal_serve.specs.Rounds.{PoolTrace}
+use Rattle.portal_serve.specs.Run.{DeviceTrace, GaveTooMuch, PlaysAll, PlaysPart, PlaysRead}
 use Rattle.portal_serve.specs.Stopped.{begun_limit}
 use Rattle.portal_serve.specs.declared.play.PlayEnd.{PlayEnd}
 use Rattle.portal_serve.specs.declared.play.PlayEnd.TheVariants as playing
 
 -- ---- a script that was played
 
-pub plays_by : (state after : State) (old new : DeviceTrace) (end : PlayEnd)
-    → (end ≡ playing.Done → (whole : List ℕ) → old.to_come ≡ Some whole → PlaysAll state whole after old new)
+pub plays_by : {F : Type 0} (state after : State) (old new : DeviceTrace) (pool pool_after : PoolTrace F) (end : PlayEnd)
+    → (end ≡ playing.Done → (whole : List ℕ) → old.to_come ≡ Some whole
+    → PlaysAll state whole after old new pool pool_after)
     → (end ≢ playing.Done → (whole : List ℕ) → old.to_come ≡ Some whole
-    → PlaysPart (begun_limit end) state whole after old new)
-    → (end ≡ playing.ReadFault → (whole : List ℕ) → old.to_come ≡ Some whole → PlaysRead state whole after old new)
-    → Plays state after old new end
-plays_by state after old new playing.Done all part read = all refl
-plays_by state after old new playing.ReadFault all part read = read refl
-plays_by state after old new playing.WriteFault all part read = part (λ e. absurd (cc))
-plays_by state after old new playing.KeeperFault all part read = part (λ e. absurd (cc))
-plays_by state after old new playing.TooLong all part read = part (λ e. absurd (cc))
-plays_by state after old new playing.OutOfMemory all part read = part (λ e. absurd (cc))
+    → PlaysPart (begun_limit end) state whole after old new pool pool_after)
+    → (end ≡ playing.ReadFault → (whole : List ℕ) → old.to_come ≡ Some whole
+    → PlaysRead state whole after old new pool pool_after)
+    → Plays state after old new pool pool_after end
+plays_by state after old new pool pool_after playing.Done all part read = all refl
+plays_by state after old new pool pool_after playing.ReadFault all part read = read refl
+plays_by state after old new pool pool_after playing.WriteFault all part read = part (λ e. absurd (cc))
+plays_by state after old new pool pool_after playing.KeeperFault all part read = part (λ e. absurd (cc))
+plays_by state after old new pool pool_after playing.TooLong all part read = part (λ e. absurd (cc))
+plays_by state after old new pool pool_after playing.OutOfMemory all part read = part (λ e. absurd (cc))
 
 -- The end of playing is the one whose status it is.
 pub read_by : (end : PlayEnd) → status_for end ≡ status.ReadFault → end ≡ playing.ReadFault
@@ -67,11 +72,35 @@ too_long_is playing.KeeperFault is = absurd (cc)
 too_long_is playing.TooLong is = refl
 too_long_is playing.OutOfMemory is = absurd (cc)
 
+-- A status but `OutOfMemory` is that of the end, whether the rounds are listed or not.
+unlisted_is : (end : PlayEnd) (known : Status) → known ≢ status.OutOfMemory → status_unlisted end ≡ known
+    → status_for end ≡ known
+unlisted_is playing.Done known other is = absurd (other (sym is))
+unlisted_is playing.ReadFault known other is = is
+unlisted_is playing.WriteFault known other is = is
+unlisted_is playing.KeeperFault known other is = is
+unlisted_is playing.TooLong known other is = is
+unlisted_is playing.OutOfMemory known other is = is
+
+pub listed_is : (end : PlayEnd) (reports : List RoundReport) (rounds : RoundAnswers) (ended known : Status)
+    → known ≢ status.OutOfMemory → ListsReports end reports rounds ended → ended ≡ known → status_for end ≡ known
+listed_is end reports rounds ended known other (inl (ends, same)) is = sym ends ∙ is
+listed_is end reports rounds ended known other (inr (ends, none)) is = unlisted_is end known other (sym ends ∙ is)
+
 -- The text `input too long` is the status exactly if playing ended because input was too long.
-pub too_long_by : (end : PlayEnd) (ended : Status) (P : Type 0) → ended ≡ status_for end
+pub too_long_by : (end : PlayEnd) (reports : List RoundReport) (rounds : RoundAnswers) (ended : Status) (P : Type 0)
+    → ListsReports end reports rounds ended
     → ((end ≡ playing.TooLong) ↔ P) → ((ended ≡ status.DataFault (codes "input too long")) ↔ P)
-too_long_by end ended P ends same =
-    (λ is. same.0 (too_long_is end (sym ends ∙ is)), λ p. ends ∙ ap status_for (same.1 p))
+too_long_by end reports rounds ended P lists same = (
+  λ is. same.0 (too_long_is end (listed_is end reports rounds ended (status.DataFault (codes "input too long"))
+      (λ memory. absurd (cc)) lists is)),
+  λ p. ends_too_long lists (same.1 p),
+)
+  where
+    ends_too_long : ListsReports end reports rounds ended → end ≡ playing.TooLong
+        → ended ≡ status.DataFault (codes "input too long")
+    ends_too_long (inl (ends, listed)) is = ends ∙ ap status_for is
+    ends_too_long (inr (ends, none)) is = ends ∙ ap status_unlisted is
 
 -- ---- a portal that isn't opened
 

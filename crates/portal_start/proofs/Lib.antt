@@ -1,2 +1,4 @@
 pub mod Beginning
 mod Examples
+pub mod FirstFetcher
+pub mod Harvesting

@@ -1,3 +1,5 @@
 pub mod Commands
+pub mod Fetchers
+pub mod HarvestCommand
 pub mod OverStore
 pub mod Start

@@ -1,13 +1,13 @@
 -- What a run did over the store that it was given.
 use Rattle.std.specs.Prelude.{◌≡◌, ◌⊎◌, ◌≤◌, ℕ, List, Option, IfSome}
 use Rattle.portal_base.specs.Outside.{Rose}
-use Rattle.portal_core.specs.KeptRows.{kept_rows}
-use Rattle.portal_core.specs.PortalValue.{AreOfNoState, IsOpenedOver}
-use Rattle.portal_core.specs.State.{State}
-use Rattle.portal_core.specs.Valid.{IsValid}
-use Rattle.portal_core.specs.declared.opening.OpenFault.{OpenFault}
-use Rattle.portal_core.specs.declared.opening.OpenFault.TheVariants as opening
-use Rattle.portal_core.specs.declared.opening.Opening.{Opening}
+use Rattle.portal_state.specs.KeptRows.{kept_rows}
+use Rattle.portal_state.specs.PortalValue.{AreOfNoState, IsOpenedOver}
+use Rattle.portal_state.specs.State.{State}
+use Rattle.portal_state.specs.Valid.{IsValid}
+use Rattle.portal_state.specs.declared.opening.OpenFault.{OpenFault}
+use Rattle.portal_state.specs.declared.opening.OpenFault.TheVariants as opening
+use Rattle.portal_state.specs.declared.opening.Opening.{Opening}
 use Rattle.portal_keeper.specs.Keeping.{Shows}
 use Rattle.portal_keeper.specs.declared.row.KeptRow.{KeptRow}
 use Rattle.portal_status.specs.Fetch.{FetchTrace}
@@ -15,7 +15,8 @@ use Rattle.portal_status.specs.declared.status.Status.{Status}
 use Rattle.portal_status.specs.declared.status.Status.TheVariants as status
 use Rattle.portal_start.specs.Start.{Beginning, BeginsAnd}
 
--- the trace of the store's keeper: the rows before and after a call, where they are observable, and the counts of faults
+-- the trace of the store's keeper: the rows before and after a call, where they are observable, and the counts of
+-- faults
 pub record StoreTrace : Type 0 where
   pub rows : Option (List KeptRow)
   pub faults : ℕ
@@ -40,8 +41,8 @@ status_for_opening opening.Keeper = status.KeeperFault
 status_for_opening (opening.BadRows rows) = status.StoredRows
 status_for_opening opening.OutOfMemory = status.OutOfMemory
 
--- Why no portal was opened, by the status: memory ran out, the keeper's count of faults rose, or the rows are those of no
--- state, where they are observable.
+-- Why no portal was opened, by the status: memory ran out, the keeper's count of faults rose, or the rows are those of
+-- no state, where they are observable.
 abbrev pub IsCauseOfNone : StoreTrace → Status → Type 0
 IsCauseOfNone store ended =
     (ended ≡ status.OutOfMemory)

@@ -2,13 +2,13 @@
 use Rattle.std.specs.Prelude.{◌≡◌, ◌⊎◌, ◌≤◌, ℕ, List, ◌++◌, length, codes, Option, Some, None, Ok}
 use Rattle.std.specs.Prelude.{Err}
 use Rattle.portal_base.specs.Outside.{Rose}
-use Rattle.portal_core.specs.declared.opening.Opening.{Opening}
+use Rattle.portal_state.specs.declared.opening.Opening.{Opening}
 use Rattle.portal_file.specs.File.{file_of}
 use Rattle.portal_file.specs.Rules.{rule_name}
 use Rattle.portal_file.specs.declared.file.PortalFile.{PortalFile}
 use Rattle.portal_file.specs.declared.rule.FileRule.{FileRule}
 use Rattle.portal_serve.specs.Defaults.{default_opening, default_digests}
-use Rattle.portal_serve.specs.Tokens.{Digests}
+use Rattle.portal_links.specs.Tokens.{Digests}
 use Rattle.portal_status.specs.declared.status.Status.{Status}
 use Rattle.portal_status.specs.declared.status.Status.TheVariants as status
 use Rattle.portal_status.specs.Fetch.{FailsToFetch, FetchTrace, HoldsFile}
@@ -64,8 +64,8 @@ BeginsAnd fetch_trace portal status P Untouched =
     ((beginning : Beginning) × Begins fetch_trace portal beginning × P beginning) ⊎
     (FailsToBegin fetch_trace portal status × Untouched)
 
--- Where the fetcher is observable, the status for a file of at most 16 MiB (16,777,216 bytes) that breaks a rule names that rule, unless
--- memory ran out or the fetcher failed.
+-- Where the fetcher is observable, the status for a file of at most 16 MiB (16,777,216 bytes) that breaks a rule names
+-- that rule, unless memory ran out or the fetcher failed.
 abbrev pub ReportsRule : FetchTrace → Option (List ℕ) → Status → Type 0
 ReportsRule fetch_trace portal ended =
     (location bytes : List ℕ) → (rule : FileRule) → (held : List ℕ → Option (List ℕ)) → portal ≡ Some location

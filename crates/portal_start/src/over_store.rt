@@ -1,12 +1,14 @@
 //! The portal of a run: opened over the store's keeper, and handed back with it.
-ghost use Rattle.std.specs.Prelude.{◌≡◌, ◌≤◌, IfErr, IfOk, IfSome, IsTrue};
-ghost use Rattle.portal_core.specs.KeptRows.{kept_rows};
-ghost use Rattle.portal_core.specs.Opened.{is_opening};
-ghost use Rattle.portal_core.specs.PortalValue.{IsOpenedOver};
-ghost use Rattle.portal_core.specs.Valid.{IsValid};
+ghost use Rattle.std.specs.Prelude.{◌≡◌, ◌≤◌, [], IfErr, IfOk, IfSome, IsTrue};
+ghost use Rattle.portal_state.specs.KeptRows.{kept_rows};
+ghost use Rattle.portal_state.specs.Opened.{is_opening};
+ghost use Rattle.portal_state.specs.PortalValue.{IsOpenedOver};
+ghost use Rattle.portal_state.specs.Valid.{IsValid};
 ghost use Rattle.portal_keeper.specs.Keeping.{Shows};
 ghost use Rattle.portal_start.specs.OverStore.{FailsToOpen, status_for_opening, store_trace};
 
+use harvest_pool::{RoundFault, RoundReport};
+use portal_base::seq::Seq;
 use portal_core::portal::{OpenFault, Opening, Portal};
 use portal_keeper::keeper::Keeper;
 use portal_status::status::Status;
@@ -17,6 +19,8 @@ use std::alloc::Global;
 pub struct Ended<P> {
     pub status: Status,
     pub keeper: P,
+    /// The answers of the run's rounds of harvests, in order.
+    pub rounds: Seq<Result<RoundReport, RoundFault>>,
 }
 
 /// The status for a portal that isn't opened.
@@ -43,19 +47,26 @@ pub fn open_portal<P: Keeper>(
     ensures fails { IfErr result (λ ended. FailsToOpen
         (store_trace (P.rows keeper) (P.faults keeper) (P.rows ended.keeper) (P.faults ended.keeper)) ended.status) }
     ensures counted { IfErr result (λ ended. P.faults keeper ≤ P.faults ended.keeper) }
+    ensures no_rounds { IfErr result (λ ended. ended.rounds ≡ []) }
 {
     match Portal::open(alloc, keeper, opening) {
         Ok(portal) => Ok(portal),
         Err((fault, keeper)) => Err(Ended {
             status: status_of_opening(fault),
             keeper,
+            rounds: Seq::new(alloc),
         }),
     }
 }
 
-/// Ends a run with this status, and hands the portal's keeper back.
-pub fn end_with<P: Keeper>(portal: Portal<P>, status: Status) -> Ended<P>
+/// Ends a run with this status and these answers of its rounds, and hands the portal's keeper back.
+pub fn end_with<P: Keeper>(
+    portal: Portal<P>,
+    status: Status,
+    rounds: Seq<Result<RoundReport, RoundFault>>,
+) -> Ended<P>
     ensures status { result.status ≡ status }
+    ensures rounds { result.rounds ≡ rounds }
     ensures keeper { result.keeper ≡ portal.keeper }
     ensures valid { IsValid portal.state }
     ensures rows { Shows (P.rows result.keeper) (kept_rows portal.state) }
@@ -63,5 +74,6 @@ pub fn end_with<P: Keeper>(portal: Portal<P>, status: Status) -> Ended<P>
     Ended {
         status,
         keeper: portal.into_keeper(),
+        rounds,
     }
 }

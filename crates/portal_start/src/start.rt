@@ -1,20 +1,21 @@
 //! What a run begins with: what the default portal, or that of a portal file, is opened with.
-ghost use Rattle.std.specs.Prelude.{◌≡◌, ◌⊎◌, ◌++◌, ◌≤◌, codes, Some, None, Ok, IsTrue, IfOk, IfErr};
+ghost use Rattle.std.specs.Prelude.{◌≡◌, ◌⊎◌, ◌++◌, ◌≤◌, codes, length, Some, None, Ok, IsTrue, IfOk, IfErr};
 ghost use Rattle.org_roles.specs.Distinct.{have_distinct_names, have_distinct_org_names, have_distinct_pairs};
-ghost use Rattle.portal_core.specs.Opened.{is_opening};
+ghost use Rattle.portal_state.specs.Opened.{is_opening};
 ghost use Rattle.portal_file.specs.Opening.{are_in_orgs, are_named};
 ghost use Rattle.portal_file.specs.Rules.{rule_name};
 ghost use Rattle.portal_start.specs.Start.{Begins, FailsToBegin, IsFileOf, RejectsFile, beginning_with};
 ghost use Rattle.portal_start.specs.Start.{beginning_of_file};
 ghost use Rattle.portal_status.specs.Fetch.{fetch_trace};
 ghost use Rattle.portal_start.specs.Start.{default_beginning};
+ghost use Rattle.portal_start.specs.Fetchers.{UsesFirst, first_fetch};
 
 use portal_base::outside::Fetcher;
 use portal_base::text::Text;
 use portal_core::portal::Opening;
 use portal_file::{FileFault, FileRule, PortalFile};
+use portal_links::tokens::Tokens;
 use portal_serve::defaults::{default_opening, default_tokens};
-use portal_serve::tokens::Tokens;
 use portal_status::fetch::fetch_file;
 use portal_status::status::{Status, concat};
 use std::alloc::{AllocError, Global};
@@ -121,4 +122,22 @@ pub fn start_of<F: Fetcher>(
         Some(location) => start_of_file(alloc, fetcher, location.as_str()),
         None => Ok(default_start(alloc)?),
     }
+}
+
+/// What a run begins with, as by `start_of`, with the first of its fetchers.
+pub fn start_with<F: Fetcher>(
+    alloc: Global,
+    fetchers: &mut Vec<F>,
+    portal: &Option<Text>,
+) -> Result<Start, Status>
+    requires { 1 ≤ length fetchers.old.items }
+    ensures begins { IfOk result (λ start.
+        Begins (first_fetch F.held F.faults fetchers.old.items fetchers.new.items) portal.now
+        (beginning_with start.opening start.tokens)) }
+    ensures opening { IfOk result (λ start. IsTrue (is_opening start.opening)) }
+    ensures fails { IfErr result (FailsToBegin
+        (first_fetch F.held F.faults fetchers.old.items fetchers.new.items) portal.now) }
+    ensures fetchers { UsesFirst F.held F.faults portal.now fetchers.old.items fetchers.new.items }
+{
+    start_of(alloc, &mut fetchers[0], portal)
 }

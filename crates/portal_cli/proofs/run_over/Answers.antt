@@ -9,9 +9,9 @@ pub returns-in-Err-clause-words : goal.returns-in-Err-clause-words
 returns-in-Err-clause-words g c =
     rw c.report.ensures.status (store_reports _ _ c.in-Err.ensures.fault c.in-Err.ensures.no_command)
 
-pub returns-in_default-from_array-clause-words : goal.returns-in_default-from_array-clause-words
-returns-in_default-from_array-clause-words g c = rw c.report-in_default-from_array.ensures.status (memory_reports _)
+pub returns-in_default-eight_fetchers-clause-words : goal.returns-in_default-eight_fetchers-clause-words
+returns-in_default-eight_fetchers-clause-words g c = rw c.report-in_default-eight_fetchers.ensures.status (memory_reports _)
 
-pub returns-in_default-from_array-clause-line : goal.returns-in_default-from_array-clause-line
-returns-in_default-from_array-clause-line g c =
-    rw c.report-in_default-from_array.ensures.status c.report-in_default-from_array.ensures.line
+pub returns-in_default-eight_fetchers-clause-line : goal.returns-in_default-eight_fetchers-clause-line
+returns-in_default-eight_fetchers-clause-line g c =
+    rw c.report-in_default-eight_fetchers.ensures.status c.report-in_default-eight_fetchers.ensures.line
