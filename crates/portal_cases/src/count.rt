@@ -77,14 +77,31 @@ fn address_of(alloc: Global, kind: Kind, index: u64) -> Result<Text, AllocError>
     }
 }
 
+/// The body of a call of that kind on the dataset of that name or id.
+fn body_at(alloc: Global, kind: Kind, address: &str) -> Result<Json, AllocError> {
+    match kind {
+        Kind::Create => creation(alloc, address),
+        Kind::ShowByName | Kind::ShowById => showing(alloc, address),
+        Kind::Patch => patch(alloc, address),
+    }
+}
+
 /// The body of a call of that kind on the dataset with this index.
 fn body_of(alloc: Global, kind: Kind, index: u64) -> Result<Json, AllocError> {
     let address = address_of(alloc, kind, index)?;
-    match kind {
-        Kind::Create => creation(alloc, address.as_str()),
-        Kind::ShowByName | Kind::ShowById => showing(alloc, address.as_str()),
-        Kind::Patch => patch(alloc, address.as_str()),
-    }
+    body_at(alloc, kind, address.as_str())
+}
+
+/// Works a call of that kind on the dataset with this index, and says whether it is accepted or shown.
+fn is_good(
+    alloc: Global,
+    session: &mut Session,
+    kind: Kind,
+    index: u64,
+) -> Result<bool, AllocError> {
+    let body = body_of(alloc, kind, index)?;
+    let reply = reply_to(session, action_of(kind), body);
+    Ok(!matches!(reply, Reply::Refused(_)))
 }
 
 /// Works a call of that kind on each of the datasets, and says how many were accepted or shown.
@@ -96,8 +113,7 @@ fn count_good(
 ) -> Result<u64, AllocError> {
     let mut good: u64 = 0;
     for index in 0..datasets {
-        let body = body_of(alloc, kind, index)?;
-        if !matches!(reply_to(session, action_of(kind), body), Reply::Refused(_)) {
+        if is_good(alloc, session, kind, index)? {
             good = good.saturating_add(1);
         }
     }
@@ -120,13 +136,23 @@ fn counts_of(
 }
 
 /// The same, in words.
-pub fn counts_text(alloc: Global, kind: Kind, datasets: u64) -> io::Result<Buffer> {
-    let mut session = Session::new(alloc)?;
-    let (made, good) = counts_of(alloc, &mut session, kind, datasets)?;
+fn counts_in_words(
+    alloc: Global,
+    session: &mut Session,
+    kind: Kind,
+    datasets: u64,
+) -> io::Result<Buffer> {
+    let (made, good) = counts_of(alloc, session, kind, datasets)?;
     let mut counts = Buffer::of_value(alloc, &made);
     counts.push(" ");
     counts.push_value(&good);
     Ok(counts)
+}
+
+/// The same, on a portal without datasets.
+pub fn counts_text(alloc: Global, kind: Kind, datasets: u64) -> io::Result<Buffer> {
+    let mut session = Session::new(alloc)?;
+    counts_in_words(alloc, &mut session, kind, datasets)
 }
 
 /// A kind of calls, and a number of datasets: how many were made, and how many further calls were accepted or shown.

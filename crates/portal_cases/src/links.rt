@@ -8,6 +8,8 @@ use portal_base::counted::{CountNonces, ScriptClock};
 use portal_base::memory::{MemoryLink, MemoryListener};
 use portal_base::outside::Desk;
 use portal_base::seq::Seq;
+use portal_core::portal::Portal;
+use portal_keeper::memory::MemoryKeeper;
 use portal_serve::defaults::{default_portal, default_tokens};
 use portal_serve::desk::serve_desk;
 use std::alloc::{AllocError, Global};
@@ -39,14 +41,26 @@ fn desk_of(alloc: Global, links: Vec<MemoryLink>) -> Result<MemoryDesk, AllocErr
     })
 }
 
+/// Serves that many of the desk's links on the portal, by the default tokens.
+fn serve_on(
+    alloc: Global,
+    portal: &mut Portal<MemoryKeeper>,
+    desk: &mut MemoryDesk,
+    count: u64,
+) -> Result<(), AllocError>
+    requires { desk.old.listener.is_out ≡ false }
+{
+    let tokens = default_tokens(alloc)?;
+    let _ended = serve_desk(alloc, portal, &tokens, desk, count);
+    Ok(())
+}
+
 /// Serves that many of the desk's links on the default portal.
 fn serve(alloc: Global, desk: &mut MemoryDesk, count: u64) -> Result<(), AllocError>
     requires { desk.old.listener.is_out ≡ false }
 {
     let mut portal = default_portal(alloc)?;
-    let tokens = default_tokens(alloc)?;
-    let _ended = serve_desk(alloc, &mut portal, &tokens, desk, count);
-    Ok(())
+    serve_on(alloc, &mut portal, desk, count)
 }
 
 /// The listener that gave these links, once all were served.

@@ -20,12 +20,18 @@ const RESOURCE: &str = "rows.1";
 /// The body that makes its dataset.
 const DATASET: &[u8] = br#"{"name":"rows","owner_org":"city","resources":[{"name":"rows"}]}"#;
 
-/// Works a call that has to be accepted, and gives its result.
-fn accepted(session: &mut Session, action: Action, body: Json) -> io::Result<Json> {
-    match reply_to(session, action, body) {
-        Reply::Accepted(result) => Ok(result),
+/// The count of records that an accepted call's result says, 0 if it says none.
+fn accepted_count(reply: &Reply) -> io::Result<u64> {
+    match reply {
+        Reply::Accepted(result) => Ok(count_in(result)),
         _ => Err(invalid()),
     }
+}
+
+/// Works a call that has to be accepted, and gives the count of records that its result says.
+fn accepted(session: &mut Session, action: Action, body: Json) -> io::Result<u64> {
+    let reply = reply_to(session, action, body);
+    accepted_count(&reply)
 }
 
 fn json_of(alloc: Global, bytes: &[u8]) -> io::Result<Json> {
@@ -64,8 +70,8 @@ fn put_inserts<S: Source>(session: &mut Session, inserts: &mut Inserts<S>) -> io
     for _ in 0..u64::MAX {
         match inserts.next() {
             Ok(Some(insert)) => {
-                let outcome = accepted(session, Action::DatastoreUpsert, insert.body)?;
-                rows = rows.saturating_add(count_in(&outcome));
+                let count = accepted(session, Action::DatastoreUpsert, insert.body)?;
+                rows = rows.saturating_add(count);
             }
             Ok(None) => break,
             Err(_fault) => return Err(invalid()),
@@ -74,13 +80,14 @@ fn put_inserts<S: Source>(session: &mut Session, inserts: &mut Inserts<S>) -> io
     Ok(rows)
 }
 
-/// Loads the CSV into the table, which has that description, and says how many rows were taken.
+/// Makes a table of that description, loads the CSV into it, and says how many rows were taken.
 fn load<S: Source + Drop>(
     alloc: Global,
     session: &mut Session,
     descriptor: &str,
     source: S,
 ) -> io::Result<u64> {
+    make_table(alloc, session, descriptor)?;
     let Ok(schema) = Schema::read(alloc, descriptor.as_bytes()) else {
         return Err(invalid());
     };
@@ -90,18 +97,27 @@ fn load<S: Source + Drop>(
     }
 }
 
-/// How many rows of the CSV a table of that description takes.
+/// How many rows of the CSV a table of that description takes, in words.
+fn rows_in_words<S: Source + Drop>(
+    alloc: Global,
+    session: &mut Session,
+    descriptor: &str,
+    source: S,
+) -> io::Result<Buffer> {
+    let rows = load(alloc, session, descriptor, source)?;
+    let mut text = Buffer::of_value(alloc, &rows);
+    text.push(" rows");
+    Ok(text)
+}
+
+/// The same, on a portal without datasets.
 pub fn rows_text<S: Source + Drop>(
     alloc: Global,
     descriptor: &str,
     source: S,
 ) -> io::Result<Buffer> {
     let mut session = Session::new(alloc)?;
-    make_table(alloc, &mut session, descriptor)?;
-    let rows = load(alloc, &mut session, descriptor, source)?;
-    let mut text = Buffer::of_value(alloc, &rows);
-    text.push(" rows");
-    Ok(text)
+    rows_in_words(alloc, &mut session, descriptor, source)
 }
 
 /// A descriptor, and a text of CSV: how many of its rows a table of that description takes.

@@ -9,6 +9,7 @@
 
 mod calls;
 mod count;
+mod documents;
 mod links;
 mod load;
 mod opening;

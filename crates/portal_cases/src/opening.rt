@@ -1,8 +1,8 @@
 //! The portal that each file of calls begins with: five users, and the organization `city`.
-ghost use Rattle.std.specs.Prelude.{◌≡◌};
+ghost use Rattle.std.specs.Prelude.{◌≡◌, IsTrue};
 ghost use Rattle.std.specs.List.{list_any};
 ghost use Rattle.std.specs.Str.{bytes_eq};
-ghost use Rattle.portal_core.specs.Opened.{is_opening, are_named, have_orgs};
+ghost use Rattle.portal_state.specs.Opened.{is_opening, are_named, have_orgs};
 
 use crate::people::{memberships_of, users_of};
 use cases::invalid;
@@ -75,6 +75,14 @@ fn opening_at(alloc: Global, created: Moment) -> Result<Opening, AllocError> {
     })
 }
 
+/// A portal that is opened so, unless memory runs out.
+fn portal_of(alloc: Global, opening: &Opening) -> Option<Portal<MemoryKeeper>>
+    requires { IsTrue (is_opening opening.now) }
+{
+    let keeper = MemoryKeeper::new(alloc, Seq::new(alloc), Seq::new(alloc));
+    Portal::open(alloc, keeper, opening).ok()
+}
+
 /// A portal with these people and no dataset.
 pub fn opened(alloc: Global) -> io::Result<Portal<MemoryKeeper>> {
     let Some(created) = Moment::from_seconds(0) else {
@@ -84,9 +92,6 @@ pub fn opened(alloc: Global) -> io::Result<Portal<MemoryKeeper>> {
     if !is_sound(&opening) {
         return Err(invalid());
     }
-    let keeper = MemoryKeeper::new(alloc, Seq::new(alloc), Seq::new(alloc));
-    match Portal::open(alloc, keeper, &opening) {
-        Ok(portal) => Ok(portal),
-        Err(_fault) => Err(io::Error::from(ErrorKind::OutOfMemory)),
-    }
+    let portal = portal_of(alloc, &opening);
+    portal.ok_or(io::Error::from(ErrorKind::OutOfMemory))
 }

@@ -1,9 +1,13 @@
 //! Reports: each file `WORLD--CALLER--KIND.report` has the report of that kind on what the caller sees after the script
 //! `WORLD.world` was played on the default portal. So a further case is one file.
+use crate::documents::no_documents;
 use crate::people::caller_of;
 use crate::scripts::{compare_with, content_of, names_with, play_on};
 use cases::{Tally, invalid};
+use portal_base::caller::Caller;
 use portal_base::text::Text;
+use portal_core::portal::Portal;
+use portal_keeper::memory::MemoryKeeper;
 use portal_reports::report::report;
 use portal_serve::defaults::default_portal;
 use portal_words::ReportKind;
@@ -40,17 +44,28 @@ fn kind_named(name: &str) -> Option<ReportKind> {
     }
 }
 
-/// The report after the script.
+/// The report after the script was played on the portal.
+fn report_on(
+    alloc: Global,
+    portal: &mut Portal<MemoryKeeper>,
+    script: Vec<u8>,
+    caller: &Caller,
+    kind: ReportKind,
+) -> io::Result<Text> {
+    let _transcript = play_on(alloc, portal, script, no_documents(alloc))?;
+    Ok(report(alloc, portal, caller, kind)?)
+}
+
+/// The report after the script was played on the default portal.
 fn report_after(
     alloc: Global,
     script: Vec<u8>,
     caller: &str,
     kind: ReportKind,
 ) -> io::Result<Text> {
-    let mut portal = default_portal(alloc)?;
-    let _transcript = play_on(alloc, &mut portal, script)?;
     let caller = caller_of(alloc, caller)?;
-    Ok(report(alloc, &portal, &caller, kind)?)
+    let mut portal = default_portal(alloc)?;
+    report_on(alloc, &mut portal, script, &caller, kind)
 }
 
 /// Compares the report that the file's name asks for with the file.

@@ -1,8 +1,10 @@
 //! Who sees and edits a dataset, its class, and its caller's role.
 use crate::people::{caller_of, people_of};
 use cases::{Buffer, Case, invalid};
+use org_roles::people::People;
 use org_roles::role::Role;
 use packages::package::{Package, State};
+use portal_base::caller::Caller;
 use portal_base::moment::Moment;
 use portal_base::text::Text;
 use std::alloc::Global;
@@ -53,22 +55,26 @@ fn dataset_of(alloc: Global, words: &str) -> io::Result<Package> {
     Ok(dataset)
 }
 
-/// A dataset and a caller: whether the caller sees and edits it.
-pub fn of_caller(alloc: Global, case: &Case, answer: &mut Buffer) -> io::Result<()> {
-    let (words, name) = case.two_texts()?;
-    let caller = caller_of(alloc, name)?;
-    let people = people_of(alloc)?;
-    let dataset = dataset_of(alloc, words)?;
-    let rights = (
-        sees(&people, &caller, &dataset),
-        may_edit(&people, &caller, &dataset),
-    );
-    answer.push(match rights {
+/// What the caller may do with the dataset, in words.
+fn rights_words(people: &People, caller: &Caller, dataset: &Package) -> &'static str {
+    match (
+        sees(people, caller, dataset),
+        may_edit(people, caller, dataset),
+    ) {
         (false, false) => "neither",
         (true, false) => "sees",
         (false, true) => "edits unseen",
         (true, true) => "sees and edits",
-    });
+    }
+}
+
+/// A dataset and a caller: whether the caller sees and edits it.
+pub fn of_caller(alloc: Global, case: &Case, answer: &mut Buffer) -> io::Result<()> {
+    let (words, name) = case.two_texts()?;
+    let people = people_of(alloc)?;
+    let dataset = dataset_of(alloc, words)?;
+    let caller = caller_of(alloc, name)?;
+    answer.push(rights_words(&people, &caller, &dataset));
     Ok(())
 }
 

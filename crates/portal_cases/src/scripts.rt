@@ -1,11 +1,17 @@
-//! Scripts and their transcripts: each file `NAME.script` is played, and `NAME.transcript` has what is expected: the
-//! lines that are written, and after them `status N` where the run ends with another status than 0. So a further case
-//! is two files. `store_failed.reply` and `out_of_memory.reply` have what is written for a call that the store doesn't keep
-//! and for one for which there is no memory, to which no script comes.
+//! Scripts and their transcripts: `NAME.script` is played, and `NAME.transcript` has what is expected: the lines that are
+//! written, and after them `status N` where the run ends with another status than 0. So a further case is two files. Rounds
+//! fetch the documents of the folder `documents`. In `NAME--3--5.transcript` is what is expected of `NAME.script` where the
+//! third and the fifth fetch fail.
+//!
+//! `store_failed.reply` and `out_of_memory.reply` have what is written for a call that the store doesn't keep and for one for
+//! which there is no memory, to which no script comes.
+ghost use Rattle.std.specs.Prelude.{◌≡◌, length};
+
+use crate::documents::{alone, fetcher_for};
 use action_api::reply::reply_text;
-use cases::{Buffer, Location, Tally};
+use cases::{Buffer, Location, Tally, invalid};
 use portal_base::counted::{CountNonces, ScriptClock};
-use portal_base::memory::{MemorySink, MemorySource};
+use portal_base::memory::{MemoryFetcher, MemorySink, MemorySource};
 use portal_base::seq::Seq;
 use portal_core::event::{Refusal, Reply};
 use portal_core::portal::Portal;
@@ -30,30 +36,52 @@ fn status_of(end: PlayEnd) -> u8 {
     }
 }
 
-/// Plays the script on the portal: the transcript, and after it the status where that isn't 0.
-pub fn play_on(
+/// The program's status after the script was played on the portal.
+fn status_after(
     alloc: Global,
     portal: &mut Portal<MemoryKeeper>,
-    script: Vec<u8>,
-) -> Result<Buffer, AllocError> {
-    let mut input = MemorySource::new(Seq::from(script), Seq::new(alloc));
-    let mut output = MemorySink::new(alloc, ROOM, Seq::new(alloc))?;
-    let status = status_of(play(
+    input: &mut MemorySource,
+    output: &mut MemorySink,
+    fetchers: &mut Vec<MemoryFetcher>,
+) -> u8
+    requires { length fetchers.old.items ≡ 1 }
+{
+    let (end, _reports) = play(
         alloc,
         portal,
-        &mut input,
-        &mut output,
+        input,
+        output,
+        fetchers,
         &mut ScriptClock::new(),
         &mut CountNonces::new(),
-    ));
+    );
+    status_of(end)
+}
+
+/// What was written, and after it the status where that isn't 0.
+fn transcript_of(alloc: Global, written: &[u8], status: u8) -> Buffer {
     let mut transcript = Buffer::new(alloc);
-    transcript.push_bytes(output.taken());
+    transcript.push_bytes(written);
     if status != 0 {
         transcript.push("status ");
         transcript.push_value(&status);
         transcript.push("\n");
     }
-    Ok(transcript)
+    transcript
+}
+
+/// Plays the script on the portal, with the fetcher alone: the transcript, and after it the status where that isn't 0.
+pub fn play_on(
+    alloc: Global,
+    portal: &mut Portal<MemoryKeeper>,
+    script: Vec<u8>,
+    fetcher: MemoryFetcher,
+) -> Result<Buffer, AllocError> {
+    let mut fetchers = alone(alloc, fetcher)?;
+    let mut output = MemorySink::new(alloc, ROOM, Seq::new(alloc))?;
+    let mut input = MemorySource::new(Seq::from(script), Seq::new(alloc));
+    let status = status_after(alloc, portal, &mut input, &mut output, &mut fetchers);
+    Ok(transcript_of(alloc, output.taken(), status))
 }
 
 /// The line of the first byte in which the two differ, the first one 1.
@@ -96,11 +124,38 @@ pub fn content_of(rt: &HostRuntime, name: &str, ending: &str) -> io::Result<Vec<
     fs::read(rt, file_name(rt.alloc(), name, ending)?)
 }
 
-/// Plays the script of this name, and compares what it writes with its transcript.
+/// The name of the script to which the transcript of this name belongs.
+fn script_of(name: &str) -> &str {
+    match name.split_once("--") {
+        Some((script, _numbers)) => script,
+        None => name,
+    }
+}
+
+/// The numbers of the fetches that fail, which the name of a transcript has behind that of the script.
+fn failing_fetches(alloc: Global, name: &str) -> io::Result<Vec<u64>> {
+    let mut failing = Vec::new(alloc);
+    for number in name.split("--").skip(1) {
+        match number.parse::<u64>() {
+            Ok(number) => failing.push(number)?,
+            Err(_) => return Err(invalid()),
+        }
+    }
+    Ok(failing)
+}
+
+/// The transcript of the script on the default portal, with the fetcher alone.
+fn played(alloc: Global, script: Vec<u8>, fetcher: MemoryFetcher) -> Result<Buffer, AllocError> {
+    let mut portal = default_portal(alloc)?;
+    play_on(alloc, &mut portal, script, fetcher)
+}
+
+/// Plays the script of the transcript of this name, and compares what it writes with the transcript.
 fn check_script(rt: &HostRuntime, tally: &mut Tally, name: &str) -> io::Result<()> {
-    let script = content_of(rt, name, ".script")?;
-    let mut portal = default_portal(rt.alloc())?;
-    let found = play_on(rt.alloc(), &mut portal, script)?;
+    let script = content_of(rt, script_of(name), ".script")?;
+    let failing = failing_fetches(rt.alloc(), name)?;
+    let fetcher = fetcher_for(rt, script.as_slice(), failing)?;
+    let found = played(rt.alloc(), script, fetcher)?;
     compare_with(rt, tally, name, ".transcript", found.bytes()?)
 }
 
@@ -150,9 +205,9 @@ pub fn names_with(rt: &HostRuntime, ending: &str) -> io::Result<Vec<String>> {
     Ok(names)
 }
 
-/// Plays all scripts of the folder, and writes the refusals to which none comes.
+/// Plays the scripts of all transcripts of the folder, and writes the refusals to which none comes.
 pub fn check_scripts(rt: &HostRuntime, tally: &mut Tally) -> io::Result<()> {
-    for name in names_with(rt, ".script")?.iter() {
+    for name in names_with(rt, ".transcript")?.iter() {
         check_script(rt, tally, name.as_str())?;
     }
     check_refusal(rt, tally, "store_failed", Refusal::KeeperFault)?;

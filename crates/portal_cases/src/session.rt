@@ -81,14 +81,14 @@ impl Session {
 
     /// The reply to a call of that caller and of that size in bytes, at the next moment and with the next number.
     pub fn act(&mut self, caller: Caller, request: Request, size: u64) -> Reply {
-        let call = Call {
+        let event = Event::Call(Call {
             caller,
             request,
             size,
             moment: self.clock.now(),
             nonce: self.nonces.next(),
-        };
-        self.portal.act(&Event::Call(call))
+        });
+        self.portal.act(&event)
     }
 
     /// The number of a call: the given one, else the next.

@@ -95,6 +95,7 @@ fn resources_in(alloc: Global, body: &Json) -> Option<Seq<Distribution>> {
 
 /// The record of a body with a title.
 fn record_in(alloc: Global, body: &Json) -> Option<HarvestRecord> {
+    let modified = modified_in(body)?;
     let title = text_at(alloc, body, "title")?;
     let tags = tags_in(alloc, body)?;
     let resources = resources_in(alloc, body)?;
@@ -102,7 +103,7 @@ fn record_in(alloc: Global, body: &Json) -> Option<HarvestRecord> {
         title,
         notes: text_or_empty(alloc, body, "notes"),
         tags,
-        modified: modified_in(body)?,
+        modified,
         license_id: text_or_empty(alloc, body, "license_id"),
         resources,
     })
