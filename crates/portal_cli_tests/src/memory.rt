@@ -1,19 +1,22 @@
 //! Commands over devices in memory. Each device passes one byte at a time, and fails at a given call.
-ghost use Rattle.std.specs.Prelude.{◌≡◌, false, IfOk};
+ghost use Rattle.std.specs.Prelude.{◌≡◌, false, IfOk, IsTrue, length};
+ghost use Rattle.portal_state.specs.Opened.{is_opening};
 
 use portal_base::counted::{CountNonces, ScriptClock};
 use portal_base::memory::{MemoryFetcher, MemoryLink, MemoryListener, MemorySink, MemorySource};
 use portal_base::outside::{Desk, Failed, Sink, Source};
 use portal_base::seq::Seq;
 use portal_base::text::Text;
+use portal_core::portal::Portal;
 use portal_keeper::keeper::Keeper;
 use portal_keeper::memory::MemoryKeeper;
 use portal_load::schema_file::load_csv;
 use portal_start::commands::{play_from, report_from, serve_from};
+use portal_start::harvest::harvest_from;
 use portal_start::over_store::{Ended, end_with, open_portal};
-use portal_start::start::start_of;
+use portal_start::start::{Start, start_of};
 use portal_status::status::{Status, report};
-use portal_words::{Command, LoadOptions, WordsFault};
+use portal_words::{Command, HarvestOptions, LoadOptions, PlayOptions, WordsFault};
 use std::alloc::{AllocError, Global};
 use std::test::Fail;
 
@@ -119,7 +122,7 @@ struct Devices {
     input: Narrow<MemorySource>,
     output: Narrow<MemorySink>,
     faults: Narrow<MemorySink>,
-    fetcher: MemoryFetcher,
+    fetchers: Vec<MemoryFetcher>,
     desk: MemoryDesk,
 }
 
@@ -149,6 +152,13 @@ fn fetcher(alloc: Global, ends: Ends) -> Result<MemoryFetcher, AllocError> {
     let bytes = Seq::from(ends.file.as_bytes().to_vec(alloc)?);
     let held = Vec::from_array(alloc, [(Text::from_static("p.toml"), bytes)])?;
     Ok(MemoryFetcher::new(Seq::from(held), failing))
+}
+
+/// That fetcher alone.
+fn fetchers(alloc: Global, ends: Ends) -> Result<Vec<MemoryFetcher>, AllocError>
+    ensures { IfOk result (λ fetchers. length fetchers.items ≡ 1) }
+{
+    Ok(Vec::from_array(alloc, [fetcher(alloc, ends)?])?)
 }
 
 /// A link over which the request comes, whose call of that number fails.
@@ -181,13 +191,14 @@ fn desk(alloc: Global, accept: usize) -> Result<MemoryDesk, AllocError>
 }
 
 fn devices_with(alloc: Global, ends: Ends) -> Result<Devices, AllocError>
-    ensures { IfOk result (λ devices. devices.desk.listener.is_out ≡ false) }
+    ensures desk { IfOk result (λ devices. devices.desk.listener.is_out ≡ false) }
+    ensures fetchers { IfOk result (λ devices. length devices.fetchers.items ≡ 1) }
 {
     Ok(Devices {
         input: source(alloc, ends)?,
         output: sink(alloc, ends.room, ends.write)?,
         faults: sink(alloc, 100, ends.line)?,
-        fetcher: fetcher(alloc, ends)?,
+        fetchers: fetchers(alloc, ends)?,
         desk: desk(alloc, ends.accept)?,
     })
 }
@@ -249,77 +260,157 @@ impl Outcome {
     }
 }
 
-/// Loads the CSV on input into a table of the portal that the options name.
-fn load_from(
+/// Loads the CSV on input into a table of the portal.
+fn load_on(
     alloc: Global,
+    portal: Portal<MemoryKeeper>,
     options: LoadOptions,
-    keeper: MemoryKeeper,
     devices: &mut Devices,
-) -> Ended<MemoryKeeper> {
-    let start = match start_of(alloc, &mut devices.fetcher, &options.portal) {
-        Ok(start) => start,
-        Err(status) => return Ended { status, keeper },
-    };
-    let mut portal = match open_portal(alloc, keeper, &start.opening) {
-        Ok(portal) => portal,
-        Err(ended) => return ended,
-    };
+) -> Ended<MemoryKeeper>
+    requires { length devices.old.fetchers.items ≡ 1 }
+{
+    let mut portal = portal;
     let status = load_csv(
         alloc,
         &mut portal,
         options,
         &mut devices.input,
         &mut devices.output,
-        &mut devices.fetcher,
+        &mut devices.fetchers[0],
         &mut ScriptClock::new(),
         &mut CountNonces::new(),
     );
-    end_with(portal, status)
+    end_with(portal, status, Seq::new(alloc))
 }
 
-/// Carries out the command of the words, as the program does.
+/// Loads the CSV on input into a table of a portal with that opening.
+fn load_over(
+    alloc: Global,
+    start: &Start,
+    options: LoadOptions,
+    keeper: MemoryKeeper,
+    devices: &mut Devices,
+) -> Ended<MemoryKeeper>
+    requires opening { IsTrue (is_opening start.now.opening) }
+    requires fetchers { length devices.old.fetchers.items ≡ 1 }
+{
+    match open_portal(alloc, keeper, &start.opening) {
+        Ok(portal) => load_on(alloc, portal, options, devices),
+        Err(ended) => ended,
+    }
+}
+
+/// Loads the CSV on input into a table of the portal that the options name.
+fn load_from(
+    alloc: Global,
+    options: LoadOptions,
+    keeper: MemoryKeeper,
+    devices: &mut Devices,
+) -> Ended<MemoryKeeper>
+    requires { length devices.old.fetchers.items ≡ 1 }
+{
+    match start_of(alloc, &mut devices.fetchers[0], &options.portal) {
+        Ok(start) => load_over(alloc, &start, options, keeper, devices),
+        Err(status) => ended(alloc, status, keeper),
+    }
+}
+
+/// The end of a command without rounds.
+fn ended(alloc: Global, status: Status, keeper: MemoryKeeper) -> Ended<MemoryKeeper> {
+    let rounds = Seq::new(alloc);
+    Ended {
+        status,
+        keeper,
+        rounds,
+    }
+}
+
+/// Plays the script on input.
+fn play_with(
+    alloc: Global,
+    options: &PlayOptions,
+    keeper: MemoryKeeper,
+    devices: &mut Devices,
+) -> Ended<MemoryKeeper>
+    requires { length devices.old.fetchers.items ≡ 1 }
+{
+    play_from(
+        alloc,
+        options,
+        &mut devices.input,
+        &mut devices.output,
+        keeper,
+        &mut devices.fetchers,
+        &mut ScriptClock::new(),
+        &mut CountNonces::new(),
+    )
+}
+
+/// Harvests the source of the options.
+fn harvest_with(
+    alloc: Global,
+    options: &HarvestOptions,
+    keeper: MemoryKeeper,
+    devices: &mut Devices,
+) -> Ended<MemoryKeeper>
+    requires { length devices.old.fetchers.items ≡ 1 }
+{
+    harvest_from(
+        alloc,
+        options,
+        &mut devices.output,
+        keeper,
+        &mut devices.fetchers,
+        &mut ScriptClock::new(),
+        &mut CountNonces::new(),
+    )
+}
+
+/// Carries out the command, as the program does.
 fn carry_out(
+    alloc: Global,
+    command: Command,
+    keeper: MemoryKeeper,
+    devices: &mut Devices,
+) -> Ended<MemoryKeeper>
+    requires desk { devices.old.desk.listener.is_out ≡ false }
+    requires fetchers { length devices.old.fetchers.items ≡ 1 }
+{
+    match command {
+        Command::Play(options) => play_with(alloc, &options, keeper, devices),
+        Command::Load(options) => load_from(alloc, options, keeper, devices),
+        Command::Harvest(options) => harvest_with(alloc, &options, keeper, devices),
+        Command::Serve(options) => serve_from(
+            alloc,
+            &options,
+            keeper,
+            &mut devices.fetchers,
+            &mut devices.desk,
+        ),
+        Command::Report(options) => report_from(
+            alloc,
+            &options,
+            &mut devices.output,
+            keeper,
+            &mut devices.fetchers,
+        ),
+    }
+}
+
+/// Carries out the command of the words, if they name one.
+fn carry_out_words(
     alloc: Global,
     words: &[String],
     keeper: MemoryKeeper,
     devices: &mut Devices,
 ) -> Ended<MemoryKeeper>
-    requires { devices.old.desk.listener.is_out ≡ false }
+    requires desk { devices.old.desk.listener.is_out ≡ false }
+    requires fetchers { length devices.old.fetchers.items ≡ 1 }
 {
     match Command::read(alloc, words) {
-        Ok(Command::Play(options)) => play_from(
-            alloc,
-            &options,
-            &mut devices.input,
-            &mut devices.output,
-            keeper,
-            &mut devices.fetcher,
-            &mut ScriptClock::new(),
-            &mut CountNonces::new(),
-        ),
-        Ok(Command::Load(options)) => load_from(alloc, options, keeper, devices),
-        Ok(Command::Serve(options)) => serve_from(
-            alloc,
-            &options,
-            keeper,
-            &mut devices.fetcher,
-            &mut devices.desk,
-        ),
-        Ok(Command::Report(options)) => report_from(
-            alloc,
-            &options,
-            &mut devices.output,
-            keeper,
-            &mut devices.fetcher,
-        ),
-        Err(WordsFault::BadWords) => Ended {
-            status: Status::Words,
-            keeper,
-        },
-        Err(WordsFault::OutOfMemory) => Ended {
-            status: Status::OutOfMemory,
-            keeper,
-        },
+        Ok(command) => carry_out(alloc, command, keeper, devices),
+        Err(WordsFault::BadWords) => ended(alloc, Status::Words, keeper),
+        Err(WordsFault::OutOfMemory) => ended(alloc, Status::OutOfMemory, keeper),
     }
 }
 
@@ -341,7 +432,12 @@ pub fn ran_over(
 ) -> Result<Outcome, AllocError> {
     let words = words_of(alloc, line)?;
     let mut devices = devices_with(alloc, ends)?;
-    let Ended { status, keeper } = carry_out(alloc, words.as_slice(), keeper, &mut devices);
+    let Ended { status, keeper, .. } = carry_out_words(
+        alloc,
+        words.as_slice(),
+        keeper,
+        &mut devices,
+    );
     let code = report(&mut devices.faults, status).code();
     Ok(Outcome {
         code,

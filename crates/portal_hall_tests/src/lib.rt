@@ -1,8 +1,12 @@
-//! Tests of portal_hall that need threads or a machine of their own. They are a crate of their own, so that portal_hall is
-//! proved once.
+//! Tests of portal_hall, of posts and of links that a pass serves, which need threads or a machine of their own. They are a crate
+//! of their own, so that what they test is proved once.
 #![tactic(auto)]
 
 mod crowd;
+mod echo;
+#[cfg(test)]
+mod links;
+mod posts;
 mod shelf;
 #[cfg(test)]
 mod turns;

@@ -1,6 +1,8 @@
 //! Passes that act in turn on a shelf.
 use crate::crowd::{Made, create, create_by_two, spread};
+use crate::posts::{Names, create_at_posts};
 use crate::shelf::{Event, Reply, Shelf};
+use hall_posts::posts::{join_posts, split_posts};
 use portal_hall::acted::Acted;
 use portal_hall::hall::Hall;
 use std::test::Fail;
@@ -111,6 +113,31 @@ fn each_place_is_that_of_one_pass(rt: HostRuntime) -> Result<(), Fail> {
     hall.join(&mut pass, b.pass);
     hall.join(&mut pass, c.pass);
     hall.join(&mut pass, d.pass);
+    let (shelf, history) = hall.close(pass);
+    assert!(rt; shelf.names.len() == 100 && history.len() == 100);
+    Ok(())
+}
+
+#[test]
+fn posts_are_joined_with_their_works(rt: HostRuntime) -> Result<(), Fail> {
+    let alloc = rt.alloc();
+    let opened = Hall::open(alloc, Shelf::new(alloc), 5);
+    let (hall, mut pass) = opened.ok().ok_or("no hall")?;
+    let mut works = Vec::with_capacity(alloc, 4)?;
+    for thread in 0..4u64 {
+        works.push(Names {
+            first: thread * 25,
+            created: 0,
+        })?;
+    }
+    assert!(rt; works.len() < pass.room() as usize);
+    let split = split_posts(alloc, &hall, &mut pass, works);
+    let mut posts = split.ok().ok_or("no posts")?;
+    create_at_posts(&rt, &hall, posts.as_mut_slice());
+    let mut works = Vec::with_capacity(alloc, posts.len())?;
+    join_posts(&hall, &mut pass, posts, &mut works);
+    assert!(rt; works.iter().all(|names| names.created == 25));
+    assert!(rt; works.len() == 4 && pass.room() == 5);
     let (shelf, history) = hall.close(pass);
     assert!(rt; shelf.names.len() == 100 && history.len() == 100);
     Ok(())

@@ -2,7 +2,7 @@
 //! cover the drop of an array of passes of a portal.
 ghost use Rattle.std.specs.Prelude.{◌≡◌, ◌+◌, ◌∷◌, [], Some, All, IfOk, IfSome, IsSomeAnd, length};
 ghost use Rattle.std.specs.Option.{option_map_or};
-ghost use Rattle.portal_hall.specs.Passes.{IsPassOf, room_of};
+ghost use Rattle.portal_hall.specs.Passes.{IsPassOf, room_of, seats_of};
 
 use portal_hall::hall::Hall;
 use portal_hall::machine::Machine;
@@ -47,12 +47,9 @@ fn take_and_join<M: Machine>(hall: &Hall<M>, joined: Option<Pass<M>>, slot: &mut
     }
 }
 
-/// Lets a hall go.
-pub fn leave<M: Machine + Drop>(_hall: Hall<M>) {}
-
 impl<M: Machine> Crew<M> {
     /// The crew of these passes.
-    pub fn of(
+    fn of(
         alloc: Global,
         one: Pass<M>,
         two: Pass<M>,
@@ -65,8 +62,22 @@ impl<M: Machine> Crew<M> {
         Ok(Crew { slots })
     }
 
+    /// The crew of four passes of a seat each, into which the pass of all four is split.
+    fn split(alloc: Global, hall: &Hall<M>, pass: Pass<M>) -> Option<Crew<M>>
+        requires { IsPassOf hall.now pass × (room_of pass ≡ 4) }
+        ensures held { IfSome result (λ crew.
+            All (λ slot. IsSomeAnd slot (λ pass. IsPassOf hall.now pass × (room_of pass ≡ 1))) crew.slots.items) }
+        ensures count { IfSome result (λ crew. length crew.slots.items ≡ 4) }
+    {
+        let mut one = pass;
+        let two = hall.split(&mut one, 1);
+        let three = hall.split(&mut one, 1);
+        let four = hall.split(&mut one, 1);
+        Crew::of(alloc, one, two, three, four).ok()
+    }
+
     /// Joins the passes.
-    pub fn join(self, hall: &Hall<M>) -> Option<Pass<M>>
+    fn join(self, hall: &Hall<M>) -> Option<Pass<M>>
         requires { All (λ slot. IsSomeAnd slot (λ pass. IsPassOf hall.now pass × (room_of pass ≡ 1))) self.slots.items }
         ensures { length self.slots.items ≡ 4 → IsSomeAnd result (λ pass. IsPassOf hall.now pass × (room_of pass ≡ 4)) }
     {
@@ -78,5 +89,32 @@ impl<M: Machine> Crew<M> {
         let joined = take_and_join(hall, Some(joined), &mut slots[1]);
         let joined = take_and_join(hall, Some(joined), &mut slots[2]);
         Some(take_and_join(hall, Some(joined), &mut slots[3]))
+    }
+
+    /// A hall over the machine, and a crew that has all its seats.
+    pub fn over(alloc: Global, machine: M) -> Option<(Hall<M>, Crew<M>)>
+    where
+        M: Drop,
+        ensures held { IfSome result (λ r.
+            All (λ slot. IsSomeAnd slot (λ pass. IsPassOf r.0 pass × (room_of pass ≡ 1))) r.1.slots.items) }
+        ensures count { IfSome result (λ r. length r.1.slots.items ≡ 4) }
+        ensures seats { IfSome result (λ r. seats_of r.0 ≡ 4) }
+    {
+        let (hall, pass) = Hall::open(alloc, machine, 4).ok()?;
+        let crew = Crew::split(alloc, &hall, pass)?;
+        Some((hall, crew))
+    }
+
+    /// The hall's machine, and the length of its history. The crew has all seats of the hall.
+    pub fn leave(self, hall: Hall<M>) -> Option<(M, usize)>
+    where
+        M: Drop,
+        requires held { All (λ slot. IsSomeAnd slot (λ pass. IsPassOf hall pass × (room_of pass ≡ 1))) self.slots.items }
+        requires count { length self.slots.items ≡ 4 }
+        requires seats { seats_of hall ≡ 4 }
+    {
+        let pass = self.join(&hall)?;
+        let (machine, history) = hall.close(pass);
+        Some((machine, history.len()))
     }
 }

@@ -94,8 +94,21 @@ fn create<R: Wait, M: Machine<Event = Event, Reply = Reply>>(
     }
 }
 
+/// The portal after four threads with a pass each over one hall of it, and the count of events that it accepted.
+pub fn after_crowd<R: Threads + Wait + Sync>(
+    rt: &R,
+    alloc: Global,
+    portal: Portal<MemoryKeeper>,
+    moment: Moment,
+    entries: &Entries,
+) -> Option<(Portal<MemoryKeeper>, usize)> {
+    let (hall, mut crew) = Crew::over(alloc, portal)?;
+    create_in_threads(rt, alloc, &hall, &mut crew, moment, entries);
+    crew.leave(hall)
+}
+
 /// Each pass of the crew creates 25 datasets, in a thread of its own.
-pub fn create_in_threads<R: Threads + Wait + Sync>(
+fn create_in_threads<R: Threads + Wait + Sync>(
     rt: &R,
     alloc: Global,
     hall: &Hall<Portal<MemoryKeeper>>,

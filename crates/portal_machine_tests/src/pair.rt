@@ -12,9 +12,25 @@ use portal_hall::pass::Pass;
 use std::alloc::Global;
 use std::sync::Wait;
 
+/// The machine after two passes over one hall of it, the count of events that it accepted, and whether the passes saw one
+/// history. It is generic over the machine, so that what becomes of a hall is shown once and of no portal's parts.
+pub fn after_pair<R: Wait, M: Machine<Event = Event, Reply = Reply> + Drop>(
+    rt: &R,
+    alloc: Global,
+    machine: M,
+    moment: Moment,
+) -> Option<(M, usize, bool)> {
+    let (hall, mut one) = Hall::open(alloc, machine, 2).ok()?;
+    let mut two = hall.split(&mut one, 1);
+    let is_one_history = see_one_history(rt, alloc, &hall, &mut one, &mut two, moment);
+    hall.join(&mut one, two);
+    let (machine, history) = hall.close(one);
+    Some((machine, history.len(), is_one_history == Some(true)))
+}
+
 /// Whether the dataset that the first pass creates is the history's first event, and the second pass sees it: it is shown
 /// there, and its name is in use. `None` if memory runs out.
-pub fn see_one_history<R: Wait, M: Machine<Event = Event, Reply = Reply>>(
+fn see_one_history<R: Wait, M: Machine<Event = Event, Reply = Reply>>(
     rt: &R,
     alloc: Global,
     hall: &Hall<M>,
@@ -39,41 +55,40 @@ pub fn see_one_history<R: Wait, M: Machine<Event = Event, Reply = Reply>>(
 /// Whether the event was accepted, as the history's first.
 fn is_first_entry(outcome: &Option<Outcome>) -> bool {
     match outcome {
-        Some(
-            Outcome {
-                reply: Reply::Accepted(_),
-                front: 1,
-                entry: Some(0),
-            },
-        ) => true,
-        _ => false,
+        Some(outcome) => {
+            let is_accepted = matches!(outcome.reply, Reply::Accepted(_));
+            is_accepted && outcome.front == 1 && outcome.entry == Some(0)
+        }
+        None => false,
     }
 }
 
 /// Whether the portal showed something, where the history had one event.
 fn is_shown_after_one(outcome: &Option<Outcome>) -> bool {
     match outcome {
-        Some(
-            Outcome {
-                reply: Reply::Shown(_),
-                front: 1,
-                entry: None,
-            },
-        ) => true,
-        _ => false,
+        Some(outcome) => {
+            let is_shown = matches!(outcome.reply, Reply::Shown(_));
+            is_shown && outcome.front == 1 && outcome.entry.is_none()
+        }
+        None => false,
     }
 }
 
 /// Whether the portal refused a name that is in use, where the history had one event.
 fn is_name_in_use_after_one(outcome: &Option<Outcome>) -> bool {
     match outcome {
-        Some(
-            Outcome {
-                reply: Reply::Refused(Refusal::NameInUse(key)),
-                front: 1,
-                entry: None,
-            },
-        ) => key.as_str() == "name",
+        Some(outcome) => {
+            let is_taken = is_name_in_use(&outcome.reply);
+            is_taken && outcome.front == 1 && outcome.entry.is_none()
+        }
+        None => false,
+    }
+}
+
+/// Whether the reply says that a name is in use.
+fn is_name_in_use(reply: &Reply) -> bool {
+    match reply {
+        Reply::Refused(Refusal::NameInUse(key)) => key.as_str() == "name",
         _ => false,
     }
 }
