@@ -32,5 +32,7 @@ fn a_pass_answers_with_ample_memory(rt: HostRuntime) -> Result<(), Fail> {
     let (served, entry) = serve_by_pass(alloc, &rt, &hall, &mut pass, &tokens, &mut link, moment);
     assert!(rt; served == Served::Replied(200) && entry == None);
     assert!(rt; link.taken().ends_with(END.as_bytes()));
+    let (_echo, history) = hall.close(pass);
+    assert!(rt; history.is_empty());
     Ok(())
 }
