@@ -1,6 +1,7 @@
 //! Commands over devices in memory. Each device passes one byte at a time, and fails at a given call.
-ghost use Rattle.std.specs.Prelude.{◌≡◌, false, IfOk, IsTrue, length};
+ghost use Rattle.std.specs.Prelude.{◌≡◌, ◌≤◌, false, IfOk, IsTrue, length};
 ghost use Rattle.portal_state.specs.Opened.{is_opening};
+ghost use Rattle.portal_words.specs.Commands.{HasWorkers};
 
 use portal_base::counted::{CountNonces, ScriptClock};
 use portal_base::memory::{MemoryFetcher, MemoryLink, MemoryListener, MemorySink, MemorySource};
@@ -353,7 +354,8 @@ fn harvest_with(
     keeper: MemoryKeeper,
     devices: &mut Devices,
 ) -> Ended<MemoryKeeper>
-    requires { length devices.old.fetchers.items ≡ 1 }
+    requires workers { (1 ≤ options.now.workers) × (options.now.workers ≤ 16) }
+    requires fetchers { length devices.old.fetchers.items ≡ 1 }
 {
     harvest_from(
         alloc,
@@ -373,6 +375,7 @@ fn carry_out(
     keeper: MemoryKeeper,
     devices: &mut Devices,
 ) -> Ended<MemoryKeeper>
+    requires workers { HasWorkers command }
     requires desk { devices.old.desk.listener.is_out ≡ false }
     requires fetchers { length devices.old.fetchers.items ≡ 1 }
 {
